@@ -4,7 +4,7 @@ use mathlib.Core.Path.{_≡_, refl, ap, sym, _∙_}
 use mathlib.Core.List.{List, [], _∷_, _++_}
 use mathlib.Core.Bool.{Bool, true, false, cond, true≢false}
 use lib.ListN.{length, take, drop, getD, drop-of-length-le, length-drop, length-take}
-use lib.Seq.{drop-cons, drop-drop, getD-drop, take-suc, take-length, length-take-le, take-nil}
+use lib.Seq.{drop-cons, drop-drop, getD-drop, take-suc, take-take, take-length, length-take-le, take-nil}
 use lib.Dec.{eqb, ltb, leb·suc-suc}
 use borrow.Author.Tests.{eq-eqb, ne-eqb, eqb-true, eqb-false, ltb-true, ltb-false, lt-ltb, le-ltb}
 use native.Mathlib.Omega.{arith}
@@ -328,3 +328,26 @@ readLine-none s c r = go (ltb (c .at) (length s)) refl
         let z : _≡_ {A = ℕ} 0 1 = cc in
         absurd (omega arith)
     go false e = ltb-false _ _ e
+
+-- ---- the content of a line is its front
+
+pub bases-front : (l : List ℕ) → take (length (basesOf l)) l ≡ basesOf l
+bases-front l =
+    let k : length (basesOf l) ≤ length (chop 10 l) = chop-le 13 (chop 10 l) in
+    sym (take-take (length (basesOf l)) (length (chop 10 l)) l k) ∙ ap (take (length (basesOf l))) (chop-front 10 l) ∙ chop-front 13 (chop 10 l)
+
+pub content-le : (l : List ℕ) → length (contentOf l) ≤ length l
+unfolding contentOf
+content-le l = go (ends 10 l)
+  where
+    go : (t : Bool) → length (cond t (basesOf l) l) ≤ length l
+    go true = omega (arith, chop-le 13 (chop 10 l), chop-le 10 l)
+    go false = omega arith
+
+pub content-front : (l : List ℕ) → take (length (contentOf l)) l ≡ contentOf l
+unfolding contentOf
+content-front l = go (ends 10 l)
+  where
+    go : (t : Bool) → take (length (cond t (basesOf l) l)) l ≡ cond t (basesOf l) l
+    go true = bases-front l
+    go false = take-length l

@@ -1,0 +1,82 @@
+-- What a definition line says, in document 01's words.
+use Prim.Native.Nat.{ℕ, zero, suc, _+_}
+use mathlib.Core.List.{List, [], _∷_}
+use mathlib.Core.Bool.{Bool, true, false, cond, not, _||_}
+use lib.ListN.{length, drop}
+use lib.Dec.{eqb}
+use Rattle.refusal.specs.Numbers.{overLimit}
+use Rattle.refusal.specs.declared.Refusal.{Refusal}
+use Rattle.refusal.specs.declared.Refusal.the-variants as refused
+use Rattle.lines.specs.Lines.{contentOf}
+use Rattle.lines.specs.declared.Span.{Span}
+use Rattle.definition.specs.declared.Definition.{Definition}
+use Rattle.definition.specs.declared.Fault.{Fault}
+use Rattle.definition.specs.declared.Fault.the-variants.{Empty, NoPrefix, NoName}
+use Rattle.definition.specs.declared.Parsed.{Parsed}
+use Rattle.definition.specs.declared.Parsed.the-variants.{Named, Bad}
+use Rattle.definition.specs.declared.DefinitionRead.{DefinitionRead}
+use Rattle.definition.specs.declared.DefinitionRead.the-variants as read
+
+-- space, tab, LF, form feed, CR
+unfoldable pub isSpace : ℕ → Bool
+isSpace b = eqb b 32 || eqb b 9 || eqb b 10 || eqb b 12 || eqb b 13
+
+-- is a byte whitespace, or none
+abbrev pub spaced : Bool → ℕ → Bool
+spaced true b = isSpace b
+spaced false b = not (isSpace b)
+
+-- how many bytes at the front pass a test
+unfoldable pub run : (ℕ → Bool) → List ℕ → ℕ
+run p [] = 0
+run p (b ∷ s) = cond (p b) (suc (run p s)) 0
+
+-- how many bytes are left where those at the end that pass a test are taken off
+abbrev pub kept : Bool → ℕ → ℕ
+kept t zero = cond t 0 1
+kept t (suc n) = suc (suc n)
+
+unfoldable pub keep : (ℕ → Bool) → List ℕ → ℕ
+keep p [] = 0
+keep p (b ∷ s) = kept (p b) (keep p s)
+
+-- a description's place; 0 and 0 where it has no bytes
+abbrev pub described : ℕ → ℕ → Span
+described at zero = record { start = 0; length = 0 }
+described at (suc n) = record { start = at; length = suc n }
+
+-- a text behind its '>', which has a name of some bytes: the description is the rest with whitespace trimmed at both ends
+abbrev pub namedOf : List ℕ → ℕ → Parsed
+namedOf s zero = Bad NoName
+namedOf s (suc n) =
+    Named
+    (record {
+      name = record { start = 1; length = suc n };
+      description = described (suc (suc n) + run (spaced true) (drop (suc n) s)) (keep isSpace (drop (run (spaced true) (drop (suc n) s)) (drop (suc n) s)));
+    })
+
+-- what the content of a line says: the name is what follows '>', up to the first whitespace
+unfoldable pub contentSays : List ℕ → Parsed
+contentSays [] = Bad Empty
+contentSays (b ∷ s) = cond (eqb b 62) (namedOf s (run (spaced false) s)) (Bad NoPrefix)
+
+-- what a line says
+unfoldable pub lineSays : List ℕ → Parsed
+lineSays l = contentSays (contentOf l)
+
+-- the refusal of each fault, with the checker's record, or 0
+unfoldable pub refusalOf : Fault → ℕ → Refusal
+refusalOf Empty n = refused.EmptyDefinition n
+refusalOf NoPrefix n = refused.NoPrefix n
+refusalOf NoName n = refused.NoName n
+
+-- the two calls: the size limit first
+unfoldable pub readAs : Parsed → DefinitionRead
+readAs (Named d) = read.Named d
+readAs (Bad f) = read.Refused (refusalOf f 0)
+
+unfoldable pub contentRead : List ℕ → DefinitionRead
+contentRead l = cond (overLimit (length l)) (read.Refused refused.TooLong) (readAs (contentSays l))
+
+unfoldable pub lineRead : List ℕ → DefinitionRead
+lineRead l = cond (overLimit (length l)) (read.Refused refused.TooLong) (readAs (lineSays l))

@@ -1,0 +1,152 @@
+-- Laws of a definition line's parts.
+use Prim.Native.Nat.{ℕ, zero, suc, _+_, _≤_, _<_, _-_}
+use mathlib.Core.Path.{_≡_, refl, ap, sym, _∙_}
+use mathlib.Core.List.{List, [], _∷_, _++_}
+use mathlib.Core.Bool.{Bool, true, false, cond, true≢false, Bool·beq}
+use lib.ListN.{length, take, drop, getD, length-drop, drop-of-length-le}
+use lib.Seq.{drop-drop, drop-cons, take-all}
+use lib.Dec.{eqb}
+use borrow.Author.Tests.{eq-eqb, ne-eqb}
+use native.Mathlib.Omega.{arith}
+use Rattle.lines.specs.Lines.{part}
+use Rattle.lines.specs.Laws.{part-none, part-snoc, part-length}
+use Rattle.definition.specs.Definition.{isSpace, spaced, run, kept, keep, described, namedOf, contentSays}
+use Rattle.definition.specs.declared.Definition.{Definition}
+use Rattle.definition.specs.declared.Fault.the-variants.{Empty, NoPrefix, NoName}
+use Rattle.definition.specs.declared.Parsed.{Parsed}
+use Rattle.definition.specs.declared.Parsed.the-variants.{Named, Bad}
+
+-- ---- a run from the front
+
+module _ (p : ℕ → Bool) (s : List ℕ) (i : ℕ) where
+  pub run-more : i < length s → p (getD s i 0) ≡ true → run p (drop i s) ≡ suc (run p (drop (suc i) s))
+  unfolding run
+  run-more h t = rw (drop-cons s i 0 h, t)
+
+  pub run-stop : i < length s → p (getD s i 0) ≡ false → run p (drop i s) ≡ 0
+  unfolding run
+  run-stop h t = rw (drop-cons s i 0 h, t)
+
+  pub run-end : length s ≤ i → run p (drop i s) ≡ 0
+  unfolding run
+  run-end h = rw (drop-of-length-le s h)
+
+pub run-le : (p : ℕ → Bool) (s : List ℕ) → run p s ≤ length s
+unfolding run
+run-le p [] = omega arith
+run-le p (b ∷ s) = go (p b) (run-le p s)
+  where
+    go : (t : Bool) → run p s ≤ length s → cond t (suc (run p s)) 0 ≤ suc (length s)
+    go true h = omega arith
+    go false h = omega arith
+
+pub run-within : (p : ℕ → Bool) (s : List ℕ) (i : ℕ) → i ≤ length s → i + run p (drop i s) ≤ length s
+run-within p s i h = omega (arith, run-le p (drop i s), length-drop i s)
+
+-- ---- what is kept at the front
+
+keep-hit : (p : ℕ → Bool) (l : List ℕ) (x : ℕ) → p x ≡ true → keep p (l ++ (x ∷ [])) ≡ keep p l
+unfolding keep
+keep-hit p [] x e = rw e
+keep-hit p (y ∷ l) x e = ap (kept (p y)) (keep-hit p l x e)
+
+keep-miss : (p : ℕ → Bool) (l : List ℕ) (x : ℕ) → p x ≡ false → keep p (l ++ (x ∷ [])) ≡ suc (length l)
+unfolding keep
+keep-miss p [] x e = rw e
+keep-miss p (y ∷ l) x e = ap (kept (p y)) (keep-miss p l x e)
+
+pub keep-le : (p : ℕ → Bool) (s : List ℕ) → keep p s ≤ length s
+unfolding keep
+keep-le p [] = omega arith
+keep-le p (b ∷ s) = go (p b) (keep p s) (keep-le p s)
+  where
+    go : (t : Bool) (n : ℕ) → n ≤ length s → kept t n ≤ suc (length s)
+    go true zero h = omega arith
+    go false zero h = omega arith
+    go t (suc n) h = omega arith
+
+module _ (p : ℕ → Bool) (s : List ℕ) (at e n : ℕ) where
+  pub keep-more : at ≤ n → n < length s → n + 1 ≡ e → p (getD s n 0) ≡ true → keep p (part s at e) ≡ keep p (part s at n)
+  keep-more h k m t = rw (part-snoc s at e n h k m) (keep-hit p (part s at n) (getD s n 0) t)
+
+  pub keep-stop : at ≤ n → n < length s → n + 1 ≡ e → p (getD s n 0) ≡ false → at + keep p (part s at e) ≡ e
+  keep-stop h k m t =
+      rw (part-snoc s at e n h k m, keep-miss p (part s at n) (getD s n 0) t, part-length s at n (omega arith)) (omega arith)
+
+pub keep-end : (p : ℕ → Bool) (s : List ℕ) (at e : ℕ) → e ≤ at → keep p (part s at e) ≡ 0
+unfolding keep
+keep-end p s at e h = rw (part-none s at e h)
+
+pub keep-all : (p : ℕ → Bool) (s : List ℕ) (at : ℕ) → keep p (part s at (length s)) ≡ keep p (drop at s)
+keep-all p s at = ap (keep p) (take-all (length s - at) (drop at s) (omega (arith, length-drop at s)))
+
+-- ---- what a content says
+
+pub described-none : (d n : ℕ) → n ≡ 0 → described d n ≡ record { start = 0; length = 0 }
+described-none d n h = rw h
+
+pub described-some : (d n : ℕ) → 0 < n → described d n ≡ record { start = d; length = n }
+described-some d zero h = absurd (omega arith)
+described-some d (suc n) h = refl
+
+pub says-empty : (l : List ℕ) → length l ≡ 0 → Bad Empty ≡ contentSays l
+unfolding contentSays
+says-empty [] h = refl
+says-empty (b ∷ s) h = absurd (omega arith)
+
+pub says-prefix : (l : List ℕ) → (length l ≡ 0 → ⊥) → (getD l 0 0 ≡ 62 → ⊥) → Bad NoPrefix ≡ contentSays l
+unfolding contentSays
+says-prefix [] z x = absurd (z refl)
+says-prefix (b ∷ s) z x = rw (ne-eqb b 62 x)
+
+module _ (l : List ℕ) (z : length l ≡ 0 → ⊥) (x : getD l 0 0 ≡ 62) (n : ℕ) (m : n ≡ 1 + run (spaced false) (drop 1 l)) where
+  pub says-no-name : n ≡ 1 → Bad NoName ≡ contentSays l
+  unfolding contentSays
+  says-no-name y = go l z x m
+    where
+      go : (T : List ℕ) → (length T ≡ 0 → ⊥) → getD T 0 0 ≡ 62 → n ≡ 1 + run (spaced false) (drop 1 T) → Bad NoName ≡ contentSays T
+      go [] w p q = absurd (w refl)
+      go (b ∷ s) w p q = let r : run (spaced false) s ≡ 0 = omega arith in rw (eq-eqb b 62 p, r)
+
+  -- by the places that the code finds: the name's end, the description's start and end
+  pub says-named : (d k : ℕ) → (n ≡ 1 → ⊥) → d ≡ n + run (spaced true) (drop n l) → k ≡ d + keep isSpace (drop d l)
+      → Named (record { name = record { start = 1; length = n - 1 }; description = described d (k - d) }) ≡ contentSays l
+  unfolding contentSays
+  says-named d k y p q = go l z x m p q
+    where
+      go : (T : List ℕ) → (length T ≡ 0 → ⊥) → getD T 0 0 ≡ 62 → n ≡ 1 + run (spaced false) (drop 1 T) → d ≡ n + run (spaced true) (drop n T)
+          → k ≡ d + keep isSpace (drop d T) → Named (record { name = record { start = 1; length = n - 1 }; description = described d (k - d) }) ≡ contentSays T
+      go [] w u v p q = absurd (w refl)
+      go (b ∷ s) w u v p q = rw (eq-eqb b 62 u) (some (run (spaced false) s) refl)
+        where
+          some : (j : ℕ) → run (spaced false) s ≡ j → Named (record { name = record { start = 1; length = n - 1 }; description = described d (k - d) }) ≡ namedOf s j
+          some zero e = absurd (y (omega arith))
+          some (suc j) e =
+              let N : n ≡ suc (suc j) = omega arith in
+              let a : n - 1 ≡ suc j = omega arith in
+              let D : d ≡ suc (suc j) + run (spaced true) (drop (suc j) s) = rw N at p in
+              let W : keep isSpace (drop d (b ∷ s)) ≡ keep isSpace (drop (run (spaced true) (drop (suc j) s)) (drop (suc j) s)) =
+              ap (keep isSpace) (rw D (sym (drop-drop (run (spaced true) (drop (suc j) s)) (suc (suc j)) (b ∷ s)))) in
+              let K : k - d ≡ keep isSpace (drop (run (spaced true) (drop (suc j) s)) (drop (suc j) s)) = omega (arith, W) in
+              rw (a, K, D)
+
+-- ---- whitespace
+
+pub space-yes : (b n : ℕ) → true ≡ isSpace n → b ≡ n → true ≡ isSpace b
+space-yes b n h e = rw e h
+
+pub space-last : (b : ℕ) → (b ≡ 32 → ⊥) → (b ≡ 9 → ⊥) → (b ≡ 10 → ⊥) → (b ≡ 12 → ⊥) → eqb b 13 ≡ isSpace b
+unfolding isSpace
+space-last b h i j k = rw (ne-eqb b 32 h, ne-eqb b 9 i, ne-eqb b 10 j, ne-eqb b 12 k)
+
+pub spaced-yes : (t r : Bool) (b : ℕ) → r ≡ isSpace b → Bool·beq r t ≡ true → spaced t b ≡ true
+spaced-yes true true b e h = sym e
+spaced-yes true false b e h = absurd (true≢false (sym h))
+spaced-yes false true b e h = absurd (true≢false (sym h))
+spaced-yes false false b e h = rw (← e)
+
+pub spaced-not : (t r : Bool) (b : ℕ) → r ≡ isSpace b → Bool·beq r t ≡ false → spaced t b ≡ false
+spaced-not true false b e h = sym e
+spaced-not true true b e h = absurd (true≢false h)
+spaced-not false false b e h = absurd (true≢false h)
+spaced-not false true b e h = rw (← e)

@@ -1,0 +1,170 @@
+// A definition line: '>', a name, and behind whitespace a description. Refuses an empty line (2), one without '>' (3), one without a
+// name (4); and, in the two calls at the bottom, bytes over the size limit (1).
+ghost use mathlib.Core.Path.{_≡_};
+ghost use Prim.Native.Nat.{_+_, _≤_};
+ghost use lib.ListN.{length, drop};
+ghost use Rattle.definition.specs.Definition.{isSpace, spaced, run, keep, contentSays, lineSays, refusalOf, readAs, contentRead, lineRead};
+use lines::Span;
+use refusal::Refusal;
+
+// The places of a name and of a description, counted from the line's start; 0 and 0 where there is no description.
+pub struct Definition {
+    pub name: Span,
+    pub description: Span,
+}
+
+// What is wrong with a definition line.
+pub enum Fault {
+    Empty,
+    NoPrefix,
+    NoName,
+}
+
+pub enum Parsed {
+    Named(Definition),
+    Bad(Fault),
+}
+
+pub enum DefinitionRead {
+    Named(Definition),
+    Refused(Refusal),
+}
+
+// Space, tab, LF, form feed or CR; a vertical tab is none.
+pub fn is_space(b: u8) -> bool
+    ensures { λ r. ⌜ r ≡ isSpace b ⌝ }
+{
+    if b == 32 {
+        return true;
+    }
+    if b == 9 {
+        return true;
+    }
+    if b == 10 {
+        return true;
+    }
+    if b == 12 {
+        return true;
+    }
+    b == 13
+}
+
+// The end of the run of whitespace, or of bytes that are none, from `at` on.
+fn run_end(l: &[u8], at: usize, space: bool) -> usize
+    ensures { λ r. ⌜ r ≡ at + run (spaced space) (drop at (now (l .entry))) ⌝ }
+{
+    let mut i = at;
+    while i < l.len() {
+        if is_space(l[i]) == space {
+            i += 1;
+        } else {
+            return i;
+        }
+    }
+    i
+}
+
+// The end of the bytes from `at` on without the whitespace at their end.
+fn kept_end(l: &[u8], at: usize) -> usize
+    requires { ⌜ at ≤ length (now l) ⌝ }
+    ensures { λ r. ⌜ r ≡ at + keep isSpace (drop at (now (l .entry))) ⌝ }
+{
+    let mut i = l.len();
+    while at < i {
+        let last = i - 1;
+        if is_space(l[last]) {
+            i = last;
+        } else {
+            return i;
+        }
+    }
+    i
+}
+
+// What the content of a definition line says: the line without its end.
+pub fn parse_definition(content: &[u8]) -> Parsed
+    ensures { λ r. ⌜ r ≡ contentSays (now (content .entry)) ⌝ }
+{
+    if content.len() == 0 {
+        return Parsed::Bad(Fault::Empty);
+    }
+    if content[0] != 62 {
+        return Parsed::Bad(Fault::NoPrefix);
+    }
+    let n = run_end(content, 1, false);
+    if n == 1 {
+        return Parsed::Bad(Fault::NoName);
+    }
+    let name = Span {
+        start: 1,
+        length: n - 1,
+    };
+    let d = run_end(content, n, true);
+    let k = kept_end(content, d);
+    if k == d {
+        return Parsed::Named(Definition {
+            name,
+            description: Span {
+                start: 0,
+                length: 0,
+            },
+        });
+    }
+    Parsed::Named(Definition {
+        name,
+        description: Span {
+            start: d,
+            length: k - d,
+        },
+    })
+}
+
+// What a definition line says, given with its end.
+pub fn parse_line(l: &[u8]) -> Parsed
+    ensures { λ r. ⌜ r ≡ lineSays (now (l .entry)) ⌝ }
+{
+    let e = lines::content_length(l);
+    parse_definition(&l[..e])
+}
+
+impl Fault {
+    // The refusal of a line that says no name: in a file by itself (record 0), or of the checker's record.
+    pub fn refusal(self, record: u64) -> Refusal
+        ensures { λ r. ⌜ r ≡ refusalOf self «record» ⌝ }
+    {
+        match self {
+            Fault::Empty => Refusal::EmptyDefinition { record },
+            Fault::NoPrefix => Refusal::NoPrefix { record },
+            Fault::NoName => Refusal::NoName { record },
+        }
+    }
+}
+
+fn read(p: Parsed) -> DefinitionRead
+    ensures { λ r. ⌜ r ≡ readAs p ⌝ }
+{
+    match p {
+        Parsed::Named(d) => DefinitionRead::Named(d),
+        Parsed::Bad(f) => DefinitionRead::Refused(f.refusal(0)),
+    }
+}
+
+// Reads the content of a definition line.
+pub fn read_content(content: &[u8]) -> DefinitionRead
+    ensures { λ r. ⌜ r ≡ contentRead (now (content .entry)) ⌝ }
+{
+    if refusal::over_limit(content.len()) {
+        return DefinitionRead::Refused(Refusal::TooLong);
+    }
+    read(parse_definition(content))
+}
+
+// Reads a definition line with its end.
+pub fn read_line(l: &[u8]) -> DefinitionRead
+    ensures { λ r. ⌜ r ≡ lineRead (now (l .entry)) ⌝ }
+{
+    if refusal::over_limit(l.len()) {
+        return DefinitionRead::Refused(Refusal::TooLong);
+    }
+    read(parse_line(l))
+}
