@@ -1,3 +1,4 @@
 pub mod Lines
 pub mod Groups
 pub mod Laws
+pub mod GroupLaws
