@@ -8,9 +8,9 @@ use lib.Seq.{drop-drop, drop-cons, take-all}
 use lib.Dec.{eqb}
 use borrow.Author.Tests.{eq-eqb, ne-eqb}
 use native.Mathlib.Omega.{arith}
-use Rattle.lines.specs.Lines.{part}
-use Rattle.lines.specs.Laws.{part-none, part-snoc, part-length}
-use Rattle.definition.specs.Definition.{isSpace, spaced, run, kept, keep, described, namedOf, contentSays}
+use Rattle.lines.specs.Lines.{part, contentOf}
+use Rattle.lines.specs.Laws.{part-none, part-snoc, part-length, content-le}
+use Rattle.definition.specs.Definition.{isSpace, spaced, run, kept, keep, described, namedOf, contentSays, lineSays}
 use Rattle.definition.specs.declared.Definition.{Definition}
 use Rattle.definition.specs.declared.Fault.the-variants.{Empty, NoPrefix, NoName}
 use Rattle.definition.specs.declared.Parsed.{Parsed}
@@ -150,3 +150,30 @@ spaced-not true false b e h = sym e
 spaced-not true true b e h = absurd (true≢false h)
 spaced-not false false b e h = absurd (true≢false h)
 spaced-not false true b e h = rw (← e)
+
+-- ---- where a name lies
+
+-- a name lies in its line, behind the '>'
+pub name-within : (l : List ℕ) (d : Definition) → lineSays l ≡ Named d
+    → (d .name .start ≡ 1) × (1 ≤ d .name .length) × (d .name .start + d .name .length ≤ length l)
+unfolding lineSays contentSays
+name-within l d h = go (contentOf l) (content-le l) h
+  where
+    some : (s : List ℕ) (n : ℕ) → n ≤ length s → suc (length s) ≤ length l → namedOf s n ≡ Named d
+        → (d .name .start ≡ 1) × (1 ≤ d .name .length) × (d .name .start + d .name .length ≤ length l)
+    some s zero a b e = let z : _≡_ {A = ℕ} 0 1 = cc in absurd (omega arith)
+    some s (suc n) a b e =
+        let k : ℕ = run (spaced true) (drop (suc n) s) in
+        let v : d ≡ record { name = record { start = 1; length = suc n }; description = described (suc (suc n) + k) (keep isSpace (drop k (drop (suc n) s))) } = cc in
+        let p : d .name .start ≡ 1 = ap (λ (x : Definition). x .name .start) v in
+        let q : d .name .length ≡ suc n = ap (λ (x : Definition). x .name .length) v in
+        (p, omega arith, omega arith)
+
+    go : (t : List ℕ) → length t ≤ length l → contentSays t ≡ Named d → (d .name .start ≡ 1) × (1 ≤ d .name .length) × (d .name .start + d .name .length ≤ length l)
+    go [] a e = let z : _≡_ {A = ℕ} 0 1 = cc in absurd (omega arith)
+    go (b ∷ s) a e = prefixed (eqb b 62) e
+      where
+        prefixed : (t : Bool) → cond t (namedOf s (run (spaced false) s)) (Bad NoPrefix) ≡ Named d
+            → (d .name .start ≡ 1) × (1 ≤ d .name .length) × (d .name .start + d .name .length ≤ length l)
+        prefixed true e = some s (run (spaced false) s) (run-le (spaced false) s) a e
+        prefixed false e = let z : _≡_ {A = ℕ} 0 1 = cc in absurd (omega arith)

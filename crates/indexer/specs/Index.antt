@@ -1,0 +1,95 @@
+-- What indexing one record gives, in document 01's words, over the lines of the file.
+use Prim.Native.Nat.{ℕ, _+_}
+use mathlib.Core.List.{List, [], _∷_}
+use mathlib.Core.Bool.{Bool, cond, _&&_}
+use lib.ListN.{length, drop}
+use lib.Dec.{eqb, leb}
+use Rattle.refusal.specs.Numbers.{overLimit}
+use Rattle.refusal.specs.declared.Refusal.{Refusal}
+use Rattle.refusal.specs.declared.Refusal.the-variants.{TooLong, NoBases, LineBases, LineWidth}
+use Rattle.lines.specs.declared.Line.{Line}
+use Rattle.lines.specs.declared.Span.{Span}
+use Rattle.lines.specs.Lines.{lines, basesOf, seqOf, firstLine, none, sumBases, sumWidths}
+use Rattle.definition.specs.declared.Parsed.{Parsed}
+use Rattle.definition.specs.declared.Parsed.the-variants.{Named, Bad}
+use Rattle.definition.specs.Definition.{lineSays, refusalOf}
+use Rattle.record.specs.declared.Record.{Record}
+use Rattle.indexer.specs.declared.Indexer.{Indexer}
+use Rattle.indexer.specs.declared.Indexed.{Indexed}
+use Rattle.indexer.specs.declared.Indexed.the-variants as indexed
+use Rattle.indexer.specs.declared.Step.{Step}
+use Rattle.indexer.specs.declared.Rest.{Rest}
+use Rattle.indexer.specs.declared.Rest.the-variants as rest
+
+-- whether a record's lines are good, or the first refusal
+pub data Verdict : Type 0 where
+  good : Verdict
+  bad : Refusal → Verdict
+
+-- width and bases of a line
+abbrev pub lineOf : List ℕ → Line
+lineOf l = record { width = length l; bases = length (basesOf l) }
+
+-- may a line be the last: the file ends or '>' follows, and neither width nor bases exceed the first line's
+unfoldable pub fitsLast : Bool → Line → Line → Bool
+fitsLast last l first = last && leb (l .width) (first .width) && leb (l .bases) (first .bases)
+
+-- the lines after the first: a last that fits is good; else differing bases are refused, then a differing width
+unfoldable pub restOf : Line → List (List ℕ) → Verdict
+restOf first [] = good
+restOf first (l ∷ ls) =
+    cond (fitsLast (none ls) (lineOf l) first) good
+    (cond (eqb (lineOf l .bases) (first .bases))
+    (cond (eqb (lineOf l .width) (first .width)) (restOf first ls) (bad (LineWidth (lineOf l .width) (first .width))))
+    (bad (LineBases (lineOf l .bases) (first .bases))))
+
+-- a record's sequence lines, which begin at a position: no bases in the first is refused, with the offset after that line
+unfoldable pub judge : ℕ → List (List ℕ) → Verdict
+judge at [] = bad (NoBases at)
+judge at (l ∷ ls) = cond (eqb (lineOf l .bases) 0) (bad (NoBases (at + length l))) (restOf (lineOf l) ls)
+
+-- the row of a record, by where its definition begins, the bytes of that line, the name's place in it, and the sequence lines
+abbrev pub rowOf : ℕ → ℕ → Span → List (List ℕ) → Record
+rowOf at n name ls =
+    record {
+      «name_start» = at + name .start;
+      «name_length» = name .length;
+      length = sumBases ls;
+      position = record { 0 = at + n };
+      «line_bases» = firstLine ls .bases;
+      «line_width» = firstLine ls .width;
+    }
+
+-- an answer, with the place behind a record, or the place where it was
+abbrev pub judgedAs : ℕ → ℕ → Span → List (List ℕ) → Verdict → Step
+judgedAs at n name ls good = record { answer = indexed.Row (rowOf at n name ls); next = record { at = at + n + sumWidths ls } }
+judgedAs at n name ls (bad x) = record { answer = indexed.Refused x; next = record { at = at } }
+
+-- a record whose definition line has been read
+unfoldable pub sequenceSays : ℕ → ℕ → Span → List (List ℕ) → Step
+sequenceSays at n name ls = judgedAs at n name ls (judge (at + n) ls)
+
+abbrev pub definedAs : ℕ → ℕ → List (List ℕ) → Parsed → Step
+definedAs at n ls (Named d) = sequenceSays at n (d .name) ls
+definedAs at n ls (Bad f) = record { answer = indexed.Refused (refusalOf f 0); next = record { at = at } }
+
+-- the record whose definition is the first of some lines, which begin at an offset
+abbrev pub recordOf : ℕ → List (List ℕ) → Step
+recordOf at [] = record { answer = indexed.End; next = record { at = at } }
+recordOf at (d ∷ ls) = definedAs at (length d) (seqOf ls) (lineSays d)
+
+-- the record at an offset of a file
+unfoldable pub recordAt : List ℕ → ℕ → Step
+recordAt s at = recordOf at (lines (drop at s))
+
+-- the call: the size limit first
+unfoldable pub recordRead : List ℕ → Indexer → Step
+recordRead s c = cond (overLimit (length s)) (record { answer = indexed.Refused TooLong; next = c }) (recordAt s (c .at))
+
+-- the lines after the first: the bases with n before them, and the offset behind them
+abbrev pub restAs : ℕ → ℕ → List (List ℕ) → Verdict → Rest
+restAs n at ls good = rest.Done (n + sumBases ls) (at + sumWidths ls)
+restAs n at ls (bad x) = rest.Refused x
+
+unfoldable pub restSays : Line → ℕ → ℕ → List (List ℕ) → Rest
+restSays first n at ls = restAs n at ls (restOf first ls)
