@@ -1,0 +1,68 @@
+-- `complement::first_fault` meets its contract: while no byte that it passed is bad, what the bytes from `i` on have against them is what
+-- all have against them. Assumes nothing.
+use Prim.Native.Nat.{_≤_, _-_}
+use mathlib.Core.Path.{_≡_, sym, ap, _∙_}
+use borrow.Author.Needs.{needs}
+use native.Mathlib.Omega.{arith}
+use native.Mathlib.Numerals.{add-one}
+use lib.ListN.{length, drop, length-map}
+use Rattle.complement.specs.declared.Complemented.the-variants.{Bytes}
+use Rattle.complement.specs.Complement.{faults, firstOr, complementOf, answerOf}
+use Rattle.complement.specs.Laws.{first-bad, first-good, none-from}
+use Rattle.complement.proofs.first_fault.Statement.{statement}
+use Rattle.complement.proofs.first_fault.Tie as tie
+
+abbrev Inv-loop : tie.InvT-loop
+Inv-loop bases i₀ i = (i ≤ length bases) × (faults i (drop i bases) ≡ faults 0 bases)
+
+abbrev μ-loop : tie.MeasureT-loop
+μ-loop bases i₀ i = length bases - i
+
+loop-holds : tie.Need-loop-holds Inv-loop μ-loop
+loop-holds c = search needs
+
+shared-slice-read-b : tie.Need-shared-slice-read-b Inv-loop μ-loop
+shared-slice-read-b c = search needs
+
+complement-base-requires : tie.Need-complement-base-requires Inv-loop μ-loop
+complement-base-requires c κs = search needs
+
+no-complement-requires : tie.Need-no-complement-requires Inv-loop μ-loop
+no-complement-requires c κs = search needs
+
+returns : tie.Need-returns Inv-loop μ-loop
+unfolding complementOf answerOf
+returns c =
+    let t = c .before .before .before .before in
+    rw (first-bad _ _ (t .loop-test .taken) (t .before .loop .inv .1) (sym (c .before .before .complement-base .ensures) ∙ c .before .if1 .taken) _) (c .no-complement .ensures)
+
+add-i : tie.Need-add-i Inv-loop μ-loop
+add-i c = search needs
+
+loop-less : tie.Need-loop-less Inv-loop μ-loop
+loop-less c = search needs
+
+loop-again : tie.Need-loop-again Inv-loop μ-loop
+loop-again c =
+    let t = c .before .before .before in
+    (search needs, rw add-one (first-good _ _ (t .loop-test .taken) (t .before .loop .inv .1) (λ e. c .if1 .left (c .before .complement-base .ensures ∙ e))))
+
+returns-2 : tie.Need-returns-2 Inv-loop μ-loop
+unfolding complementOf firstOr answerOf
+returns-2 c = rw (← c .before .loop .inv .1, none-from _ _ (c .loop-test .left), length-map) (ap Bytes (omega arith))
+
+pub first-fault-spec : {M : Type 1} → statement M
+first-fault-spec =
+    tie.close
+    (tie.spec
+    Inv-loop
+    μ-loop
+    loop-holds
+    shared-slice-read-b
+    complement-base-requires
+    no-complement-requires
+    returns
+    add-i
+    loop-less
+    loop-again
+    returns-2)

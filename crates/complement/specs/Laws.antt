@@ -1,0 +1,157 @@
+-- Laws of the complement: of the pairing, of the bytes that have none, of the writing, and of what a call tells.
+use Prim.Native.Nat.{ℕ, suc, _+_, _≤_, _<_}
+use mathlib.Core.Path.{_≡_, refl, sym, _∙_}
+use mathlib.Core.Bool.{Bool, true, false, cond}
+use mathlib.Core.List.{List, [], _∷_, _++_, map, reverse, append-nil, append-assoc, reverse-append, reverse-cons, map-append}
+use lib.Dec.{T, eqb, ltb}
+use lib.ListN.{length, take, drop, getD, set, length-map, length-append, length-drop, length-reverse, drop-of-length-le}
+use lib.Seq.{drop-cons, take-suc, set-at, length-take-le, append-snoc}
+use borrow.Author.Tests.{eq-eqb, ne-eqb, eqb-true, ltb-false}
+use native.Mathlib.Omega.{arith}
+use native.Mathlib.Numerals.{add-one}
+use native.Mathlib.Nat.{add-zero, zero-add, suc-add, add-suc}
+use Rattle.refusal.specs.Numbers.{overLimit}
+use Rattle.refusal.specs.declared.Refusal.{Refusal}
+use Rattle.refusal.specs.declared.Refusal.the-variants.{TooLong, NoRoom, NoComplement}
+use Rattle.complement.specs.Pairing.{looked, rules, partner}
+use Rattle.complement.specs.Complement.{Outcome, given, refused, firstOr, when, faults, sized, answerOf, outputOf, Told}
+use Rattle.complement.specs.declared.Complemented.the-variants.{Bytes, Refused}
+
+-- ---- the pairing
+
+-- P, and that some rules have none for a byte: what the default of a `match` over them knows
+abbrev pub Besides : Type 0 → List (ℕ × ℕ) → ℕ → Type 0
+Besides P [] b = P
+Besides P (r ∷ rs) b = Besides (P × (b ≡ r .0 → ⊥)) rs b
+
+miss : (P : Type 0) (rs : List (ℕ × ℕ)) (b : ℕ) → Besides P rs b → P × (looked rs b ≡ 0)
+miss P [] b h = (h, refl)
+miss P (r ∷ rs) b h = let (p, e) = miss (P × (b ≡ r .0 → ⊥)) rs b h in (p .0, rw (ne-eqb _ _ (p .1)) e)
+
+pub partner-none : (b : ℕ) → Besides (Unit {0}) rules b → partner b ≡ 0
+unfolding partner
+partner-none b h = miss (Unit {0}) rules b h .1
+
+-- a test at each of some rules
+abbrev pub every : (ℕ → ℕ → Bool) → List (ℕ × ℕ) → Bool
+every f [] = true
+every f (r ∷ rs) = cond (f (r .0) (r .1)) (every f rs) false
+
+both : (a b : Bool) → T (cond a b false) → T a × T b
+both true b t = (tt, t)
+both false b t = absurd t
+
+at-rule : (f : ℕ → ℕ → Bool) (rs : List (ℕ × ℕ)) → T (every f rs) → (b : ℕ) → (looked rs b ≡ 0 → ⊥) → T (f b (looked rs b))
+at-rule f [] t b h = absurd (h refl)
+at-rule f (r ∷ rs) t b h = go (eqb b (r .0)) refl (at-rule f rs (tests .1) b) h
+  where
+    tests : T (f (r .0) (r .1)) × T (every f rs)
+    tests = both (f (r .0) (r .1)) (every f rs) t
+
+    go : (v : Bool) → eqb b (r .0) ≡ v → ((looked rs b ≡ 0 → ⊥) → T (f b (looked rs b))) → (cond v (r .1) (looked rs b) ≡ 0 → ⊥) → T (f b (cond v (r .1) (looked rs b)))
+    go true e more h = rw (eqb-true b (r .0) e) (tests .0)
+    go false e more h = more h
+
+-- what one computed test finds at each rule holds of each byte that has a complement
+pub of-each : (f : ℕ → ℕ → Bool) → T (every f rules) → (b : ℕ) → (partner b ≡ 0 → ⊥) → T (f b (partner b))
+unfolding partner
+of-each f t b h = at-rule f rules t b h
+
+-- ---- the bytes that have no complement
+
+faults-append : (at : ℕ) (s t : List ℕ) → faults at (s ++ t) ≡ faults at s ++ faults (at + length s) t
+unfolding faults
+faults-append at [] t = rw (add-zero at)
+faults-append at (b ∷ s) t =
+    rw (faults-append (suc at) s t, suc-add at (length s), add-suc at (length s), append-assoc)
+
+module _ (s : List ℕ) (i : ℕ) (h : i < length s) where
+  -- what the byte at a place has against it
+  here : List Refusal
+  here = when (eqb (partner (getD s i 0)) 0) (NoComplement i (getD s i 0))
+
+  from-here : faults i (drop i s) ≡ here ++ faults (suc i) (drop (suc i) s)
+  unfolding here faults
+  from-here = rw (drop-cons s i 0 h)
+
+  up-to-here : (n : ℕ) → n ≡ suc i → faults 0 (take n s) ≡ faults 0 (take i s) ++ here
+  unfolding here faults
+  up-to-here n q = rw (q, take-suc s i 0 h, faults-append 0 (take i s), length-take-le i s (omega arith), zero-add i, append-nil)
+
+  bad : partner (getD s i 0) ≡ 0 → here ≡ NoComplement i (getD s i 0) ∷ []
+  unfolding here
+  bad e = rw (eq-eqb _ _ e)
+
+  good : (partner (getD s i 0) ≡ 0 → ⊥) → here ≡ []
+  unfolding here
+  good e = rw (ne-eqb _ _ e)
+
+  -- from the front: where no byte before it is bad, a bad byte is the first, and past a good one none is
+  pub first-bad : faults i (drop i s) ≡ faults 0 s → partner (getD s i 0) ≡ 0 → (l : List ℕ) → firstOr (faults 0 s) l ≡ refused (NoComplement i (getD s i 0))
+  unfolding firstOr
+  first-bad inv e l = rw (← inv, from-here, bad e)
+
+  pub first-good : faults i (drop i s) ≡ faults 0 s → (partner (getD s i 0) ≡ 0 → ⊥) → faults (suc i) (drop (suc i) s) ≡ faults 0 s
+  first-good inv e = rw (← inv, from-here, good e)
+
+  -- from the back likewise
+  pub last-bad : (n : ℕ) → n ≡ suc i → faults 0 (take n s) ≡ faults 0 s → partner (getD s i 0) ≡ 0 → (l : List ℕ) → firstOr (reverse (faults 0 s)) l ≡ refused (NoComplement i (getD s i 0))
+  unfolding firstOr
+  last-bad n q inv e l = rw (← inv, up-to-here n q, bad e, reverse-append)
+
+  pub last-good : (n : ℕ) → n ≡ suc i → faults 0 (take n s) ≡ faults 0 s → (partner (getD s i 0) ≡ 0 → ⊥) → faults 0 (take i s) ≡ faults 0 s
+  last-good n q inv e = rw (← inv, up-to-here n q, good e, append-nil)
+
+pub none-from : (s : List ℕ) (i : ℕ) → length s ≤ i → faults i (drop i s) ≡ []
+unfolding faults
+none-from s i h = rw (drop-of-length-le s h)
+
+-- ---- a turn of the writing: one more byte behind those that are written
+
+one-more : (l m out : List ℕ) (n a : ℕ) → length l ≡ n → n < length out → m ≡ l ++ (a ∷ []) → set (outputOf (given l) out) n a ≡ outputOf (given m) out
+unfolding outputOf
+one-more l m out n a e h q =
+    rw (q, length-append l (a ∷ []), e, add-one n, append-snoc l a, drop-cons out n 0 h) (set-at l (getD out n 0) (drop (suc n) out) a n e)
+
+module _ (s out out₀ : List ℕ) (i : ℕ) (h : i < length s) (fits : length s ≤ length out₀) (r : ℕ) (e : r ≡ partner (getD s i 0)) where
+  pub write-turn : out ≡ outputOf (given (map partner (take i s))) out₀ → set out i r ≡ outputOf (given (map partner (take (suc i) s))) out₀
+  write-turn inv =
+      rw (inv, e)
+      (one-more _ _ out₀ i (partner (getD s i 0)) (length-map (take i s) partner ∙ length-take-le i s (omega arith)) (omega arith)
+      (rw (take-suc s i 0 h, map-append partner (take i s))))
+
+  pub write-reversed-turn : (n at : ℕ) → n ≡ suc i → n + at ≡ length s → out ≡ outputOf (given (reverse (map partner (drop n s)))) out₀
+      → set out at r ≡ outputOf (given (reverse (map partner (drop i s)))) out₀
+  write-reversed-turn n at q d inv =
+      rw (inv, e)
+      (one-more _ _ out₀ at (partner (getD s i 0)) (simp (length-reverse, length-map, length-drop) (omega arith)) (omega arith)
+      (rw (drop-cons s i 0 h, q, reverse-cons)))
+
+-- ---- what a call tells
+
+clash : {X : Type 0} {n : ℕ} {r : Refusal} → Bytes n ≡ Refused r → X
+clash e = let z : _≡_ {A = ℕ} 0 1 = cc in absurd (omega arith)
+
+-- where bytes are answered there is room for all that the input has, and they are those that were to give
+pub granted : (s : List ℕ) (room : ℕ) (rs : List Refusal) (l : List ℕ) (n : ℕ) → Bytes n ≡ answerOf (sized s room (firstOr rs l))
+    → (length s ≤ room) × (sized s room (firstOr rs l) ≡ given l)
+unfolding sized firstOr answerOf
+granted s room rs l n e = go (overLimit (length s)) (ltb room (length s)) refl rs e
+  where
+    go : (t u : Bool) → ltb room (length s) ≡ u → (rs : List Refusal) → Bytes n ≡ answerOf (cond t (refused TooLong) (cond u (refused (NoRoom (length s))) (firstOr rs l)))
+        → (length s ≤ room) × (cond t (refused TooLong) (cond u (refused (NoRoom (length s))) (firstOr rs l)) ≡ given l)
+    go true u k rs e = clash e
+    go false true k rs e = clash e
+    go false false k [] e = (ltb-false _ _ k, refl)
+    go false false k (r ∷ rs) e = clash e
+
+pub told-given : (s out : List ℕ) (rs : List Refusal) (l : List ℕ) (n : ℕ) → Bytes n ≡ answerOf (sized s (length out) (firstOr rs l)) → Told s (firstOr rs l) out (outputOf (given l) out) (Bytes n)
+told-given s out rs l n e = record { answer = e; output = rw (granted s (length out) rs l n e .1) }
+
+pub told-refused : (s out : List ℕ) (o : Outcome) (r : Refusal) → Refused r ≡ answerOf (sized s (length out) o) → Told s o out out (Refused r)
+unfolding answerOf outputOf
+told-refused s out o r e = record { answer = e; output = go (sized s (length out) o) e }
+  where
+    go : (p : Outcome) → Refused r ≡ answerOf p → out ≡ outputOf p out
+    go (given l) e = clash (sym e)
+    go (refused q) e = refl

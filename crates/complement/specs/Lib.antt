@@ -1,0 +1,5 @@
+pub mod Pairing
+pub mod Complement
+pub mod Laws
+pub mod Inverse
+pub mod Examples

@@ -1,0 +1,13 @@
+-- `record::Record::rows` meets its contract: the quotient is the definition's own.
+-- Assumes nothing.
+use mathlib.Core.Path.{refl}
+use Rattle.record.specs.Row.{rowCount}
+use Rattle.record.proofs.Record.rows.Statement.{statement}
+use Rattle.record.proofs.Record.rows.Tie as tie
+
+returns : tie.Need-returns
+unfolding rowCount
+returns c = refl
+
+pub rows-spec : {M : Type 1} → statement M
+rows-spec = tie.close (tie.spec returns)

@@ -1,0 +1,3 @@
+pub mod Scan
+pub mod Read
+pub mod Laws
