@@ -2,3 +2,4 @@ pub mod Lines
 pub mod Groups
 pub mod Laws
 pub mod GroupLaws
+pub mod Same

@@ -1,5 +1,5 @@
 -- Equal lines lead to the addressing rule. This is a fact over lines, whatever file they are of: index, check and reads cite it.
-use Prim.Native.Nat.{ℕ, zero, suc, _+_, _-_, _*_, _/_, _%_, _≤_, _<_}
+use Prim.Native.Nat.{ℕ, zero, suc, _+_, _-_, _≤_, _<_}
 use mathlib.Core.Path.{_≡_, refl, ap, sym, _∙_}
 use mathlib.Core.List.{List, [], _∷_, _++_}
 use mathlib.Core.Bool.{Bool, true, false}
@@ -8,7 +8,7 @@ use lib.ListN.{length, getD, length-append, List·getD-append}
 use lib.Seq.{getD-append-add, ext-getD}
 use borrow.Author.Tests.{ltb-true, ltb-false}
 use native.Mathlib.Omega.{arith}
-use native.Mathlib.Nat.{zero-add, add-zero}
+use native.Mathlib.Nat.{zero-add}
 use Rattle.lines.specs.Lines.{basesOf, allBases, sumBases, upFrom, basesAt}
 use Rattle.record.specs.Place.{placeOf, placesFrom}
 use Rattle.record.specs.Laws.{place-first, place-row, length-places, getD-places}
@@ -21,6 +21,7 @@ pub data EvenLines (b w : ℕ) : List (List ℕ) → Type 0 where
 
 -- ---- as many offsets as bases
 
+-- n offsets in a row, of which number i is i further on
 pub length-upFrom : (o n : ℕ) → length (upFrom o n) ≡ n
 unfolding upFrom
 length-upFrom o zero = refl
@@ -32,6 +33,7 @@ getD-upFrom o zero i h = absurd (omega arith)
 getD-upFrom o (suc n) zero h = omega arith
 getD-upFrom o (suc n) (suc i) h = omega (arith, getD-upFrom (suc o) n i (omega arith))
 
+-- an offset for each base
 pub length-basesAt : (at : ℕ) (ls : List (List ℕ)) → length (basesAt at ls) ≡ sumBases ls
 unfolding basesAt sumBases
 length-basesAt at [] = refl

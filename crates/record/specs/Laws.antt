@@ -4,11 +4,11 @@ use mathlib.Core.Path.{_≡_, refl, ap, sym, _∙_}
 use mathlib.Core.Logic.{_≢_, _⊎_, inl, inr}
 use mathlib.Core.List.{List, [], _∷_, _++_, append-assoc}
 use mathlib.Core.Bool.{Bool, true, false, cond, _&&_, and-false}
-use lib.ListN.{length, getD, take, drop, set, length-append}
+use lib.ListN.{length, getD, take, drop, set}
 use lib.Seq.{sets, sets-eq, length-sets, length-take-le, getD-append-add, getD-set-other}
 use lib.Dec.{eqb, ltb, lit<}
 use lib.Arith.{digits-div, digits-mod}
-use borrow.Author.Tests.{lt-ltb, le-ltb, ltb-true, ltb-false, eq-eqb, ne-eqb, eqb-true, eqb-false}
+use borrow.Author.Tests.{lt-ltb, le-ltb, ltb-true, ltb-false, eq-eqb, ne-eqb, eqb-false}
 use native.Mathlib.Numerals.{add-one}
 use native.Mathlib.Omega.{arith}
 use native.Mathlib.Nat.{div-add-mod', zero-add, add-assoc, add-mul, one-mul, add-zero, add-div-left, add-mod-left, div-eq-of-lt, mod-eq-of-lt, zero-mul, le-div-iff-mul-le, div-lt-iff-lt-mul}
@@ -81,6 +81,7 @@ module _ (p b w : ℕ) where
   unfolding placeOf
   place-row i z = rw (add-div-left i z, add-mod-left b i, add-mul (i / b) 1 w, one-mul w) (omega arith)
 
+  -- of n places from base number i + 1 on, one for each, number k is that of base number i + k + 1
   pub length-places : (i n : ℕ) → length (placesFrom p b w i n) ≡ n
   unfolding placesFrom
   length-places i zero = refl
@@ -104,6 +105,7 @@ mul-within m q w z h = le-div-iff-mul-le {k = w} {x = q} {y = m} z .0 h
 pub mul-past : (m q w : ℕ) → 0 < w → m / w < q → m < q * w
 mul-past m q w z h = div-lt-iff-lt-mul {k = w} {x = m} {y = q} z .0 h
 
+-- a whole number as an offset
 pub offset-at : (n : ℕ) → n < 2 ^ 64 → At (record { 0 = n }) ≡ offsetOf n
 unfolding offsetOf
 offset-at n h = rw (lt-ltb _ _ h)
@@ -137,6 +139,7 @@ pub record Addressed (x : Record) (p : Position) (o : Offset) : Type 0 where
   pub here : o .0 ≡ placeIn x (p .0 - 1)
 
 module _ (x : Record) (p : Position) where
+  -- where a number is 0, no offset
   pub address-no-position : p .0 ≤ 0 → Nowhere ≡ addressOf x p
   unfolding addressOf hasPlace
   address-no-position h = rw (le-ltb _ _ h)
@@ -149,6 +152,7 @@ module _ (x : Record) (p : Position) where
   unfolding addressOf hasPlace
   address-no-width h = simp (le-ltb _ _ h, and-false)
 
+  -- elsewhere the rule's, if it is below 2 ^ 64
   module _ (a : 0 < p .0) (b : 0 < x .«line_bases») (w : 0 < x .«line_width») where
     pub address-place : addressOf x p ≡ offsetOf (placeIn x (p .0 - 1))
     unfolding addressOf hasPlace
@@ -179,6 +183,7 @@ module _ (x : Record) (p : Position) where
 
 -- ---- words
 
+-- so many numbers to a record
 pub length-words : (xs : List Record) → length (words xs) ≡ length xs * rowWords
 unfolding words wordsOf
 length-words [] = refl
@@ -188,13 +193,14 @@ length-words (x ∷ xs) = omega (arith, length-words xs)
 numbers-shift : (ws t : List ℕ) (i : ℕ) → numbersAt (ws ++ t) (length ws + i) ≡ numbersAt t i
 numbers-shift ws t i = simp (add-assoc, getD-append-add)
 
+-- the numbers of record k
 words-row : (d : Record) (xs : List Record) (k : ℕ) (rest : List ℕ) → k < length xs → numbersAt (words xs ++ rest) (k * rowWords) ≡ getD xs k d
 unfolding words wordsOf
 words-row d [] k rest h = absurd (omega arith)
 words-row d (x ∷ xs) zero rest h = refl
 words-row d (x ∷ xs) (suc k) rest h = rw (q, append-assoc) (numbers-shift (wordsOf x) (words xs ++ rest) (k * rowWords) ∙ words-row d xs k rest (omega arith))
   where
-    q : suc k * rowWords ≡ 6 + k * rowWords
+    q : suc k * rowWords ≡ rowWords + k * rowWords
     q = omega arith
 
 -- ---- tables
@@ -228,6 +234,7 @@ pub row-within : (t : List ℕ) (r : ℕ) → r < rowCount t → r * rowWords + 
 unfolding rowCount
 row-within t r h = omega arith
 
+-- stores keep the number of rows
 pub rowCount-sets : (t : List ℕ) (i : ℕ) (vs : List ℕ) → rowCount (sets t i vs) ≡ rowCount t
 unfolding rowCount
 rowCount-sets t i vs = rw (length-sets t i vs)
@@ -247,7 +254,7 @@ module _ (t : List ℕ) (n : ℕ) where
   unfolding words wordsOf withRow
   rows-onward x xs h = rw (lt-ltb _ _ h) (ap (λ (k : ℕ). sets (sets t (n * rowWords) (wordsOf x)) k (words xs)) q ∙ sym (sets-append (wordsOf x) (words xs) t (n * rowWords)))
     where
-      q : (n + 1) * rowWords ≡ n * rowWords + 6
+      q : (n + 1) * rowWords ≡ n * rowWords + rowWords
       q = omega arith
 
   -- row n + k is record k
@@ -274,6 +281,7 @@ module _ (t : List ℕ) (n : ℕ) where
 -- ---- a record in one row
 
 module _ (t : List ℕ) (r : ℕ) where
+  -- with a row r, and without
   pub with-row : (x : Record) → r < rowCount t → withRow t r x ≡ withRows t r (x ∷ [])
   unfolding withRow words wordsOf
   with-row x h = rw (lt-ltb _ _ h)
@@ -311,6 +319,7 @@ module _ (t : List ℕ) (r : ℕ) where
   unfolding storedOf withRow
   stored-full x h = record { answer = rw (le-ltb _ _ h); table = rw (le-ltb _ _ h) }
 
+  -- what an answer tells of the table
   pub kept-inside : storedOf t r ≡ stored.Kept → r < rowCount t
   unfolding storedOf
   kept-inside e = go (ltb r (rowCount t)) refl e
@@ -330,6 +339,7 @@ module _ (t : List ℕ) (r : ℕ) where
 -- ---- reading a row
 
 module _ (r : ℕ) (x : Record) where
+  -- by its numbers
   pub sound-no-bases : x .«line_bases» ≡ 0 → badRow r ≡ soundRow r x
   unfolding soundRow
   sound-no-bases b = rw (eq-eqb _ _ b)
@@ -342,6 +352,7 @@ module _ (r : ℕ) (x : Record) where
   unfolding soundRow
   sound-row b w = rw (ne-eqb _ _ b, ne-eqb _ _ w)
 
+  -- by its name
   pub name-outside : (bytes : ℕ) → bytes < x .«name_start» + x .«name_length» → badRow r ≡ namedIn bytes r (held.Row x)
   unfolding namedIn
   name-outside bytes h = rw (lt-ltb _ _ h)
@@ -359,6 +370,7 @@ pub record HeldRow (t : List ℕ) (n r : ℕ) (x : Record) : Type 0 where
   pub some-width : 0 < x .«line_width»
 
 module _ (t : List ℕ) (n r : ℕ) where
+  -- the table lacks a row in use; the row is not in use
   pub held-lacking : rowCount t < n → badRow (rowCount t) ≡ heldAt t n r
   unfolding heldAt
   held-lacking h = rw (lt-ltb _ _ h)

@@ -66,11 +66,12 @@ soundRow r x = cond (eqb (x .«line_bases») 0) (badRow r) (cond (eqb (x .«line
 unfoldable pub heldAt : List ℕ → ℕ → ℕ → Held
 heldAt t n r = cond (ltb (rowCount t) n) (badRow (rowCount t)) (cond (ltb r n) (soundRow r (rowAt t r)) (badRow r))
 
--- row r, whose name has to lie inside so many bytes
+-- row r, if it holds a record, whose name has to lie inside so many bytes
 unfoldable pub namedIn : ℕ → ℕ → Held → Held
 namedIn bytes r (held.Row x) = cond (ltb bytes (x .«name_start» + x .«name_length»)) (badRow r) (held.Row x)
 namedIn bytes r (held.Refused f) = held.Refused f
 
+-- row r of a table with n rows in use, where its name is looked at
 unfoldable pub namedAt : List ℕ → ℕ → ℕ → ℕ → Held
 namedAt t n r bytes = namedIn bytes r (heldAt t n r)
 

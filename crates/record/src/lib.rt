@@ -231,6 +231,11 @@ impl Record {
             return Address::Nowhere;
         }
         let i = p.0 - Record::FIRST;
-        fitting(self.position.0, i / self.line_bases, self.line_width, i % self.line_bases)
+        fitting(
+            self.position.0,
+            i / self.line_bases,
+            self.line_width,
+            i % self.line_bases,
+        )
     }
 }

@@ -3,9 +3,9 @@ use Prim.Native.Nat.{ℕ, zero, suc, _+_, _-_, _*_, _≤_, _<_}
 use mathlib.Core.Path.{_≡_, refl, ap, sym, _∙_}
 use mathlib.Core.List.{List, [], _∷_}
 use mathlib.Core.Bool.{Bool, true, false, cond}
-use lib.ListN.{length, take}
+use lib.ListN.{length, take, length-take}
 use lib.Dec.{ltb, leb·suc-suc}
-use borrow.Author.Tests.{lt-ltb, le-ltb}
+use borrow.Author.Tests.{lt-ltb, le-ltb, ltb-false}
 use native.Mathlib.Omega.{arith}
 use native.Mathlib.Nat.{add-zero, zero-add, sub-zero}
 use Rattle.refusal.specs.declared.Refusal.{Refusal}
@@ -99,3 +99,15 @@ module _ (all : ℕ) (t₀ : List ℕ) (f₀ : Found) (n : ℕ) (t : List ℕ) w
 -- no row at all
 pub filled-none : (t : List ℕ) (x : Stop) → FilledAs (nothing x) t t (record { rows = 0; stop = x })
 filled-none t x = record { rows = refl; stop = refl; table = sym (rows-none t 0) }
+
+-- no more rows are in than the table has
+held-count : (free all : ℕ) (f : Found) → length (heldIn free all f .rows) ≤ free
+unfolding heldIn
+held-count free all f = go (ltb free (length (f .rows))) refl
+  where
+    go : (t : Bool) → ltb free (length (f .rows)) ≡ t → length (cond t (record { rows = take free (f .rows); stop = Refused (TableFull all) }) f .rows) ≤ free
+    go true e = omega (arith, length-take free (f .rows))
+    go false e = ltb-false _ _ e
+
+pub onward-count : (all : ℕ) (t₀ : List ℕ) (f₀ : Found) (n : ℕ) (f : Found) (t : List ℕ) → Onward all t₀ f₀ n f t → n ≤ all
+onward-count all t₀ f₀ n f t o = omega (arith, o .rows, held-count all all f₀)

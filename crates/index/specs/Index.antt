@@ -1,0 +1,61 @@
+-- What a whole index says: a row for each of its lines, up to the first refusal.
+use Prim.Native.Nat.{ℕ, suc, _+_}
+use mathlib.Core.List.{List, [], _∷_}
+use mathlib.Core.Bool.{cond}
+use lib.ListN.{length, drop}
+use Rattle.refusal.specs.Numbers.{overLimit}
+use Rattle.refusal.specs.declared.Refusal.the-variants.{TooLong}
+use Rattle.lines.specs.Lines.{lines}
+use Rattle.record.specs.declared.Record.{Record}
+use Rattle.table.specs.Fill.{Found, nothing, withFirst, heldIn}
+use Rattle.table.specs.declared.Stop.the-variants.{Ended, Refused}
+use Rattle.index_line.specs.IndexLine.{lineSays}
+use Rattle.index_line.specs.declared.LineRead.{LineRead}
+use Rattle.index_line.specs.declared.LineRead.the-variants as read
+use Rattle.index.specs.declared.LineRow.{LineRow}
+use Rattle.index.specs.declared.LineRow.the-variants as row
+
+-- a line's record, its name a span of the whole text, in which the line begins at an offset
+abbrev pub placedAt : ℕ → Record → Record
+placedAt at x =
+    record {
+      «name_start» = at;
+      «name_length» = x .«name_length»;
+      length = x .length;
+      position = x .position;
+      «line_bases» = x .«line_bases»;
+      «line_width» = x .«line_width»;
+    }
+
+-- what a line says, which begins at an offset and ends at another
+abbrev pub rowAs : ℕ → ℕ → LineRead → LineRow
+rowAs at e (read.Row x) = row.Row (placedAt at (x .«record»)) (record { at = e })
+rowAs at e (read.Refused f) = row.Refused f
+
+-- the row of the first of some lines, by its number and the offset where it begins
+abbrev pub rowOf : ℕ → ℕ → List (List ℕ) → LineRow
+rowOf line at [] = row.End
+rowOf line at (l ∷ ls) = rowAs at (at + length l) (lineSays line l)
+
+-- the row of the line at an offset
+unfoldable pub rowAt : List ℕ → ℕ → ℕ → LineRow
+rowAt text line at = rowOf line at (lines (drop at text))
+
+-- one line's row, with what the lines behind it say
+abbrev pub onwards : LineRow → Found → Found
+onwards (row.Row x c) f = withFirst x f
+onwards row.End f = nothing Ended
+onwards (row.Refused y) f = nothing (Refused y)
+
+-- the rows of some lines, by the number of the first and the offset where it begins
+unfoldable pub linesSay : ℕ → ℕ → List (List ℕ) → Found
+linesSay line at [] = nothing Ended
+linesSay line at (l ∷ ls) = onwards (rowOf line at (l ∷ ls)) (linesSay (suc line) (at + length l) ls)
+
+-- the rows of an index from a line on, which begins at an offset
+unfoldable pub indexAt : List ℕ → ℕ → ℕ → Found
+indexAt text line at = linesSay line at (lines (drop at text))
+
+-- the call, with a table of so many rows: the size limit first
+unfoldable pub indexIn : List ℕ → ℕ → Found
+indexIn text n = cond (overLimit (length text)) (nothing (Refused TooLong)) (heldIn n n (indexAt text 1 0))

@@ -1,0 +1,147 @@
+// A whole index: its lines as rows of a lent table, and names looked up in the rows. Refuses bytes over the size limit (1), a bad
+// line (9 to 12, lines counted from 1) and a table without a free row (8); looking up, a bad row (25) and a name that no row has (15).
+ghost use mathlib.Core.Path.{_≡_};
+ghost use Prim.Native.Nat.{_+_, _≤_, _<_};
+ghost use lib.ListN.{length};
+ghost use Rattle.record.specs.Row.{rowCount};
+ghost use Rattle.table.specs.Fill.{FilledAs, heldIn};
+ghost use Rattle.index.specs.Index.{rowAt, indexAt, indexIn};
+ghost use Rattle.index.specs.Find.{named, rowOf, rowRead};
+use index_line::LineRead;
+use lines::Cursor;
+use record::Held;
+use record::Record;
+use record::Stored;
+use refusal::Refusal;
+use table::Filled;
+use table::Stop;
+
+// The first row that has a name, or why there is none.
+pub enum Found {
+    Row(usize),
+    Refused(Refusal),
+}
+
+// The row of the index line at a place, and the place behind it; or that there is no line; or why it has no row.
+pub enum LineRow {
+    Row(Record, Cursor),
+    End,
+    Refused(Refusal),
+}
+
+// Reads the index line at `at`, whose number is `line`; the row's name is a span of the whole text.
+pub fn read_row(text: &[u8], at: Cursor, line: u64) -> LineRow
+    ensures { λ r. ⌜ r ≡ rowAt (now (text .entry)) line (at .at) ⌝ }
+{
+    let a = at.at;
+    if text.len() <= a {
+        return LineRow::End;
+    }
+    let e = lines::line_end(text, a);
+    let read = index_line::parse_line(&text[a..e], line);
+    match read {
+        LineRead::Row(x) => {
+            let r = x.record;
+            LineRow::Row(r.named(a as u64, r.name_length), Cursor { at: e })
+        }
+        LineRead::Refused(f) => LineRow::Refused(f),
+    }
+}
+
+// A row for each line of the text, from the table's first row on.
+fn read_rows(text: &[u8], table: &mut [u64]) -> Filled
+    ensures { λ r. ⌜ FilledAs (heldIn (rowCount (now (table .entry))) (rowCount (now (table .entry))) (indexAt (now (text .entry)) 1 0)) (now (table .entry)) (now (table .exit)) r ⌝ }
+{
+    let mut at = 0;
+    let mut n = 0;
+    loop {
+        let row = read_row(text, Cursor { at }, n as u64 + 1);
+        match row {
+            LineRow::Row(x, next) => {
+                let stored = x.store(table, n);
+                match stored {
+                    Stored::Kept => {
+                        n += 1;
+                        at = next.at;
+                    }
+                    Stored::Refused(f) => {
+                        return Filled {
+                            rows: n,
+                            stop: Stop::Refused(f),
+                        };
+                    }
+                }
+            }
+            LineRow::End => {
+                return Filled {
+                    rows: n,
+                    stop: Stop::Ended,
+                };
+            }
+            LineRow::Refused(f) => {
+                return Filled {
+                    rows: n,
+                    stop: Stop::Refused(f),
+                };
+            }
+        }
+    }
+}
+
+// Reads a whole index into a lent table, from its first row on; names are spans of the index.
+pub fn read_index(text: &[u8], table: &mut [u64]) -> Filled
+    ensures { λ r. ⌜ FilledAs (indexIn (now (text .entry)) (rowCount (now (table .entry)))) (now (table .entry)) (now (table .exit)) r ⌝ }
+{
+    if refusal::over_limit(text.len()) {
+        return Filled {
+            rows: 0,
+            stop: Stop::Refused(Refusal::TooLong),
+        };
+    }
+    read_rows(text, table)
+}
+
+// Is a record's name, a span of `names`, the name looked for.
+fn is_named(names: &[u8], x: Record, name: &[u8]) -> bool
+    requires { ⌜ x .«name_start» + x .«name_length» ≤ length (now names) ⌝ }
+    ensures { λ r. ⌜ r ≡ named (now (names .entry)) x (now (name .entry)) ⌝ }
+{
+    let a = x.name_start as usize;
+    let e = a + x.name_length as usize;
+    check::same(&names[a..e], name)
+}
+
+// The first of the rows in use that has the name. Names are spans of `names`; no size limit is judged.
+pub fn find_row(names: &[u8], table: &[u64], in_use: usize, name: &[u8]) -> Found
+    ensures { λ r. ⌜ r ≡ rowOf (now (names .entry)) (now (table .entry)) in_use (now (name .entry)) ⌝ }
+{
+    let mut r = 0;
+    while r < in_use {
+        let held = Record::named_row(table, in_use, r, names.len());
+        match held {
+            Held::Row(x) => {
+                if is_named(names, x, name) {
+                    return Found::Row(r);
+                }
+            }
+            Held::Refused(f) => {
+                return Found::Refused(f);
+            }
+        }
+        r += 1;
+    }
+    Found::Refused(Refusal::NameUnknown)
+}
+
+// Looks a name up in the rows in use.
+pub fn find(names: &[u8], table: &[u64], in_use: usize, name: &[u8]) -> Found
+    ensures { λ r. ⌜ r ≡ rowRead (now (names .entry)) (now (table .entry)) in_use (now (name .entry)) ⌝ }
+{
+    if refusal::over_limit(names.len()) {
+        return Found::Refused(Refusal::TooLong);
+    }
+    if refusal::over_limit(name.len()) {
+        return Found::Refused(Refusal::TooLong);
+    }
+    find_row(names, table, in_use, name)
+}
