@@ -6,14 +6,14 @@ use mathlib.Core.Bool.{Bool, true, false, cond}
 use lib.ListN.{length, take, drop, getD, drop-of-length-le, length-drop, take-append-drop, length-append, length-take}
 use lib.Seq.{drop-cons, drop-drop, take-append-le, take-take, length-take-le, paste, length-paste, take-paste, drop-paste}
 use lib.Dec.{eqb, leb, leb·suc-zero}
-use borrow.Author.Tests.{eqb-true, leb-true, leb-false}
+use borrow.Author.Tests.{eqb-true, leb-true, leb-false, lt-leb}
 use native.Mathlib.Omega.{arith}
 use native.Mathlib.Numerals.{add-one}
 use native.Mathlib.Nat.{zero-add, add-zero, add-assoc, add-suc, suc-add, sub-zero, sub-self}
 use Rattle.lines.specs.declared.Span.{Span}
-use Rattle.lines.specs.Lines.{lines, lineLen, onto, chop, basesOf, begins, seqOf, seqAt, firstLine}
+use Rattle.lines.specs.Lines.{lines, lineLen, onto, chop, basesOf, begins, seqOf, seqAt, firstLine, sumWidths}
 use Rattle.lines.specs.Laws.{chop-front, chop-le, bases-front, lines-cut, bases-le, first-within, seqAt-end}
-use Rattle.sequence.specs.Scan.{endsLine, skipped, skipTo, runAt, Scan, nothing, joined, bare, upTo, scanFrom, scanAt}
+use Rattle.sequence.specs.Scan.{endsLine, skipped, skipTo, runAt, Scan, nothing, joined, bare, upTo, scanFrom, scanAt, scanAll}
 use Rattle.sequence.specs.Read.{Left, leaves, written}
 use Rattle.sequence.specs.declared.SequenceRead.the-variants.{Bases}
 
@@ -125,7 +125,7 @@ module _ (l s : List ℕ) (n at : ℕ) (k : ℕ) (is : k ≡ capped (suc n) (len
       go false h = rw (bases-ahead l s, skip-end-for l s (suc n - length (basesOf l)) at (omega (arith, leb-false (suc n) (length (basesOf l)) h)))
 
 -- a line that begins with no CR or LF has its first byte as its first base
-chop-first : (b c : ℕ) (l : List ℕ) → eqb b c ≡ false → chop c (b ∷ l) ≡ b ∷ chop c l
+pub chop-first : (b c : ℕ) (l : List ℕ) → eqb b c ≡ false → chop c (b ∷ l) ≡ b ∷ chop c l
 unfolding chop
 chop-first b c [] e = rw e
 chop-first b c (y ∷ l) e = refl
@@ -321,7 +321,7 @@ pub filled-end : (n : ℕ) (out : List ℕ) (at : ℕ) → filled n out (nothing
 unfolding filled
 filled-end n out at = rw (add-zero n, append-nil (take n out), take-append-drop n out)
 
-pub filled-step : (n : ℕ) (out src : List ℕ) (k : ℕ) (c : Scan) → n + k ≤ length out → k ≤ length src → filled n out (joined (take k src) c) ≡ filled (n + k) (paste out n src k) c
+filled-step : (n : ℕ) (out src : List ℕ) (k : ℕ) (c : Scan) → n + k ≤ length out → k ≤ length src → filled n out (joined (take k src) c) ≡ filled (n + k) (paste out n src k) c
 unfolding filled
 filled-step n out src k c h q =
     rw (length-append (take k src) (c .bases), length-take-le k src q, ← add-assoc n k (length (c .bases)), ← append-assoc (take n out) (take k src) (c .bases))
@@ -359,3 +359,42 @@ scanFrom-most (l ∷ ls) (suc n) at = go (begins (bare l)) (basesOf (bare l)) _ 
 pub scan-most : (s : List ℕ) (limit at : ℕ) → length (scanAt s limit at .bases) ≤ limit
 unfolding scanAt
 scan-most s limit at = scanFrom-most (lines (drop at s)) limit at
+
+-- a limit above the number of bytes is none
+widths-onto : (b : ℕ) (ls : List (List ℕ)) → sumWidths (onto b ls) ≡ suc (sumWidths ls)
+unfolding sumWidths
+widths-onto b [] = refl
+widths-onto b (l ∷ ls) = suc-add (length l) (sumWidths ls)
+
+pub widths-lines : (s : List ℕ) → sumWidths (lines s) ≡ length s
+unfolding lines sumWidths
+widths-lines [] = refl
+widths-lines (b ∷ s) = go (eqb b 10) (widths-lines s)
+  where
+    go : (t : Bool) → sumWidths (lines s) ≡ length s → sumWidths (cond t ((b ∷ []) ∷ lines s) (onto b (lines s))) ≡ suc (length s)
+    go true h = omega arith
+    go false h = widths-onto b (lines s) ∙ ap suc h
+
+bare-le : (l : List ℕ) → length (basesOf (bare l)) ≤ length l
+bare-le l = omega (arith, chop-le 13 (chop 10 (bare l)), chop-le 10 (bare l), length-drop (skipped l) l)
+
+-- a limit that a line's bases do not reach
+pub upTo-all : (m at : ℕ) (bs : List ℕ) (c : Scan) → length bs < m → upTo m at bs c ≡ joined bs c
+upTo-all m at bs c h = rw (lt-leb m (length bs) h)
+
+scanFrom-free : (ls : List (List ℕ)) (m k at : ℕ) → sumWidths ls < m → sumWidths ls < k → scanFrom ls m at ≡ scanFrom ls k at
+unfolding scanFrom sumWidths
+scanFrom-free [] m k at h q = refl
+scanFrom-free (l ∷ ls) zero k at h q = absurd (omega arith)
+scanFrom-free (l ∷ ls) (suc m) zero at h q = absurd (omega arith)
+scanFrom-free (l ∷ ls) (suc m) (suc k) at h q =
+    let w = bare-le l in
+    rw (upTo-all (suc m) (at + skipped l) (basesOf (bare l)) _ (omega arith), upTo-all (suc k) (at + skipped l) (basesOf (bare l)) _ (omega arith))
+    (rw (scanFrom-free ls (suc m - length (basesOf (bare l))) (suc k - length (basesOf (bare l))) (at + length l) (omega arith) (omega arith)))
+
+pub scan-free : (s : List ℕ) (limit at : ℕ) → length s < limit → scanAt s limit at ≡ scanAll s at
+unfolding scanAll scanAt
+scan-free s limit at h = scanFrom-free (lines (drop at s)) limit (length s + 1) at (omega (arith, bytes)) (omega (arith, bytes))
+  where
+    bytes : sumWidths (lines (drop at s)) ≤ length s
+    bytes = omega (arith, widths-lines (drop at s), length-drop at s)

@@ -1,3 +1,5 @@
 pub mod Scan
 pub mod Read
 pub mod Laws
+pub mod Agree
+pub mod Examples

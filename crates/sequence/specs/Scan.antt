@@ -2,7 +2,7 @@
 -- its LF and one final CR; repeat until the wanted number of bases is reached.
 use Prim.Native.Nat.{ℕ, zero, suc, _+_, _-_}
 use mathlib.Core.List.{List, [], _∷_, _++_}
-use mathlib.Core.Bool.{Bool, true, false, cond}
+use mathlib.Core.Bool.{Bool, true, cond}
 use lib.ListN.{length, take, drop}
 use lib.Dec.{eqb, leb}
 use Rattle.lines.specs.Lines.{lines, basesOf, begins, seqAt, firstLine}

@@ -15,13 +15,14 @@ ghost use Rattle.sequence.specs.Scan.{endsLine, skipTo, runAt, scanAt};
 ghost use Rattle.sequence.specs.Read.{leaves, written, scanInto, readLimit, readWhole, readRun};
 ghost use Rattle.sequence.specs.Laws.{pieceAt};
 
-// How many bases were read, and the place behind them.
+// How many bases were read, and the place that is left: just behind the last of them where as many were given as were wanted, and
+// else at the '>' or the end that the scan came to.
 pub enum SequenceRead {
     Bases { count: usize, next: Cursor },
     Refused(Refusal),
 }
 
-// Where one step's bases are.
+// Where the bases of one step are.
 pub enum RunRead {
     Run(Span),
     Refused(Refusal),
@@ -122,29 +123,29 @@ fn copy_bases(s: &[u8], at: usize, limit: usize, out: &mut [u8]) -> SequenceRead
     requires { ⌜ length (scanAt (now s) limit at .bases) ≤ length (now out) ⌝ }
     ensures { λ r. ⌜ leaves r (now (out .exit)) ≡ written (scanAt (now (s .entry)) limit at) (now (out .entry)) ⌝ }
 {
-    let mut n = 0;
+    let mut to = 0;
     let mut i = at;
-    while n < limit {
-        let piece = next_piece(s, i, limit - n);
+    while to < limit {
+        let piece = next_piece(s, i, limit - to);
         let start = piece.start;
         let taken = piece.length;
         if taken == 0 {
             return SequenceRead::Bases {
-                count: n,
+                count: to,
                 next: Cursor { at: start },
             };
         }
-        copy_run(s, start, taken, out, n);
-        n += taken;
+        copy_run(s, start, taken, out, to);
+        to += taken;
         i = start + taken;
     }
     SequenceRead::Bases {
-        count: n,
+        count: to,
         next: Cursor { at: i },
     }
 }
 
-// Scans for at most `limit` bases from `at`, into the front of the output. The file's size is not judged.
+// Scans for at most `limit` bases from `at`, into the front of the output; what is behind them stays. The file's size is not judged.
 pub fn scan_into(s: &[u8], at: usize, limit: usize, out: &mut [u8]) -> SequenceRead
     ensures { λ r. ⌜ leaves r (now (out .exit)) ≡ scanInto (now (s .entry)) limit at (now (out .entry)) ⌝ }
 {
@@ -157,7 +158,8 @@ pub fn scan_into(s: &[u8], at: usize, limit: usize, out: &mut [u8]) -> SequenceR
     copy_bases(s, at, limit, out)
 }
 
-// Reads at most `limit` bases from a place.
+// Reads at most `limit` bases from a place. A limit of 0 moves nothing, and a place past the end stays as it is. The file is gone
+// through once, or twice where the output has fewer than `limit` bytes.
 pub fn read_sequence_limit(s: &[u8], at: Cursor, limit: usize, out: &mut [u8]) -> SequenceRead
     ensures { λ r. ⌜ leaves r (now (out .exit)) ≡ readLimit (now (s .entry)) limit at (now (out .entry)) ⌝ }
 {

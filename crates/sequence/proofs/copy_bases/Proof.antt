@@ -1,4 +1,4 @@
--- `sequence::copy_bases` meets its contract: what a scan from `i` for the rest writes behind `n` bytes of the output as it is now,
+-- `sequence::copy_bases` meets its contract: what a scan from `i` for the rest writes behind `to` bytes of the output as it is now,
 -- is what the whole scan writes into the output as it was.
 -- Assumes nothing.
 use Prim.Native.Nat.{_+_, _-_, _≤_}
@@ -14,14 +14,14 @@ use Rattle.sequence.proofs.copy_bases.Statement.{statement}
 use Rattle.sequence.proofs.copy_bases.Tie as tie
 
 abbrev Inv-loop : tie.InvT-loop
-Inv-loop s at limit out₀ n₀ i₀ out n i =
-    (n ≤ limit)
+Inv-loop s at limit out₀ to₀ i₀ out to i =
+    (to ≤ limit)
     × (length out ≡ length out₀)
-    × (n + length (scanAt s (limit - n) i .bases) ≤ length out₀)
-    × (filled n out (scanAt s (limit - n) i) ≡ written (scanAt s limit at) out₀)
+    × (to + length (scanAt s (limit - to) i .bases) ≤ length out₀)
+    × (filled to out (scanAt s (limit - to) i) ≡ written (scanAt s limit at) out₀)
 
 abbrev μ-loop : tie.MeasureT-loop
-μ-loop s at limit out₀ n₀ i₀ out n i = limit - n
+μ-loop s at limit out₀ to₀ i₀ out to i = limit - to
 
 loop-holds : tie.Need-loop-holds Inv-loop μ-loop
 loop-holds c = let a = c .before .before .args in rw (sub-zero (a .limit)) (omega arith, omega arith, omega arith, filled-start (a .out .now) (scanAt (a .s .now) (a .limit) (a .at)))
@@ -38,18 +38,18 @@ same-length c = c .before .before .before .loop .inv .1
 returns : tie.Need-returns Inv-loop μ-loop
 returns c =
     let l = c .before .before .before in
-    sym (filled-end _ _ _) ∙ ap (filled (l .loop .n) (l .loop .out)) (sym (piece-stop _ _ _ _ _ (c .before .before .loop-test .taken) (c .before .next-piece .ensures) (c .if1 .taken))) ∙ l .loop .inv .3
+    sym (filled-end _ _ _) ∙ ap (filled (l .loop .to) (l .loop .out)) (sym (piece-stop _ _ _ _ _ (c .before .before .loop-test .taken) (c .before .next-piece .ensures) (c .if1 .taken))) ∙ l .loop .inv .3
 
 -- the piece that a turn finds
 turn : (c : tie.Else1 Inv-loop μ-loop)
-    → let l = c .before .before .before in Turn (l .before .before .before .args .s .now) (l .before .before .before .args .limit) (l .loop .n) (l .loop .i) (c .before .next-piece .result)
+    → let l = c .before .before .before in Turn (l .before .before .before .args .s .now) (l .before .before .before .args .limit) (l .loop .to) (l .loop .i) (c .before .next-piece .result)
 turn c = piece-step _ _ _ _ _ (c .before .before .loop-test .taken) (c .before .next-piece .ensures) (c .if1 .left)
 
 copy-run-requires : tie.Need-copy-run-requires Inv-loop μ-loop
 copy-run-requires c κs = let t = turn (c .before) in (omega arith, omega arith)
 
-add-n : tie.Need-add-n Inv-loop μ-loop
-add-n c = let t = turn (c .before .before .before .before) in search needs
+add-to : tie.Need-add-to Inv-loop μ-loop
+add-to c = let t = turn (c .before .before .before .before) in search needs
 
 add-i : tie.Need-add-i Inv-loop μ-loop
 add-i c = let t = turn (c .before .before .before .before) in search needs
@@ -70,7 +70,7 @@ same-length-2 c = c .before .loop .inv .1
 returns-2 : tie.Need-returns-2 Inv-loop μ-loop
 returns-2 c =
     let l = c .before in
-    sym (filled-end _ _ _) ∙ ap (filled (l .loop .n) (l .loop .out)) (sym (piece-full _ _ _ _ (c .loop-test .left))) ∙ l .loop .inv .3
+    sym (filled-end _ _ _) ∙ ap (filled (l .loop .to) (l .loop .out)) (sym (piece-full _ _ _ _ (c .loop-test .left))) ∙ l .loop .inv .3
 
 pub copy-bases-spec : {M : Type 1} → statement M
 copy-bases-spec =
@@ -84,7 +84,7 @@ copy-bases-spec =
     same-length
     returns
     copy-run-requires
-    add-n
+    add-to
     add-i
     loop-less
     loop-again

@@ -1,7 +1,7 @@
 -- `sequence::copy_run` meets its contract: after `k` turns `k` bytes are pasted.
 -- Assumes nothing.
 use Prim.Native.Nat.{_-_, _≤_}
-use mathlib.Core.Path.{_≡_, sym, _∙_, ap}
+use mathlib.Core.Path.{_≡_, _∙_, ap}
 use borrow.Author.Needs.{needs}
 use native.Mathlib.Omega.{arith}
 use native.Mathlib.Numerals.{add-one}
@@ -9,8 +9,6 @@ use lib.ListN.{length, drop, length-drop}
 use lib.Seq.{paste, paste-zero, paste-suc, length-paste, getD-drop}
 use Rattle.sequence.proofs.copy_run.Statement.{statement}
 use Rattle.sequence.proofs.copy_run.Tie as tie
-use Rattle.sequence.proofs.copy_run.Reads as reads
-use Rattle.sequence.proofs.copy_run.Lts as lts
 
 abbrev Inv-loop : tie.InvT-loop
 Inv-loop s start n out₀ to k₀ out k = (k ≤ n) × (out ≡ paste out₀ to (drop start s) k)
@@ -22,7 +20,7 @@ loop-holds : tie.Need-loop-holds Inv-loop μ-loop
 loop-holds c = (omega arith, paste-zero (c .args .out .now) (c .args .to) (drop (c .args .start) (c .args .s .now)))
 
 -- the output has the length that it had
-same : (c : lts.At-loop reads.Pre reads.Post Inv-loop μ-loop) → length (c .loop .out) ≡ length (c .before .args .out .now)
+same : (c : tie.At-loop Inv-loop μ-loop) → length (c .loop .out) ≡ length (c .before .args .out .now)
 same c =
     let a = c .before .args in
     ap length (c .loop .inv .1) ∙ length-paste (a .out .now) (a .to) (drop (a .start) (a .s .now)) (c .loop .k) (omega arith) (simp length-drop (omega arith))

@@ -1,12 +1,12 @@
 -- `sequence::count_bases` meets its contract: `n` and what a scan from `i` for the rest gives make what the whole scan gives.
 -- Assumes nothing.
 use Prim.Native.Nat.{ℕ, _+_, _-_, _≤_}
-use mathlib.Core.Path.{_≡_, ap}
+use mathlib.Core.Path.{_≡_}
 use borrow.Author.Needs.{needs}
 use native.Mathlib.Omega.{arith}
 use native.Mathlib.Nat.{sub-zero}
 use lib.ListN.{length}
-use Rattle.sequence.specs.Scan.{Scan, scanAt}
+use Rattle.sequence.specs.Scan.{scanAt}
 use Rattle.sequence.specs.Laws.{Turn, piece-stop, piece-step, piece-full}
 use Rattle.sequence.proofs.count_bases.Statement.{statement}
 use Rattle.sequence.proofs.count_bases.Tie as tie

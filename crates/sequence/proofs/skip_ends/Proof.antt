@@ -9,9 +9,6 @@ use Rattle.sequence.specs.Scan.{skipTo}
 use Rattle.sequence.specs.Laws.{skip-hit, skip-miss, skip-end}
 use Rattle.sequence.proofs.skip_ends.Statement.{statement}
 use Rattle.sequence.proofs.skip_ends.Tie as tie
-use Rattle.sequence.proofs.skip_ends.Reads as reads
-use Rattle.sequence.proofs.skip_ends.Lts as lts
-use Rattle.sequence.proofs.ends_line.Reads as ends-line-reads
 
 abbrev Inv-loop : tie.InvT-loop
 Inv-loop s at i₀ i = skipTo s i ≡ skipTo s at

@@ -1,0 +1,108 @@
+/* Wakeluri's entry points: a FASTA index library whose every answer is proved right.
+ *
+ * Bytes are lent as a pointer and a length; the pointer may be any non-null value where the length is 0. A table is bytes, eight to
+ * a number, low byte first; a row is six numbers (name start, name length, length, position, line bases, line width), and what is
+ * left of a last part of a row is ignored and stays. Rows and offsets count from 0, base positions, lines and records from 1.
+ * Every answer begins with the refusal's number, 0 for none, and its two numbers. A refusal leaves outputs as they were; rows that
+ * were indexed or read before it stay, and are counted. Every call takes any bytes and any numbers.
+ */
+#ifndef WAKELURI_H
+#define WAKELURI_H
+
+#include <stddef.h>
+#include <stdint.h>
+
+#ifdef __cplusplus
+extern "C" {
+#endif
+
+/* A refusal, 0 where there is none; a count (of bytes or of rows, or a row's number), and the place that a read leaves. */
+struct wakeluri_answer {
+    uint64_t refusal, first, second;
+    uint64_t count, next;
+};
+
+/* A name and a description by their places in a definition line; 0 and 0 where there is no description. */
+struct wakeluri_definition {
+    uint64_t refusal, first, second;
+    uint64_t name_start, name_length, description_start, description_length;
+};
+
+/* Some bytes of a file by their place: `found` is 0 where there is no line. `next` is the offset behind the line. */
+struct wakeluri_span {
+    uint64_t refusal, first, second;
+    uint64_t found, start, length, next;
+};
+
+/* A record's row: `found` is 0 at the end of a file. `next` is the offset behind the record, `plain` is 1 for a plain index line. */
+struct wakeluri_row {
+    uint64_t refusal, first, second;
+    uint64_t found, next, plain;
+    uint64_t name_start, name_length, length, position, line_bases, line_width;
+};
+
+/* What a definition line says, given with its end. Refuses 1 to 4. */
+struct wakeluri_definition wakeluri_definition_line(const uint8_t *line, size_t line_length);
+
+/* What the content of a definition line says, without its end. Refuses 1 to 4. */
+struct wakeluri_definition wakeluri_definition_content(const uint8_t *content, size_t content_length);
+
+/* The content of the line at an offset, without LF and, only before an LF, one CR. Refuses 1. */
+struct wakeluri_span wakeluri_read_line(const uint8_t *file, size_t file_length, uint64_t at);
+
+/* One step of the scanning rule: the next run of bases from a place on, of length 0 at '>' or the end. Refuses 1. */
+struct wakeluri_span wakeluri_read_run(const uint8_t *file, size_t file_length, uint64_t at);
+
+/* The bases from an offset on, by the scanning rule, at the front of `out`; tells how many, and the place left. Refuses 1, 14. */
+struct wakeluri_answer wakeluri_read_sequence(const uint8_t *file, size_t file_length, uint64_t at, uint8_t *out, size_t out_length);
+
+/* The same, at most `limit` bases. Refuses 1, 14. */
+struct wakeluri_answer wakeluri_read_sequence_limit(const uint8_t *file, size_t file_length, uint64_t at, uint64_t limit, uint8_t *out, size_t out_length);
+
+/* The row of the record at an offset, and the offset behind it. Refuses 1 to 7. */
+struct wakeluri_row wakeluri_index_record(const uint8_t *file, size_t file_length, uint64_t at);
+
+/* A row for each record of a file, from the table's first on; tells how many. Refuses 1 to 8. */
+struct wakeluri_answer wakeluri_index_file(const uint8_t *file, size_t file_length, uint8_t *table, size_t table_length);
+
+/* What an index line says, given with its end; its name starts at 0. Refuses 1, 9 to 12. */
+struct wakeluri_row wakeluri_index_line(const uint8_t *line, size_t line_length);
+
+/* What the content of an index line says, without its end. Refuses 1, 9 to 12. */
+struct wakeluri_row wakeluri_index_content(const uint8_t *content, size_t content_length);
+
+/* A row for each line of an index, from the table's first on; names are spans of the index. Refuses 1, 9 to 12, 8. */
+struct wakeluri_answer wakeluri_read_index(const uint8_t *index, size_t index_length, uint8_t *table, size_t table_length);
+
+/* The index line of a row, with its LF, at the front of `out`; tells how many bytes. Refuses 1, 25, 13, 14. */
+struct wakeluri_answer wakeluri_write_index_line(const uint8_t *names, size_t names_length, const uint8_t *table, size_t table_length, uint64_t in_use, uint64_t row, uint8_t *out, size_t out_length);
+
+/* The first row in use that has the name, as `count`. Refuses 1, 25, 15. */
+struct wakeluri_answer wakeluri_find(const uint8_t *names, size_t names_length, const uint8_t *table, size_t table_length, uint64_t in_use, const uint8_t *name, size_t name_length);
+
+/* Exactly the bases from `start` to `end` of a row's record, never fewer; a bound is absent where its flag is 0. Refuses 1, 16, 25, 17, 14, 18. */
+struct wakeluri_answer wakeluri_read_exact(const uint8_t *file, size_t file_length, const uint8_t *table, size_t table_length, uint64_t in_use, uint64_t row, uint64_t has_start, uint64_t start, uint64_t has_end, uint64_t end, uint8_t *out, size_t out_length);
+
+/* The bases that a scan finds from `start` on; ignores the record's length, and may run into the next record. Refuses 1, 16, 25, 18, 14. */
+struct wakeluri_answer wakeluri_read_raw(const uint8_t *file, size_t file_length, const uint8_t *table, size_t table_length, uint64_t in_use, uint64_t row, uint64_t has_start, uint64_t start, uint64_t has_end, uint64_t end, uint8_t *out, size_t out_length);
+
+/* The exact read of the first row that has the name. Refuses 1, then as looking up, then as the exact read. */
+struct wakeluri_answer wakeluri_read_exact_by_name(const uint8_t *file, size_t file_length, const uint8_t *names, size_t names_length, const uint8_t *table, size_t table_length, uint64_t in_use, const uint8_t *name, size_t name_length, uint64_t has_start, uint64_t start, uint64_t has_end, uint64_t end, uint8_t *out, size_t out_length);
+
+/* The raw read of the first row that has the name. Refuses 1, then as looking up, then as the raw read. */
+struct wakeluri_answer wakeluri_read_raw_by_name(const uint8_t *file, size_t file_length, const uint8_t *names, size_t names_length, const uint8_t *table, size_t table_length, uint64_t in_use, const uint8_t *name, size_t name_length, uint64_t has_start, uint64_t start, uint64_t has_end, uint64_t end, uint8_t *out, size_t out_length);
+
+/* The complement of some bases, at the front of `out`. Refuses 1, 14, and 24 with the first bad byte. */
+struct wakeluri_answer wakeluri_complement(const uint8_t *bases, size_t bases_length, uint8_t *out, size_t out_length);
+
+/* The reverse complement, at the front of `out`. Refuses 1, 14, and 24 with the last bad byte. */
+struct wakeluri_answer wakeluri_reverse_complement(const uint8_t *bases, size_t bases_length, uint8_t *out, size_t out_length);
+
+/* Accepts a FASTA file and an index of any program exactly if the index leads to every base. Refuses 1, 2 to 4, 19, 9 to 12, 21 to 23, 20. */
+struct wakeluri_answer wakeluri_check(const uint8_t *fasta, size_t fasta_length, const uint8_t *index, size_t index_length);
+
+#ifdef __cplusplus
+}
+#endif
+
+#endif
