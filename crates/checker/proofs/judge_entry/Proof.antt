@@ -1,0 +1,25 @@
+use borrow.Author.Needs.{needs}
+use mathlib.Core.Path.{_∙_}
+use Rattle.checker.specs.Steps.{judged-name, judged-same}
+use Rattle.checker.proofs.judge_entry.Statement.{statement}
+use Rattle.checker.proofs.judge_entry.Tie as tie
+use Rattle.checker.proofs.judge_entry.Reads as reads
+use Rattle.checker.proofs.judge_entry.Lts as lts
+use Rattle.checker.proofs.judge_sequence.Reads as judge-sequence-reads
+use Rattle.checker.proofs.same_name.Reads as same-name-reads
+
+same-name-requires : tie.Need-same-name-requires
+same-name-requires c κs = search needs
+
+judge-sequence-requires : tie.Need-judge-sequence-requires
+judge-sequence-requires c κs = search needs
+
+returns : tie.Need-returns
+returns c = c .judge-sequence .ensures ∙ judged-same _ _ _ _ _ _ _ _ (c .before .before .same-name .ensures) (c .before .if1 .taken)
+
+returns-2 : tie.Need-returns-2
+returns-2 c = judged-name _ _ _ _ _ _ _ _ (c .before .same-name .ensures) (c .if1 .left)
+
+pub judge-entry-spec : {M : Type 1} → statement M
+judge-entry-spec =
+    tie.close (tie.spec same-name-requires judge-sequence-requires returns returns-2)

@@ -1,0 +1,89 @@
+use Prim.Native.Nat.{_-_, _≤_, _<_, _+_}
+use mathlib.Core.Path.{_≡_, refl, sym, _∙_}
+use mathlib.Core.Bool.{false}
+use borrow.Author.Needs.{needs}
+use borrow.Author.Tests.{not-true, not-false}
+use native.Mathlib.Omega.{arith}
+use lib.ListN.{length}
+use Rattle.lines.specs.Lines.{seqAt, none}
+use Rattle.checker.specs.Walk.{Onward, onward-start, onward-line, onward-end, line-within}
+use Rattle.checker.proofs.walk.walk_rows.Statement.{statement}
+use Rattle.checker.proofs.walk.walk_rows.Tie as tie
+use Rattle.checker.proofs.walk.walk_rows.Reads as reads
+use Rattle.checker.proofs.walk.walk_rows.Lts as lts
+use Rattle.checker.proofs.walk.walk_line.Reads as walk-line-reads
+use Rattle.lines.proofs.base_count.Reads as base-count-reads
+use Rattle.lines.proofs.line_end.Reads as line-end-reads
+use Rattle.lines.proofs.sequence_ends.Reads as sequence-ends-reads
+
+abbrev Inv-loop : tie.InvT-loop
+Inv-loop s at row-bases row-width walk₀ i₀ walk i = Onward s at (walk₀ .row .start .0) row-bases row-width i walk
+
+abbrev μ-loop : tie.MeasureT-loop
+μ-loop s at row-bases row-width walk₀ i₀ walk i = length s - i
+
+loop-holds : tie.Need-loop-holds Inv-loop μ-loop
+loop-holds c = onward-start _ _ _ _ _ (c .before .before .pre .0) (omega arith)
+
+sequence-ends-requires : tie.Need-sequence-ends-requires Inv-loop μ-loop
+sequence-ends-requires c κs = search needs
+
+line-end-requires : tie.Need-line-end-requires Inv-loop μ-loop
+line-end-requires c κs = search needs
+
+sub-base-count : tie.Need-sub-base-count Inv-loop μ-loop
+sub-base-count c = search needs
+
+part-base-count-start : tie.Need-part-base-count-start Inv-loop μ-loop
+part-base-count-start c = search needs
+
+-- there is a line at i
+some : (c : tie.After-line-end Inv-loop μ-loop) → none (seqAt (c .before .before .before .before .before .before .args .s .now) (c .before .before .before .loop .i)) ≡ false
+some c = sym (c .before .before .sequence-ends .ensures) ∙ not-true _ (c .before .if1 .taken)
+
+part-base-count-end : tie.Need-part-base-count-end Inv-loop μ-loop
+part-base-count-end c = omega (arith, line-within _ _ _ _ (some c) (c .line-end .ensures) refl)
+
+base-count-requires : tie.Need-base-count-requires Inv-loop μ-loop
+base-count-requires c κs = search needs
+
+-- it ends behind i and in the file, and its bases lie between
+within : (c : tie.After-base-count Inv-loop μ-loop)
+    → (c .before .before .before .before .before .loop .i < c .before .before .line-end .result)
+    × (c .before .before .line-end .result ≤ length (c .before .before .before .before .before .before .before .before .args .s .now))
+    × (c .before .before .before .before .before .loop .i + c .base-count .result ≤ c .before .before .line-end .result)
+within c = line-within _ _ _ _ (some (c .before .before)) (c .before .before .line-end .ensures) (c .base-count .ensures)
+
+walk-line-requires : tie.Need-walk-line-requires Inv-loop μ-loop
+walk-line-requires c κs =
+    let l = c .before .before .before .before .before .loop in
+    (l .inv .walking .inside, l .inv .fewer, omega (arith, within c), c .before .before .before .before .before .before .before .before .pre .1)
+
+loop-less : tie.Need-loop-less Inv-loop μ-loop
+loop-less c = omega (arith, within (c .before))
+
+loop-again : tie.Need-loop-again Inv-loop μ-loop
+loop-again c =
+    let b = c .before in
+    onward-line _ _ _ _ _ _ _ (b .before .before .before .before .before .loop .inv) _ _ _ (some (b .before .before)) (b .before .before .line-end .ensures) (b .base-count .ensures) (c .walk-line .ensures)
+
+returns : tie.Need-returns Inv-loop μ-loop
+returns c = onward-end _ _ _ _ _ _ _ (c .before .before .loop .inv) (sym (c .before .sequence-ends .ensures) ∙ not-false _ (c .if1 .left))
+
+pub walk-rows-spec : {M : Type 1} → statement M
+walk-rows-spec =
+    tie.close
+    (tie.spec
+    Inv-loop
+    μ-loop
+    loop-holds
+    sequence-ends-requires
+    line-end-requires
+    sub-base-count
+    part-base-count-start
+    part-base-count-end
+    base-count-requires
+    walk-line-requires
+    loop-less
+    loop-again
+    returns)

@@ -1,0 +1,5 @@
+pub mod Places
+pub mod PlaceLaws
+pub mod Walk
+pub mod Check
+pub mod Steps

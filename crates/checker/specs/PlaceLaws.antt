@@ -1,0 +1,115 @@
+-- Laws of places: what the first base elsewhere says of every base.
+use Prim.Native.Nat.{ℕ, zero, suc, _+_, _≤_, _<_}
+use mathlib.Core.Path.{_≡_, refl, ap, sym, _∙_}
+use mathlib.Core.List.{List, [], _∷_, _++_}
+use mathlib.Core.Bool.{Bool, true, false, cond}
+use lib.ListN.{length, getD, drop, length-drop}
+use lib.Dec.{eqb}
+use borrow.Author.Tests.{eq-eqb, ne-eqb, eqb-true, eqb-false}
+use native.Mathlib.Omega.{arith}
+use native.Mathlib.Nat.{add-zero, zero-add}
+use Rattle.lines.specs.Lines.{lines, onto, chop, begins, seqOf, seqAt, sumBases, sumWidths, basesAt}
+use Rattle.lines.specs.Laws.{chop-le}
+use Rattle.record.specs.EvenLines.{length-basesAt}
+use Rattle.checker.specs.Places.{firstElsewhere, walkedAs}
+use Rattle.checker.specs.declared.walk.Placed.{Placed}
+use Rattle.checker.specs.declared.walk.Placed.the-variants.{There, Elsewhere}
+
+-- the first fault of two
+abbrev pub firstOf : Placed → Placed → Placed
+firstOf There y = y
+firstOf (Elsewhere q) y = Elsewhere q
+
+module _ (f : ℕ → ℕ) where
+  -- one base on
+  shifted : (i : ℕ) (o : ℕ) (os : List ℕ) (n : ℕ) → ((j : ℕ) → j < suc n → getD (o ∷ os) j 0 ≡ f (i + j)) → (j : ℕ) → j < n → getD os j 0 ≡ f (suc i + j)
+  shifted i o os n h j m = h (suc j) (omega arith) ∙ ap f q
+    where
+      q : i + suc j ≡ suc i + j
+      q = omega arith
+
+  first-there : (i o : ℕ) → o ≡ f (i + 0) → eqb o (f i) ≡ true
+  first-there i o h = eq-eqb o (f i) (h ∙ ap f (add-zero i))
+
+  pub all-there : (i : ℕ) (os : List ℕ) → ((j : ℕ) → j < length os → getD os j 0 ≡ f (i + j)) → There ≡ firstElsewhere f i os
+  unfolding firstElsewhere
+  all-there i [] h = refl
+  all-there i (o ∷ os) h = rw (first-there i o (h 0 (omega arith))) (all-there (suc i) os (shifted i o os (length os) h))
+
+  pub first-elsewhere : (i m : ℕ) (os : List ℕ) → m < length os → ((j : ℕ) → j < m → getD os j 0 ≡ f (i + j)) → (getD os m 0 ≡ f (i + m) → ⊥)
+      → Elsewhere (record { 0 = suc (i + m) }) ≡ firstElsewhere f i os
+  unfolding firstElsewhere
+  first-elsewhere i m [] l h n = absurd (omega arith)
+  first-elsewhere i zero (o ∷ os) l h n = rw (ne-eqb o (f i) (λ e. n (e ∙ ap f (sym (add-zero i)))), add-zero i)
+  first-elsewhere i (suc m) (o ∷ os) l h n =
+      rw (first-there i o (h 0 (omega arith)), q)
+      (first-elsewhere (suc i) m os (omega arith) (shifted i o os m h) (λ e. n (e ∙ ap f (sym q))))
+    where
+      q : i + suc m ≡ suc i + m
+      q = omega arith
+
+  pub elsewhere-append : (i : ℕ) (xs ys : List ℕ) → firstElsewhere f i (xs ++ ys) ≡ firstOf (firstElsewhere f i xs) (firstElsewhere f (i + length xs) ys)
+  unfolding firstElsewhere
+  elsewhere-append i [] ys = rw (add-zero i)
+  elsewhere-append i (x ∷ xs) ys = go (eqb x (f i)) (elsewhere-append (suc i) xs ys)
+    where
+      q : suc i + length xs ≡ i + suc (length xs)
+      q = omega arith
+
+      go : (t : Bool) → firstElsewhere f (suc i) (xs ++ ys) ≡ firstOf (firstElsewhere f (suc i) xs) (firstElsewhere f (suc i + length xs) ys)
+          → cond t (firstElsewhere f (suc i) (xs ++ ys)) (Elsewhere (record { 0 = suc i }))
+          ≡ firstOf (cond t (firstElsewhere f (suc i) xs) (Elsewhere (record { 0 = suc i }))) (firstElsewhere f (i + suc (length xs)) ys)
+      go true h = rw (← q) h
+      go false h = refl
+
+-- places that are the same for every base lead to the same
+pub elsewhere-same : (f g : ℕ → ℕ) (i : ℕ) (os : List ℕ) → ((j : ℕ) → j < length os → f (i + j) ≡ g (i + j)) → firstElsewhere f i os ≡ firstElsewhere g i os
+unfolding firstElsewhere
+elsewhere-same f g i [] h = refl
+elsewhere-same f g i (o ∷ os) h = rw (first, elsewhere-same f g (suc i) os (λ j m. rest j m))
+  where
+    first : f i ≡ g i
+    first = rw add-zero at (h 0 (omega arith))
+
+    rest : (j : ℕ) → j < length os → f (suc i + j) ≡ g (suc i + j)
+    rest j m =
+        let q : i + suc j ≡ suc i + j = omega arith in
+        rw q at (h (suc j) (omega arith))
+
+pub walked-same : (f g : ℕ → ℕ) (at : ℕ) (ls : List (List ℕ)) → ((i : ℕ) → i < sumBases ls → f i ≡ g i) → walkedAs f at ls ≡ walkedAs g at ls
+unfolding walkedAs
+walked-same f g at ls h = rw (elsewhere-same f g 0 (basesAt at ls) (λ j m. rw zero-add (h j (rw length-basesAt at m))))
+
+-- ---- bases and bytes of some lines
+
+pub sum-le : (ls : List (List ℕ)) → sumBases ls ≤ sumWidths ls
+unfolding sumBases sumWidths
+sum-le [] = omega arith
+sum-le (l ∷ ls) = omega (arith, sum-le ls, chop-le 13 (chop 10 l), chop-le 10 l)
+
+pub widths-seq : (ls : List (List ℕ)) → sumWidths (seqOf ls) ≤ sumWidths ls
+unfolding sumWidths seqOf
+widths-seq [] = omega arith
+widths-seq (l ∷ ls) = go (begins l) (widths-seq ls)
+  where
+    go : (t : Bool) → sumWidths (seqOf ls) ≤ sumWidths ls → sumWidths (cond t [] (l ∷ seqOf ls)) ≤ length l + sumWidths ls
+    go true h = omega arith
+    go false h = omega arith
+
+pub widths-lines : (s : List ℕ) → sumWidths (lines s) ≡ length s
+unfolding sumWidths lines
+widths-lines [] = refl
+widths-lines (b ∷ s) = go (eqb b 10) (lines s) (widths-lines s)
+  where
+    go : (t : Bool) (ls : List (List ℕ)) → sumWidths ls ≡ length s → sumWidths (cond t ((b ∷ []) ∷ ls) (onto b ls)) ≡ suc (length s)
+    go true ls h = omega arith
+    go false [] h = omega arith
+    go false (l ∷ ls) h = omega arith
+
+pub widths-within : (s : List ℕ) (at : ℕ) → at ≤ length s → at + sumWidths (seqAt s at) ≤ length s
+unfolding seqAt
+widths-within s at h = omega (arith, widths-seq (lines (drop at s)), widths-lines (drop at s), length-drop at s)
+
+pub bases-within : (s : List ℕ) (at : ℕ) → sumBases (seqAt s at) ≤ length s
+unfolding seqAt
+bases-within s at = omega (arith, sum-le (seqOf (lines (drop at s))), widths-seq (lines (drop at s)), widths-lines (drop at s), length-drop at s)

@@ -1,0 +1,165 @@
+// Checks an index of any program against its FASTA file: every line of the index has to describe its record, down to the place of
+// every base. Refuses inputs over the size limit (1), a definition line that does not read (2 to 4), a record without a line (19), a
+// line that does not read (9 to 12), another name (21), another length (22), a base that is not where the line says (23), and what is
+// left of the index behind the last record (20). Refusals tell the record, from 1.
+mod walk;
+
+use definition::Parsed;
+use index_line::LineRead;
+use lines::Span;
+use record::Record;
+use refusal::Refusal;
+use walk::Placed;
+ghost use mathlib.Core.Path.{_≡_};
+ghost use Prim.Native.Nat.{_+_, _≤_, _<_};
+ghost use lib.ListN.{length};
+ghost use Rattle.lines.specs.Lines.{seqAt, sumWidths};
+ghost use Rattle.lines.specs.Same.{sameBytes};
+ghost use Rattle.index_line.specs.IndexLine.{nameIn};
+ghost use Rattle.checker.specs.Check.{spanOf, sequenceSays, entrySays, againstLines, recordSays, checkOf};
+ghost use Rattle.checker.specs.Steps.{groupOf, onlyLine, judgedAs, stepOf};
+
+// Does an index describe its file, or why not.
+pub enum Verdict {
+    Accepted,
+    Refused(Refusal),
+}
+
+// The offset behind a record, or why it is refused.
+enum Judged {
+    Behind(usize),
+    Refused(Refusal),
+}
+
+// The place behind some records: in the file and in the index, and how many they are.
+struct Place {
+    fasta: usize,
+    index: usize,
+    records: u64,
+}
+
+// The place behind one record more, or why it is refused.
+enum Step {
+    Next(Place),
+    Refused(Refusal),
+}
+
+// Is the name of a definition line that of an index line's record.
+fn same_name(def: &[u8], name: Span, line: &[u8], x: Record) -> bool
+    requires { ⌜ (name .start + name .length ≤ length (now def)) × (x .«name_start» + x .«name_length» ≤ length (now line)) ⌝ }
+    ensures { λ r. ⌜ r ≡ sameBytes (spanOf (now (def .entry)) name) (nameIn (now (line .entry)) x) ⌝ }
+{
+    let a = name.start;
+    let b = a + name.length;
+    let c = x.name_start as usize;
+    let d = c + x.name_length as usize;
+    check::same(&def[a..b], &line[c..d])
+}
+
+// The sequence from `start` on against a record: 22, 23.
+fn judge_sequence(fasta: &[u8], start: usize, x: Record, record: u64) -> Judged
+    requires { ⌜ 0 < x .«line_bases» ⌝ }
+    ensures { λ r. ⌜ r ≡ judgedAs (sequenceSays «record» start (seqAt (now (fasta .entry)) start) x) (start + sumWidths (seqAt (now (fasta .entry)) start)) ⌝ }
+{
+    let found = walk::walk_sequence(fasta, start, x);
+    if found.bases != x.length {
+        return Judged::Refused(Refusal::LengthDiffers { record });
+    }
+    let placed = found.placed;
+    match placed {
+        Placed::There => Judged::Behind(found.next),
+        Placed::Elsewhere(p) => Judged::Refused(Refusal::BaseElsewhere { record, base: p.0 }),
+    }
+}
+
+// A record with a name against what its index line says: 21, then its sequence.
+fn judge_entry(fasta: &[u8], start: usize, def: &[u8], name: Span, line: &[u8], x: Record, record: u64) -> Judged
+    requires { ⌜ (name .start + name .length ≤ length (now def)) × (x .«name_start» + x .«name_length» ≤ length (now line)) × (0 < x .«line_bases») ⌝ }
+    ensures { λ r. ⌜ r ≡ judgedAs (entrySays «record» start (spanOf (now (def .entry)) name) (seqAt (now (fasta .entry)) start) (nameIn (now (line .entry)) x) x) (start + sumWidths (seqAt (now (fasta .entry)) start)) ⌝ }
+{
+    if same_name(def, name, line, x) {
+        return judge_sequence(fasta, start, x, record);
+    }
+    Judged::Refused(Refusal::NameDiffers { record })
+}
+
+// A record with a name against its index line, which has no bytes where there is none: 19, 9 to 12, then what it says.
+fn judge_named(fasta: &[u8], start: usize, def: &[u8], name: Span, line: &[u8], record: u64) -> Judged
+    requires { ⌜ name .start + name .length ≤ length (now def) ⌝ }
+    ensures { λ r. ⌜ r ≡ judgedAs (againstLines «record» start (spanOf (now (def .entry)) name) (seqAt (now (fasta .entry)) start) (onlyLine (now (line .entry)))) (start + sumWidths (seqAt (now (fasta .entry)) start)) ⌝ }
+{
+    if line.len() == 0 {
+        return Judged::Refused(Refusal::LineAbsent { record });
+    }
+    match index_line::parse_line(line, record) {
+        LineRead::Refused(r) => Judged::Refused(r),
+        LineRead::Row(e) => {
+            let x = e.record;
+            judge_entry(fasta, start, def, name, line, x, record)
+        }
+    }
+}
+
+// A record, whose sequence begins at `start`, against its index line: 2 to 4, then the line.
+fn judge_record(fasta: &[u8], start: usize, def: &[u8], line: &[u8], record: u64) -> Judged
+    ensures { λ r. ⌜ r ≡ judgedAs (recordSays «record» start (groupOf (now (def .entry)) (now (fasta .entry)) start) (onlyLine (now (line .entry)))) (start + sumWidths (seqAt (now (fasta .entry)) start)) ⌝ }
+{
+    match definition::parse_line(def) {
+        Parsed::Bad(f) => Judged::Refused(f.refusal(record)),
+        Parsed::Named(d) => {
+            let name = d.name;
+            judge_named(fasta, start, def, name, line, record)
+        }
+    }
+}
+
+// Checks the record at a place.
+fn check_record(fasta: &[u8], index: &[u8], w: Place) -> Step
+    requires { ⌜ (w .records ≤ w .fasta) × (w .fasta < length (now fasta)) × (w .index ≤ length (now index)) ⌝ }
+    ensures { λ r. ⌜ r ≡ stepOf (now (fasta .entry)) (now (index .entry)) w ⌝ }
+{
+    let at = w.fasta;
+    let start = lines::line_end(fasta, at);
+    let line = w.index;
+    let behind = lines::line_end(index, line);
+    let record = w.records + 1;
+    match judge_record(fasta, start, &fasta[at..start], &index[line..behind], record) {
+        Judged::Refused(r) => Step::Refused(r),
+        Judged::Behind(next) => Step::Next(Place {
+            fasta: next,
+            index: behind,
+            records: record,
+        }),
+    }
+}
+
+// Checks an index against its file.
+pub fn check(fasta: &[u8], index: &[u8]) -> Verdict
+    ensures { λ r. ⌜ r ≡ checkOf (now (fasta .entry)) (now (index .entry)) ⌝ }
+{
+    if refusal::over_limit(fasta.len()) {
+        return Verdict::Refused(Refusal::TooLong);
+    }
+    if refusal::over_limit(index.len()) {
+        return Verdict::Refused(Refusal::TooLong);
+    }
+    let mut w = Place {
+        fasta: 0,
+        index: 0,
+        records: 0,
+    };
+    while w.fasta < fasta.len() {
+        match check_record(fasta, index, w) {
+            Step::Refused(r) => {
+                return Verdict::Refused(r);
+            }
+            Step::Next(next) => {
+                w = next;
+            }
+        }
+    }
+    if w.index < index.len() {
+        return Verdict::Refused(Refusal::BytesLeft { records: w.records });
+    }
+    Verdict::Accepted
+}

@@ -1,0 +1,157 @@
+// The walk over a record's lines, beside the rows that the numbers of its index line describe: how many bases there are, and whether
+// each lies where those numbers say. One pass, no division, and no sum that was not compared before.
+use record::Offset;
+use record::Position;
+use record::Record;
+ghost use mathlib.Core.Path.{_≡_};
+ghost use Prim.Native.Nat.{_+_, _-_, _^_, _≤_, _<_};
+ghost use lib.Dec.{eqb};
+ghost use Rattle.lines.specs.Lines.{seqAt};
+ghost use Rattle.record.specs.Place.{placeOf, placeIn};
+ghost use Rattle.checker.specs.Places.{walkedAs};
+ghost use Rattle.checker.specs.Walk.{LineJudged, MovedOn, WalkedLine};
+
+// Is every base where the numbers say, or which is the first that is not.
+pub enum Placed {
+    There,
+    Elsewhere(Position),
+}
+
+// The row of the next base: where it begins, and how many of its bases are passed. A row that would begin past the largest
+// offset begins there.
+struct Row {
+    start: Offset,
+    passed: u64,
+}
+
+// A part of a sequence: how many bases it has, where they are, and the row behind them.
+struct Walk {
+    bases: u64,
+    placed: Placed,
+    row: Row,
+}
+
+// A whole sequence: how many bases it has, where they are, and the offset behind it.
+pub struct Walked {
+    pub bases: u64,
+    pub placed: Placed,
+    pub next: usize,
+}
+
+const LARGEST: u64 = 18446744073709551615;
+
+// Is `at` where the row has its next base.
+fn is_next(row: Row, at: Offset) -> bool
+    ensures { λ r. ⌜ r ≡ eqb (at .0) (row .start .0 + row .passed) ⌝ }
+{
+    if at.0 < row.start.0 {
+        return false;
+    }
+    at.0 - row.start.0 == row.passed
+}
+
+// One line's bases, which lie from `at` on, behind `before` others.
+fn judge_line(row: Row, row_bases: u64, before: u64, at: Offset, bases: u64) -> Placed
+    requires { ⌜ (row .passed < «row_bases») × (before ≤ at .0) × (at .0 + bases < 2 ^ 64) ⌝ }
+    ensures { λ r. ⌜ LineJudged row «row_bases» before at bases r ⌝ }
+{
+    if bases == 0 {
+        return Placed::There;
+    }
+    if is_next(row, at) {
+        let left = row_bases - row.passed;
+        if bases <= left {
+            return Placed::There;
+        }
+        return Placed::Elsewhere(Position(before + left + 1));
+    }
+    Placed::Elsewhere(Position(before + 1))
+}
+
+// The row behind some bases, which end in this row.
+fn moved_on(row: Row, row_bases: u64, row_width: u64, bases: u64) -> Row
+    requires { ⌜ row .passed < «row_bases» ⌝ }
+    ensures { λ r. ⌜ MovedOn row «row_bases» «row_width» bases r ⌝ }
+{
+    let start = row.start;
+    if bases < row_bases - row.passed {
+        return Row {
+            start,
+            passed: row.passed + bases,
+        };
+    }
+    if LARGEST - start.0 < row_width {
+        return Row {
+            start: Offset(LARGEST),
+            passed: 0,
+        };
+    }
+    Row {
+        start: Offset(start.0 + row_width),
+        passed: 0,
+    }
+}
+
+// One line more: its bases lie from `at` on.
+fn walk_line(walk: Walk, row_bases: u64, row_width: u64, at: Offset, bases: u64) -> Walk
+    requires { ⌜ (walk .row .passed < «row_bases») × (walk .bases ≤ at .0) × (at .0 + bases < 2 ^ 64) × («row_width» ≡ «row_bases» → 2 ^ 64 - 1 ≤ «row_bases») ⌝ }
+    ensures { λ r. ⌜ WalkedLine «row_bases» «row_width» walk at bases r ⌝ }
+{
+    let placed = walk.placed;
+    let row = walk.row;
+    let all = walk.bases + bases;
+    match placed {
+        Placed::Elsewhere(p) => Walk {
+            bases: all,
+            placed: Placed::Elsewhere(p),
+            row,
+        },
+        Placed::There => {
+            let here = judge_line(row, row_bases, walk.bases, at, bases);
+            let next = moved_on(row, row_bases, row_width, bases);
+            Walk {
+                bases: all,
+                placed: here,
+                row: next,
+            }
+        }
+    }
+}
+
+// The sequence from `at` on, against a record whose rows have `row_bases` bases.
+fn walk_rows(s: &[u8], at: usize, x: Record, row_bases: u64) -> Walked
+    requires { ⌜ (0 < «row_bases») × (x .«line_width» ≡ «row_bases» → 2 ^ 64 - 1 ≤ «row_bases») ⌝ }
+    ensures { λ r. ⌜ r ≡ walkedAs (placeOf (x .position .0) «row_bases» (x .«line_width»)) at (seqAt (now (s .entry)) at) ⌝ }
+{
+    let row_width = x.line_width;
+    let start = x.position;
+    let mut walk = Walk {
+        bases: 0,
+        placed: Placed::There,
+        row: Row { start, passed: 0 },
+    };
+    let mut i = at;
+    while !lines::sequence_ends(s, i) {
+        let e = lines::line_end(s, i);
+        let bases = lines::base_count(&s[i..e]);
+        walk = walk_line(walk, row_bases, row_width, Offset(i as u64), bases as u64);
+        i = e;
+    }
+    let placed = walk.placed;
+    Walked {
+        bases: walk.bases,
+        placed,
+        next: i,
+    }
+}
+
+// The sequence from `at` on, against a record. Rows with no byte between them are one row.
+pub(crate) fn walk_sequence(s: &[u8], at: usize, x: Record) -> Walked
+    requires { ⌜ 0 < x .«line_bases» ⌝ }
+    ensures { λ r. ⌜ r ≡ walkedAs (placeIn x) at (seqAt (now (s .entry)) at) ⌝ }
+{
+    if x.line_width == x.line_bases {
+        return walk_rows(s, at, x, LARGEST);
+    }
+    walk_rows(s, at, x, x.line_bases)
+}

@@ -1,0 +1,96 @@
+-- `index_line::read_number` meets its contract. The loop's invariant: the digits passed make `value`, and the number from here, with
+-- those before it, is the number from the start. Each way out is a law of `numberFrom`.
+-- Assumes nothing.
+use Prim.Native.Nat.{_≤_, _<_, _+_, _-_, _*_, _^_}
+use mathlib.Core.Path.{_≡_, sym, _∙_}
+use borrow.Author.Needs.{needs}
+use native.Mathlib.Omega.{arith}
+use lib.ListN.{length, drop, getD}
+use Rattle.index_line.specs.Decimal.{numberFrom, numberOf}
+use Rattle.index_line.specs.Digits.{number-none, number-start, number-end, number-low, number-high, number-more, number-over}
+use Rattle.index_line.proofs.decimal.read_number.Statement.{statement}
+use Rattle.index_line.proofs.decimal.read_number.Tie as tie
+
+abbrev Inv-loop : tie.InvT-loop
+Inv-loop s value₀ i₀ value i = (i ≤ length s) × ((value < 2 ^ 64) × (numberFrom value (drop i s) ≡ numberOf s))
+
+abbrev μ-loop : tie.MeasureT-loop
+μ-loop s value₀ i₀ value i = length s - i
+
+returns : tie.Need-returns Inv-loop μ-loop
+returns c = number-none _ (c .if1 .taken)
+
+loop-holds : tie.Need-loop-holds Inv-loop μ-loop
+loop-holds c = (omega arith, (omega arith, number-start _ (c .if1 .left)))
+
+shared-slice-read-wide : tie.Need-shared-slice-read-wide Inv-loop μ-loop
+shared-slice-read-wide c = omega arith
+
+wide-requires : tie.Need-wide-requires Inv-loop μ-loop
+wide-requires c κs = search needs
+
+returns-2 : tie.Need-returns-2 Inv-loop μ-loop
+returns-2 c =
+    let l = c .before .before .before .before in
+    sym (number-low _ (l .loop .value) (l .loop .i) (c .before .before .before .loop-test .taken) (omega arith)) ∙ l .loop .inv .1 .1
+
+returns-3 : tie.Need-returns-3 Inv-loop μ-loop
+returns-3 c =
+    let l = c .before .before .before .before .before in
+    sym (number-high _ (l .loop .value) (l .loop .i) (c .before .before .before .before .loop-test .taken) (omega arith)) ∙ l .loop .inv .1 .1
+
+sub-if4 : tie.Need-sub-if4 Inv-loop μ-loop
+sub-if4 c = omega arith
+
+-- with the digit read, the number from the next place on is the number
+turn : (c : tie.Else3 Inv-loop μ-loop)
+    → (let l = c .before .before .before .before .before in
+    let s = l .before .before .before .args .s .now in
+    numberFrom (l .loop .value * 10 + (getD s (l .loop .i) 0 - 48)) (drop (l .loop .i + 1) s) ≡ numberOf s)
+turn c =
+    let l = c .before .before .before .before .before in
+    sym (number-more _ (l .loop .value) (l .loop .i) (c .before .before .before .before .loop-test .taken) (omega arith) (omega arith)) ∙ l .loop .inv .1 .1
+
+returns-4 : tie.Need-returns-4 Inv-loop μ-loop
+returns-4 c = sym (number-over _ _ (omega arith)) ∙ turn (c .before)
+
+mul-value : tie.Need-mul-value Inv-loop μ-loop
+mul-value c = omega arith
+
+add-value : tie.Need-add-value Inv-loop μ-loop
+add-value c = omega arith
+
+add-i : tie.Need-add-i Inv-loop μ-loop
+add-i c = omega arith
+
+loop-less : tie.Need-loop-less Inv-loop μ-loop
+loop-less c = omega arith
+
+loop-again : tie.Need-loop-again Inv-loop μ-loop
+loop-again c = (omega arith, (omega arith, rw (c .before .before .before .wide .ensures) (turn (c .before))))
+
+returns-5 : tie.Need-returns-5 Inv-loop μ-loop
+returns-5 c =
+    let l = c .before in
+    sym (number-end _ (l .loop .value) (l .loop .i) (c .loop-test .left) (l .loop .inv .1 .0)) ∙ l .loop .inv .1 .1
+
+pub read-number-spec : {M : Type 1} → statement M
+read-number-spec =
+    tie.close
+    (tie.spec
+    Inv-loop
+    μ-loop
+    returns
+    loop-holds
+    shared-slice-read-wide
+    wide-requires
+    returns-2
+    returns-3
+    sub-if4
+    returns-4
+    mul-value
+    add-value
+    add-i
+    loop-less
+    loop-again
+    returns-5)

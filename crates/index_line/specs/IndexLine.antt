@@ -1,0 +1,102 @@
+-- What an index line says, and how one is written.
+use Prim.Native.Nat.{ℕ}
+use mathlib.Core.List.{List, [], _∷_, _++_}
+use mathlib.Core.Bool.{Bool, true, false, cond, not, _&&_}
+use lib.ListN.{length, getD, take, drop}
+use Rattle.refusal.specs.declared.Refusal.{Refusal}
+use Rattle.refusal.specs.declared.Refusal.the-variants.{TooLong, EmptyIndexLine}
+use Rattle.refusal.specs.Numbers.{overLimit}
+use Rattle.lines.specs.Lines.{chop, ends, contentOf}
+use Rattle.record.specs.declared.Record.{Record}
+use Rattle.record.specs.declared.Held.{Held}
+use Rattle.record.specs.declared.Held.the-variants as held
+use Rattle.record.specs.Row.{namedAt}
+use Rattle.index_line.specs.Fields.{cutAt, Numbers, numbersFrom, textOf, Wrote, wrote, textWritten}
+use Rattle.index_line.specs.Fields.Numbers.{Are, Not}
+use Rattle.index_line.specs.declared.Entry.{Entry}
+use Rattle.index_line.specs.declared.Written.the-variants.{Refused}
+use Rattle.index_line.specs.declared.LineRead.{LineRead}
+use Rattle.index_line.specs.declared.LineRead.the-variants as read
+
+-- ---- reading
+
+-- the fields of a line's content, which is cut at the first four tabs; an empty line has none
+unfoldable pub fieldsOf : List ℕ → List (List ℕ)
+fieldsOf [] = []
+fieldsOf (b ∷ l) = cutAt 4 (b ∷ l)
+
+-- the record of a name of n bytes at the front of its line, and of the four numbers
+abbrev pub recordOf : ℕ → List ℕ → Record
+recordOf n vs = record {
+  «name_start» = 0;
+  «name_length» = n;
+  length = getD vs 0 0;
+  position = record { 0 = getD vs 1 0 };
+  «line_bases» = getD vs 2 0;
+  «line_width» = getD vs 3 0;
+}
+
+abbrev pub rowOf : ℕ → Numbers → LineRead
+rowOf n (Are vs plain) = read.Row (record { «record» = recordOf n vs; plain = plain })
+rowOf n (Not r) = read.Refused r
+
+-- what the fields of a line say: the first is the name, which may be empty, and four numbers follow
+abbrev pub fieldsSay : ℕ → List (List ℕ) → LineRead
+fieldsSay line [] = read.Refused (EmptyIndexLine line)
+fieldsSay line (name ∷ fs) = rowOf (length name) (numbersFrom line 2 4 fs)
+
+-- what the content of a line says; `line` is the number told in refusals
+unfoldable pub contentSays : ℕ → List ℕ → LineRead
+contentSays line l = fieldsSay line (fieldsOf l)
+
+-- does a line end in LF with no CR before it
+unfoldable pub plainEnd : List ℕ → Bool
+plainEnd l = ends 10 l && not (ends 13 (chop 10 l))
+
+-- an entry is plain only if p
+abbrev pub onlyIf : Bool → LineRead → LineRead
+onlyIf p (read.Row e) = read.Row (record { «record» = e .«record»; plain = p && e .plain })
+onlyIf p (read.Refused r) = read.Refused r
+
+-- what a line says: a final LF, and one CR before it, come off. It is plain if it reads, ends in LF with no CR before it, and no
+-- number has a needless leading zero
+unfoldable pub lineSays : ℕ → List ℕ → LineRead
+lineSays line l = onlyIf (plainEnd l) (contentSays line (contentOf l))
+
+-- the name of a line: its first field
+abbrev pub firstOf : List (List ℕ) → List ℕ
+firstOf [] = []
+firstOf (f ∷ fs) = f
+
+unfoldable pub nameOf : List ℕ → List ℕ
+nameOf l = firstOf (fieldsOf (contentOf l))
+
+-- the two calls on a line that is read alone: refusal 1 comes first, and the line is line 1
+unfoldable pub readContent : List ℕ → LineRead
+readContent l = cond (overLimit (length l)) (read.Refused TooLong) (contentSays 1 l)
+
+unfoldable pub readLine : List ℕ → LineRead
+readLine l = cond (overLimit (length l)) (read.Refused TooLong) (lineSays 1 l)
+
+-- ---- writing
+
+-- the four numbers of a line
+abbrev pub numbersOf : Record → List ℕ
+numbersOf x = x .length ∷ x .position .0 ∷ x .«line_bases» ∷ x .«line_width» ∷ []
+
+-- the line of a name and a record: name, tab, four decimal numbers with tabs between, LF
+unfoldable pub lineOf : List ℕ → Record → List ℕ
+lineOf name x = textOf name (numbersOf x)
+
+-- a record's name, which is a span of some bytes
+unfoldable pub nameIn : List ℕ → Record → List ℕ
+nameIn names x = take (x .«name_length») (drop (x .«name_start») names)
+
+-- the line of a row that holds a record
+abbrev pub rowWritten : List ℕ → List ℕ → Held → Wrote
+rowWritten names out (held.Refused r) = wrote (Refused r) out
+rowWritten names out (held.Row x) = textWritten (nameIn names x) (numbersOf x) out
+
+-- writing the line of row r of a table with n rows in use, whose names are spans of `names`: 1, 25, 13, 14
+unfoldable pub writtenAs : List ℕ → List ℕ → ℕ → ℕ → List ℕ → Wrote
+writtenAs names t n r out = cond (overLimit (length names)) (wrote (Refused TooLong) out) (rowWritten names out (namedAt t n r (length names)))

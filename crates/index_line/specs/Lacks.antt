@@ -1,0 +1,64 @@
+-- Bytes of which none passes a test; and that digits, and so the text of numbers, have no tab and no CR among them.
+use Prim.Native.Nat.{ℕ, zero, suc, _+_, _/_, _%_, _^_, _≤_}
+use mathlib.Core.Path.{_≡_, refl, sym, ap, _∙_}
+use mathlib.Core.List.{List, [], _∷_, _++_}
+use mathlib.Core.Bool.{Bool, true, false, cond}
+use native.Mathlib.Omega.{arith}
+use lib.ListN.{length}
+use lib.Dec.{eqb}
+use Rattle.lines.specs.Lines.{ends}
+use Rattle.index_line.specs.Bytes.{firstWhere}
+use Rattle.index_line.specs.Decimal.{digits, width, decimalOf}
+use Rattle.index_line.specs.Fields.{tabbed, numbersText}
+
+abbrev pub Lacks : (ℕ → Bool) → List ℕ → Type 0
+Lacks p l = firstWhere p l ≡ length l
+
+module _ (p : ℕ → Bool) where
+  pub lacks-head : (b : ℕ) (l : List ℕ) → Lacks p (b ∷ l) → p b ≡ false
+  unfolding firstWhere
+  lacks-head b l h = go (p b) refl h
+    where
+      go : (t : Bool) → p b ≡ t → cond t 0 (suc (firstWhere p l)) ≡ suc (length l) → p b ≡ false
+      go true e k = absurd (omega arith)
+      go false e k = e
+
+  pub lacks-tail : (b : ℕ) (l : List ℕ) → Lacks p (b ∷ l) → Lacks p l
+  unfolding firstWhere
+  lacks-tail b l h = let k = rw (lacks-head b l h) at h in omega arith
+
+  pub lacks-cons : (b : ℕ) (l : List ℕ) → p b ≡ false → Lacks p l → Lacks p (b ∷ l)
+  unfolding firstWhere
+  lacks-cons b l e h = rw (e, h)
+
+  lacks-append : (l m : List ℕ) → Lacks p l → Lacks p m → Lacks p (l ++ m)
+  lacks-append [] m h k = k
+  lacks-append (b ∷ l) m h k = lacks-cons b (l ++ m) (lacks-head b l h) (lacks-append l m (lacks-tail b l h) k)
+
+  pub lacks-less : (q : ℕ → Bool) → ((b : ℕ) → p b ≡ false → q b ≡ false) → (l : List ℕ) → Lacks p l → Lacks q l
+  unfolding firstWhere
+  lacks-less q f [] h = refl
+  lacks-less q f (b ∷ l) h = rw (f b (lacks-head b l h), lacks-less q f l (lacks-tail b l h))
+
+  -- a test that no digit passes
+  module _ (f : (b : ℕ) → 48 ≤ b → p b ≡ false) where
+    digits-lack : (k n : ℕ) → Lacks p (digits k n)
+    unfolding digits firstWhere
+    digits-lack zero n = refl
+    digits-lack (suc k) n = lacks-cons (48 + n / 10 ^ k % 10) (digits k n) (f _ (omega arith)) (digits-lack k n)
+
+    pub decimal-lacks : (n : ℕ) → Lacks p (decimalOf n)
+    unfolding decimalOf
+    decimal-lacks n = digits-lack (width n) n
+
+    pub text-lacks : p 9 ≡ false → (ns : List ℕ) → Lacks p (numbersText ns)
+    unfolding tabbed firstWhere
+    text-lacks t [] = refl
+    text-lacks t (n ∷ ns) = lacks-cons 9 (decimalOf n ++ numbersText ns) t (lacks-append (decimalOf n) (numbersText ns) (decimal-lacks n) (text-lacks t ns))
+
+-- bytes without a b do not end in it
+pub lacks-ends : (b : ℕ) (l : List ℕ) → Lacks (λ (x : ℕ). eqb x b) l → ends b l ≡ false
+unfolding ends
+lacks-ends b [] h = refl
+lacks-ends b (x ∷ []) h = lacks-head (λ (y : ℕ). eqb y b) x [] h
+lacks-ends b (x ∷ y ∷ l) h = lacks-ends b (y ∷ l) (lacks-tail (λ (z : ℕ). eqb z b) x (y ∷ l) h)

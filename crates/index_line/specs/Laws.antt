@@ -1,0 +1,135 @@
+-- What is known of a line that reads.
+use Prim.Native.Nat.{ℕ, suc, _+_, _^_, _≤_, _<_}
+use mathlib.Core.Path.{_≡_, refl, sym, ap, _∙_}
+use mathlib.Core.List.{List, [], _∷_, _++_}
+use mathlib.Core.Bool.{Bool, true, false, _&&_, true≢false}
+use native.Mathlib.Omega.{arith}
+use lib.ListN.{length, getD, take, length-append}
+use lib.Seq.{take-at, take-take}
+use lib.Dec.{eqb}
+use borrow.Author.Tests.{eqb-false}
+use Rattle.lines.specs.Lines.{contentOf}
+use Rattle.lines.specs.Laws.{content-le, content-front}
+use Rattle.record.specs.declared.Record.{Record}
+use Rattle.index_line.specs.Fields.{cutAt, tabbed, Numbers, numbersFrom}
+use Rattle.index_line.specs.Fields.Numbers.{Are, Not}
+use Rattle.index_line.specs.Numbers.{Reads, numbers-read, reads-say, reads-allowed}
+use Rattle.index_line.specs.Cut.{cut-text}
+use Rattle.index_line.specs.IndexLine.{fieldsOf, recordOf, rowOf, fieldsSay, contentSays, plainEnd, onlyIf, lineSays, nameOf}
+use Rattle.index_line.specs.declared.Entry.{Entry}
+use Rattle.index_line.specs.declared.LineRead.{LineRead}
+use Rattle.index_line.specs.declared.LineRead.the-variants.{Row, Refused}
+
+-- a record whose numbers can stand in a line: they fit 64 bits, and line bases and line width are not 0
+pub record Lined (x : Record) : Type 0 where
+  pub some-bases : 1 ≤ x .«line_bases»
+  pub some-width : 1 ≤ x .«line_width»
+  pub fits-length : x .length < 2 ^ 64
+  pub fits-position : x .position .0 < 2 ^ 64
+  pub fits-bases : x .«line_bases» < 2 ^ 64
+  pub fits-width : x .«line_width» < 2 ^ 64
+
+-- ---- the content of a line that reads: a name, and four fields that are numbers
+
+pub record ContentRead (l : List ℕ) (e : Entry) : Type 0 where
+  pub name : List ℕ
+  pub fields : List (List ℕ)
+  pub numbers : List ℕ
+  pub cut : fieldsOf l ≡ name ∷ fields
+  pub reads : Reads 2 4 fields numbers (e .plain)
+  pub same : e .«record» ≡ recordOf (length name) numbers
+
+pub content-known : (line : ℕ) (l : List ℕ) (e : Entry) → contentSays line l ≡ Row e → ContentRead l e
+unfolding contentSays
+content-known line l e h = go (fieldsOf l) refl h
+  where
+    row : (name : List ℕ) (fs : List (List ℕ)) → fieldsOf l ≡ name ∷ fs → (ns : Numbers) → numbersFrom line 2 4 fs ≡ ns → rowOf (length name) ns ≡ Row e → ContentRead l e
+    row name fs c (Not r) q k = let z : _≡_ {A = ℕ} 0 1 = cc in absurd (omega arith)
+    row name fs c (Are vs p) q k =
+        let b : e .plain ≡ p = cc in
+        record { name = name; fields = fs; numbers = vs; cut = c; reads = rw b (numbers-read line 2 4 fs vs p q); same = cc }
+
+    go : (fs : List (List ℕ)) → fieldsOf l ≡ fs → fieldsSay line fs ≡ Row e → ContentRead l e
+    go [] c k = let z : _≡_ {A = ℕ} 0 1 = cc in absurd (omega arith)
+    go (name ∷ fs) c k = row name fs c (numbersFrom line 2 4 fs) refl k
+
+-- the number of the line stands only in refusals
+pub content-said : (line : ℕ) (l : List ℕ) (e : Entry) → ContentRead l e → contentSays line l ≡ Row e
+unfolding contentSays
+content-said line l e x = rw (x .cut, reads-say line (x .reads), ← x .same)
+
+pub content-any : (line other : ℕ) (l : List ℕ) (e : Entry) → contentSays line l ≡ Row e → contentSays other l ≡ Row e
+content-any line other l e h = content-said other l e (content-known line l e h)
+
+-- its fields, cut from it
+pub fields-cut : (l f : List ℕ) (fs : List (List ℕ)) → fieldsOf l ≡ f ∷ fs → cutAt 4 l ≡ f ∷ fs
+unfolding fieldsOf
+fields-cut [] f fs e = let z : _≡_ {A = ℕ} 0 1 = cc in absurd (omega arith)
+fields-cut (b ∷ l) f fs e = e
+
+-- ---- a line that reads
+
+pub record LineIs (l : List ℕ) (e : Entry) : Type 0 where
+  pub content : Entry
+  pub known : ContentRead (contentOf l) content
+  pub same : e .«record» ≡ content .«record»
+  pub plain : e .plain ≡ (plainEnd l && content .plain)
+
+pub line-known : (line : ℕ) (l : List ℕ) (e : Entry) → lineSays line l ≡ Row e → LineIs l e
+unfolding lineSays
+line-known line l e h = go (contentSays line (contentOf l)) refl h
+  where
+    go : (r : LineRead) → contentSays line (contentOf l) ≡ r → onlyIf (plainEnd l) r ≡ Row e → LineIs l e
+    go (Refused r) c k = let z : _≡_ {A = ℕ} 0 1 = cc in absurd (omega arith)
+    go (Row x) c k = record { content = x; known = content-known line (contentOf l) x c; same = cc; plain = cc }
+
+pub line-any : (line other : ℕ) (l : List ℕ) (e : Entry) → lineSays line l ≡ Row e → lineSays other l ≡ Row e
+unfolding lineSays
+line-any line other l e h = go (contentSays line (contentOf l)) refl h
+  where
+    go : (r : LineRead) → contentSays line (contentOf l) ≡ r → onlyIf (plainEnd l) r ≡ Row e → onlyIf (plainEnd l) (contentSays other (contentOf l)) ≡ Row e
+    go (Refused r) c k = let z : _≡_ {A = ℕ} 0 1 = cc in absurd (omega arith)
+    go (Row x) c k = rw (content-any line other (contentOf l) x c) k
+
+-- its record: the name is the front of the line, and the numbers can stand in a line
+pub record LineSound (l : List ℕ) (x : Record) : Type 0 where
+  pub start : x .«name_start» ≡ 0
+  pub name : take (x .«name_length») l ≡ nameOf l
+  pub inside : x .«name_length» ≤ length l
+  pub lined : Lined x
+
+name-front : (l name : List ℕ) (fs : List (List ℕ)) → fieldsOf (contentOf l) ≡ name ∷ fs → (take (length name) l ≡ name) × (length name ≤ length l)
+name-front l name fs e =
+    let c = cut-text 4 (contentOf l) name fs (fields-cut (contentOf l) name fs e) in
+    let n : length name ≤ length (contentOf l) = rw c (omega (arith, length-append name (tabbed fs))) in
+    let t : take (length name) (contentOf l) ≡ name = rw c (take-at name (tabbed fs) (length name) refl) in
+    (sym (take-take (length name) (length (contentOf l)) l n) ∙ ap (take (length name)) (content-front l) ∙ t, omega (arith, content-le l))
+
+not-zero : (v : ℕ) → (eqb v 0 && true) ≡ false → 1 ≤ v
+not-zero v h = go (eqb v 0) refl h
+  where
+    go : (t : Bool) → eqb v 0 ≡ t → (t && true) ≡ false → 1 ≤ v
+    go true e k = absurd (true≢false k)
+    go false e k = omega (arith, eqb-false v 0 e)
+
+pub line-sound : (line : ℕ) (l : List ℕ) (e : Entry) → lineSays line l ≡ Row e → LineSound l (e .«record»)
+unfolding nameOf
+line-sound line l e h =
+    let k = line-known line l e h in
+    let c = k .known in
+    let n = name-front l (c .name) (c .fields) (c .cut) in
+    let a = reads-allowed (c .reads) in
+    rw (k .same, c .same)
+    (record {
+      start = refl;
+      name = rw (c .cut) (n .0);
+      inside = n .1;
+      lined = record {
+        some-bases = not-zero _ (a 2 (omega arith) .1);
+        some-width = not-zero _ (a 3 (omega arith) .1);
+        fits-length = a 0 (omega arith) .0;
+        fits-position = a 1 (omega arith) .0;
+        fits-bases = a 2 (omega arith) .0;
+        fits-width = a 3 (omega arith) .0;
+      };
+    })

@@ -1,0 +1,14 @@
+pub mod Bytes
+pub mod Decimal
+pub mod Digits
+pub mod Fields
+pub mod Reading
+pub mod Writing
+pub mod Lacks
+pub mod Numbers
+pub mod Cut
+pub mod IndexLine
+pub mod Ends
+pub mod Content
+pub mod Laws
+pub mod RoundTrip

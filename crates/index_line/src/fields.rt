@@ -1,0 +1,223 @@
+// A line of a name and numbers with tabs between, read by fields from the left, and written. How many numbers a line has is the
+// caller's to say, by the table of numbers that it lends.
+use crate::Number;
+use crate::Written;
+use crate::decimal;
+use refusal::Refusal;
+ghost use mathlib.Core.Path.{_≡_};
+ghost use Prim.Native.Nat.{_+_, _*_, _^_, _<_, _≤_};
+ghost use lib.ListN.{length, take, drop};
+ghost use Rattle.index_line.specs.Bytes.{firstWhere, overlaid};
+ghost use Rattle.index_line.specs.Fields.{zeroBarred, fieldSays, numbersFrom, numbersText, textOf, splits, wrote, textWritten};
+ghost use Rattle.index_line.specs.Reading.{isTab, fieldLen, behind, told};
+ghost use Rattle.index_line.specs.Writing.{NumbersPut};
+
+// A field that is a number: its value, how many bytes it has, and whether it has no needless leading zero.
+pub struct Field {
+    pub value: u64,
+    pub length: usize,
+    pub plain: bool,
+}
+
+// A field read as a number, or why it is none.
+pub enum FieldRead {
+    Good(Field),
+    Refused(Refusal),
+}
+
+// All numbers are read, and none has a needless leading zero or some have; or why they are not.
+pub enum NumbersRead {
+    All { plain: bool },
+    Refused(Refusal),
+}
+
+// The place of the first tab; the length where there is none.
+fn first_tab(l: &[u8]) -> usize
+    ensures { λ r. ⌜ r ≡ firstWhere isTab (now (l .entry)) ⌝ }
+{
+    let mut i = 0;
+    while i < l.len() {
+        if l[i] == 9 {
+            return i;
+        }
+        i += 1;
+    }
+    i
+}
+
+// How many bytes the first field of `l` has, where so many tabs cut.
+pub fn field_length(l: &[u8], tabs: usize) -> usize
+    ensures { λ r. ⌜ r ≡ fieldLen tabs (now (l .entry)) ⌝ }
+{
+    if tabs == 0 {
+        return l.len();
+    }
+    first_tab(l)
+}
+
+// Is a value 0 where it may not be: in field 4 and in field 5.
+fn zero_barred(place: u64, value: u64) -> bool
+    ensures { λ r. ⌜ r ≡ zeroBarred place value ⌝ }
+{
+    if value != 0 {
+        return false;
+    }
+    if place == 4 {
+        return true;
+    }
+    place == 5
+}
+
+// Reads a field that is a number. Refusals tell the line and the field's place in it.
+fn whole_field(f: &[u8], line: u64, place: u64) -> FieldRead
+    ensures { λ r. ⌜ r ≡ fieldSays line place (now (f .entry)) ⌝ }
+{
+    match decimal::read_number(f) {
+        Number::Bad => FieldRead::Refused(Refusal::NotANumber { line, field: place }),
+        Number::Value(value) => {
+            if zero_barred(place, value) {
+                return FieldRead::Refused(Refusal::ZeroField { line, field: place });
+            }
+            let plain = decimal::plain_number(f);
+            FieldRead::Good(Field {
+                value,
+                length: f.len(),
+                plain,
+            })
+        }
+    }
+}
+
+// Reads the number at the front of `rest`, which is what stands behind a tab, and where so many more tabs cut.
+fn number_field(rest: &[u8], tabs: usize, line: u64, place: u64) -> FieldRead
+    ensures { λ r. ⌜ r ≡ fieldSays line place (take (fieldLen tabs (now (rest .entry))) (now (rest .entry))) ⌝ }
+{
+    let length = field_length(rest, tabs);
+    whole_field(&rest[..length], line, place)
+}
+
+// Reads as many numbers as the table has, each behind a tab; the first tab stands at `tab`, or that is the end.
+pub(crate) fn read_numbers(
+    content: &[u8],
+    tab: usize,
+    line: u64,
+    numbers: &mut [u64],
+) -> NumbersRead
+    requires { ⌜ length (now numbers) ≤ 5 ⌝ }
+    ensures { λ r. ⌜ told r (now (numbers .exit)) ≡ numbersFrom line 2 (length (now (numbers .entry))) (behind (length (now (numbers .entry))) (drop tab (now (content .entry)))) ⌝ }
+{
+    let mut at = tab;
+    let mut plain = true;
+    let mut place: u64 = 2;
+    let mut i = 0;
+    while i < numbers.len() {
+        if content.len() <= at {
+            return NumbersRead::Refused(Refusal::FieldAbsent { line, field: place });
+        }
+        let start = at + 1;
+        match number_field(&content[start..], numbers.len() - i - 1, line, place) {
+            FieldRead::Refused(r) => {
+                return NumbersRead::Refused(r);
+            }
+            FieldRead::Good(f) => {
+                numbers[i] = f.value;
+                plain = plain & f.plain;
+                at = start + f.length;
+            }
+        }
+        place += 1;
+        i += 1;
+    }
+    NumbersRead::All { plain }
+}
+
+// The place of the first tab or LF of a name; the length where there is none.
+fn name_split(name: &[u8]) -> usize
+    ensures { λ r. ⌜ r ≡ firstWhere splits (now (name .entry)) ⌝ }
+{
+    let mut i = 0;
+    while i < name.len() {
+        let b = name[i];
+        if b == 9 {
+            return i;
+        }
+        if b == 10 {
+            return i;
+        }
+        i += 1;
+    }
+    i
+}
+
+// How many bytes a name and numbers are written with.
+fn text_length(name: &[u8], numbers: &[u64]) -> usize
+    requires { ⌜ length (now name) + 21 * length (now numbers) + 1 < 2 ^ 64 ⌝ }
+    ensures { λ r. ⌜ r ≡ length (textOf (now (name .entry)) (now (numbers .entry))) ⌝ }
+{
+    let mut n = name.len() + 1;
+    let mut i = 0;
+    while i < numbers.len() {
+        n = n + 1 + decimal::digit_count(numbers[i]);
+        i += 1;
+    }
+    n
+}
+
+// Puts some bytes at the front of the output.
+fn put_front(s: &[u8], out: &mut [u8])
+    requires { ⌜ length (now s) ≤ length (now out) ⌝ }
+    ensures { λ _. ⌜ now (out .exit) ≡ overlaid (now (out .entry)) 0 (now (s .entry)) ⌝ }
+{
+    let mut i = 0;
+    while i < s.len() {
+        out[i] = s[i];
+        i += 1;
+    }
+}
+
+// Puts numbers, each with a tab before it, from place `at` on; tells the place behind them.
+fn put_numbers(numbers: &[u64], out: &mut [u8], at: usize) -> usize
+    requires { ⌜ at + length (numbersText (now numbers)) ≤ length (now out) ⌝ }
+    ensures { λ r. ⌜ NumbersPut (now (numbers .entry)) (now (out .entry)) at r (now (out .exit)) ⌝ }
+{
+    let mut place = at;
+    let mut i = 0;
+    while i < numbers.len() {
+        out[place] = 9;
+        place += 1;
+        place += decimal::write_number(numbers[i], out, place);
+        i += 1;
+    }
+    place
+}
+
+// Puts a name and numbers with tabs between, and an LF, at the front of the output.
+fn put_text(name: &[u8], numbers: &[u64], out: &mut [u8])
+    requires { ⌜ length (textOf (now name) (now numbers)) ≤ length (now out) ⌝ }
+    ensures { λ _. ⌜ now (out .exit) ≡ overlaid (now (out .entry)) 0 (textOf (now (name .entry)) (now (numbers .entry))) ⌝ }
+{
+    put_front(name, out);
+    let end = put_numbers(numbers, out, name.len());
+    out[end] = 10;
+}
+
+// The same, if the name has no tab and no LF, and if there is room.
+pub(crate) fn write_text(name: &[u8], numbers: &[u64], out: &mut [u8]) -> Written
+    requires { ⌜ length (now name) + 21 * length (now numbers) + 1 < 2 ^ 64 ⌝ }
+    ensures { λ r. ⌜ wrote r (now (out .exit)) ≡ textWritten (now (name .entry)) (now (numbers .entry)) (now (out .entry)) ⌝ }
+{
+    let place = name_split(name);
+    if place < name.len() {
+        return Written::Refused(Refusal::NameSplit {
+            place: place as u64,
+        });
+    }
+    let needed = text_length(name, numbers);
+    if out.len() < needed {
+        return Written::Refused(Refusal::NoRoom {
+            needed: needed as u64,
+        });
+    }
+    put_text(name, numbers, out);
+    Written::Bytes(needed)
+}

@@ -1,0 +1,116 @@
+// Index lines: a record's name and its four numbers, with tabs between.
+mod decimal;
+mod fields;
+
+use fields::NumbersRead;
+use record::Held;
+use record::Offset;
+use record::Record;
+use refusal::Refusal;
+ghost use mathlib.Core.Path.{_≡_};
+ghost use Rattle.index_line.specs.IndexLine.{contentSays, lineSays, readContent, readLine, writtenAs};
+ghost use Rattle.index_line.specs.Fields.{wrote};
+pub use decimal::digit_count;
+pub use decimal::plain_number;
+pub use decimal::read_number;
+pub use decimal::write_number;
+
+// A number read: its value, or that it is none.
+pub enum Number {
+    Value(u64),
+    Bad,
+}
+
+// What an index line says: a record, whose name's span counts from the line's start; and whether the line is plain.
+pub struct Entry {
+    pub record: Record,
+    pub plain: bool,
+}
+
+// A line read, or why it is refused.
+pub enum LineRead {
+    Row(Entry),
+    Refused(Refusal),
+}
+
+// How many bytes were written, or why none.
+pub enum Written {
+    Bytes(usize),
+    Refused(Refusal),
+}
+
+// Reads the content of line number `line`, which has no end. Of content, plain means that no number has a needless leading zero.
+pub fn parse_record(content: &[u8], line: u64) -> LineRead
+    ensures { λ r. ⌜ r ≡ contentSays line (now (content .entry)) ⌝ }
+{
+    if content.len() == 0 {
+        return LineRead::Refused(Refusal::EmptyIndexLine { line });
+    }
+    let name = fields::field_length(content, 4);
+    let mut numbers: [u64; 4] = [0; 4];
+    match fields::read_numbers(content, name, line, &mut numbers) {
+        NumbersRead::Refused(r) => LineRead::Refused(r),
+        NumbersRead::All { plain } => {
+            let unnamed = Record::unnamed(numbers[0], Offset(numbers[1]), numbers[2], numbers[3]);
+            let record = unnamed.named(0, name as u64);
+            LineRead::Row(Entry { record, plain })
+        }
+    }
+}
+
+// Reads line number `line` with its end: one final LF, and one CR before it, come off.
+pub fn parse_line(l: &[u8], line: u64) -> LineRead
+    ensures { λ r. ⌜ r ≡ lineSays line (now (l .entry)) ⌝ }
+{
+    let length = lines::content_length(l);
+    let ended = l.len() - length == 1;
+    match parse_record(&l[..length], line) {
+        LineRead::Refused(r) => LineRead::Refused(r),
+        LineRead::Row(e) => {
+            let record = e.record;
+            LineRead::Row(Entry {
+                record,
+                plain: ended & e.plain,
+            })
+        }
+    }
+}
+
+// Reads the content of a line that stands alone.
+pub fn read_content(content: &[u8]) -> LineRead
+    ensures { λ r. ⌜ r ≡ readContent (now (content .entry)) ⌝ }
+{
+    if refusal::over_limit(content.len()) {
+        return LineRead::Refused(Refusal::TooLong);
+    }
+    parse_record(content, 1)
+}
+
+// Reads a line, with its end, that stands alone.
+pub fn read_line(l: &[u8]) -> LineRead
+    ensures { λ r. ⌜ r ≡ readLine (now (l .entry)) ⌝ }
+{
+    if refusal::over_limit(l.len()) {
+        return LineRead::Refused(Refusal::TooLong);
+    }
+    parse_line(l, 1)
+}
+
+// Writes the line of row `row` to the front of the output. The table has `in_use` rows in use, and its names are spans of `names`.
+pub fn write_line(names: &[u8], table: &[u64], in_use: usize, row: usize, out: &mut [u8]) -> Written
+    ensures { λ r. ⌜ wrote r (now (out .exit)) ≡ writtenAs (now (names .entry)) (now (table .entry)) in_use row (now (out .entry)) ⌝ }
+{
+    if refusal::over_limit(names.len()) {
+        return Written::Refused(Refusal::TooLong);
+    }
+    match Record::named_row(table, in_use, row, names.len()) {
+        Held::Refused(r) => Written::Refused(r),
+        Held::Row(x) => {
+            let start = x.name_start as usize;
+            let end = start + x.name_length as usize;
+            let position = x.position;
+            let numbers: [u64; 4] = [x.length, position.0, x.line_bases, x.line_width];
+            fields::write_text(&names[start..end], &numbers, out)
+        }
+    }
+}
