@@ -1,0 +1,3 @@
+pub mod ReadsLaws
+pub mod Reads
+pub mod Marked
