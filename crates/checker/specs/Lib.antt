@@ -3,3 +3,10 @@ pub mod PlaceLaws
 pub mod Walk
 pub mod Check
 pub mod Steps
+pub mod Examples
+pub mod Accepts
+pub mod FirstFault
+pub mod Said
+pub mod Exactly
+pub mod Faults
+pub mod Sequences

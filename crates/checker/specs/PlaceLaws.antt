@@ -11,6 +11,7 @@ use native.Mathlib.Nat.{add-zero, zero-add}
 use Rattle.lines.specs.Lines.{lines, onto, chop, begins, seqOf, seqAt, sumBases, sumWidths, basesAt}
 use Rattle.lines.specs.Laws.{chop-le}
 use Rattle.record.specs.EvenLines.{length-basesAt}
+use Rattle.record.specs.declared.Position.{Position}
 use Rattle.checker.specs.Places.{firstElsewhere, walkedAs}
 use Rattle.checker.specs.declared.walk.Placed.{Placed}
 use Rattle.checker.specs.declared.walk.Placed.the-variants.{There, Elsewhere}
@@ -47,6 +48,32 @@ module _ (f : ℕ → ℕ) where
     where
       q : i + suc m ≡ suc i + m
       q = omega arith
+
+  -- the first base elsewhere, in words: every base is at its place, or base j is the first that is not
+  pub data PlacesSaid (i : ℕ) (os : List ℕ) : Placed → Type 0 where
+    all : ((j : ℕ) → j < length os → getD os j 0 ≡ f (i + j)) → PlacesSaid i os There
+    one : (p : Position) (j : ℕ) → p .0 ≡ suc (i + j) → j < length os → ((m : ℕ) → m < j → getD os m 0 ≡ f (i + m)) → (getD os j 0 ≡ f (i + j) → ⊥) → PlacesSaid i os (Elsewhere p)
+
+  pub places-only : (i : ℕ) (os : List ℕ) (p : Placed) → PlacesSaid i os p → p ≡ firstElsewhere f i os
+  places-only i os p (all h) = all-there i os h
+  places-only i os p (one q j e l h n) = ap (λ (k : ℕ). Elsewhere (record { 0 = k })) e ∙ first-elsewhere i j os l h n
+
+  pub places-said : (i : ℕ) (os : List ℕ) → PlacesSaid i os (firstElsewhere f i os)
+  unfolding firstElsewhere
+  places-said i [] = all (λ j h. absurd (omega arith))
+  places-said i (o ∷ os) = go (eqb o (f i)) refl (firstElsewhere f (suc i) os) (places-said (suc i) os)
+    where
+      here : o ≡ f i → o ≡ f (i + 0)
+      here e = e ∙ ap f (sym (add-zero i))
+
+      more : (n : ℕ) → o ≡ f i → ((m : ℕ) → m < n → getD os m 0 ≡ f (suc i + m)) → (m : ℕ) → m < suc n → getD (o ∷ os) m 0 ≡ f (i + m)
+      more n e h zero l = here e
+      more n e h (suc m) l = h m (omega arith) ∙ ap f (omega arith)
+
+      go : (t : Bool) → eqb o (f i) ≡ t → (p : Placed) → PlacesSaid (suc i) os p → PlacesSaid i (o ∷ os) (cond t p (Elsewhere (record { 0 = suc i })))
+      go false e p s = one (record { 0 = suc i }) 0 (omega arith) (omega arith) (λ m l. absurd (omega arith)) (λ g. eqb-false _ _ e (g ∙ ap f (add-zero i)))
+      go true e p (all h) = all (more (length os) (eqb-true _ _ e) h)
+      go true e p (one q j g l h n) = one q (suc j) (omega arith) (omega arith) (more j (eqb-true _ _ e) h) (λ k. n (k ∙ ap f (omega arith)))
 
   pub elsewhere-append : (i : ℕ) (xs ys : List ℕ) → firstElsewhere f i (xs ++ ys) ≡ firstOf (firstElsewhere f i xs) (firstElsewhere f (i + length xs) ys)
   unfolding firstElsewhere

@@ -197,27 +197,27 @@ module _ (i : List ℕ) (a : ℕ) where
 
 module _ (f i : List ℕ) (w : Place) (h : w .index ≤ length i) (start behind : ℕ) (p : start ≡ lineEnd f (w .fasta)) (q : behind ≡ lineEnd i (w .index)) (j : Judged)
     (k : j ≡ judgedAs (recordSays (w .records + 1) start (groupOf (part f (w .fasta) start) f start) (onlyLine (part i (w .index) behind))) (start + sumWidths (seqAt f start)))
-    where
-  judged-place : j ≡ judgedAs (placeSays f i w) (placeBehind f i w .fasta)
-  unfolding placeSays
-  judged-place = k ∙ rw (p, q, next-line i (w .index) h)
+  where
+    judged-place : j ≡ judgedAs (placeSays f i w) (placeBehind f i w .fasta)
+    unfolding placeSays
+    judged-place = k ∙ rw (p, q, next-line i (w .index) h)
 
-  pub stepped-refused : (r : Refusal) → j ≡ judged.Refused r → step.Refused r ≡ stepOf f i w
-  unfolding stepOf judgedAs
-  stepped-refused r e = go (placeSays f i w) (sym judged-place ∙ e)
-    where
-      go : (v : Verdict) → judgedAs v (placeBehind f i w .fasta) ≡ judged.Refused r → step.Refused r ≡ steppedAs v (placeBehind f i w)
-      go Accepted g = let z : _≡_ {A = ℕ} 0 1 = cc in absurd (omega arith)
-      go (Refused x) g = cc
+    pub stepped-refused : (r : Refusal) → j ≡ judged.Refused r → step.Refused r ≡ stepOf f i w
+    unfolding stepOf judgedAs
+    stepped-refused r e = go (placeSays f i w) (sym judged-place ∙ e)
+      where
+        go : (v : Verdict) → judgedAs v (placeBehind f i w .fasta) ≡ judged.Refused r → step.Refused r ≡ steppedAs v (placeBehind f i w)
+        go Accepted g = let z : _≡_ {A = ℕ} 0 1 = cc in absurd (omega arith)
+        go (Refused x) g = cc
 
-  pub stepped-next : (n : ℕ) → j ≡ judged.Behind n → step.Next (record { fasta = n; index = behind; records = w .records + 1 }) ≡ stepOf f i w
-  unfolding stepOf judgedAs
-  stepped-next n e = rw q (go (placeSays f i w) (sym judged-place ∙ e))
-    where
-      go : (v : Verdict) → judgedAs v (placeBehind f i w .fasta) ≡ judged.Behind n
-          → step.Next (record { fasta = n; index = lineEnd i (w .index); records = w .records + 1 }) ≡ steppedAs v (placeBehind f i w)
-      go Accepted g = cc
-      go (Refused x) g = let z : _≡_ {A = ℕ} 0 1 = cc in absurd (omega arith)
+    pub stepped-next : (n : ℕ) → j ≡ judged.Behind n → step.Next (record { fasta = n; index = behind; records = w .records + 1 }) ≡ stepOf f i w
+    unfolding stepOf judgedAs
+    stepped-next n e = rw q (go (placeSays f i w) (sym judged-place ∙ e))
+      where
+        go : (v : Verdict) → judgedAs v (placeBehind f i w .fasta) ≡ judged.Behind n
+            → step.Next (record { fasta = n; index = lineEnd i (w .index); records = w .records + 1 }) ≡ steppedAs v (placeBehind f i w)
+        go Accepted g = cc
+        go (Refused x) g = let z : _≡_ {A = ℕ} 0 1 = cc in absurd (omega arith)
 
 -- ---- from place to place
 
@@ -233,7 +233,7 @@ module _ (f i : List ℕ) (w : Place) where
       let c = linesAt-cut f (w .fasta) h in
       let q : w .fasta + length (part f (w .fasta) (lineEnd f (w .fasta))) ≡ lineEnd f (w .fasta) =
       omega (arith, part-length f (w .fasta) (lineEnd f (w .fasta)) (lineEnd-le f (w .fasta) (omega arith))) in
-      rw (c, groups-cut, ← lines-next f (w .fasta) _ _ c, q, lines-tail i (w .index), ← add-one) (go (placeSays f i w))
+      rw (c, groups-cut, ← lines-next f (w .fasta) _ _ c, q, lines-tail i (w .index), ← add-one (w .records)) (go (placeSays f i w))
     where
       go : (v : Verdict) → andThen v (checkAt f i (placeBehind f i w)) ≡ after f i (steppedAs v (placeBehind f i w))
       go Accepted = refl

@@ -196,11 +196,11 @@ module _ (b w : ℕ) (v : Walk) (at : Offset) (k : ℕ) where
   walked-there said next e l f g j m = record {
     goes-on = λ p os o.
         let r : v .row ≡ rowOf p b w (v .bases) = rw (o .bases) (o .row e) in record {
-      bases = rw (length-append, length-upFrom) (omega (arith, o .bases));
-      placed = rw (elsewhere-append, ← o .placed, e, zero-add, ← o .bases) (j .says p w r (λ h. omega (arith, g h)));
-      row = λ h. rw (length-append, length-upFrom, ← o .bases) (m .behind p (v .bases) r (j .within h));
-      inside = m .inside;
-    };
+          bases = rw (length-append, length-upFrom) (omega (arith, o .bases));
+          placed = rw (elsewhere-append, ← o .placed, e, zero-add, ← o .bases) (j .says p w r (λ h. omega (arith, g h)));
+          row = λ h. rw (length-append, length-upFrom, ← o .bases) (m .behind p (v .bases) r (j .within h));
+          inside = m .inside;
+        };
   }
 
 -- ---- the walk over the lines of a sequence

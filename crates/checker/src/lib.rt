@@ -73,7 +73,15 @@ fn judge_sequence(fasta: &[u8], start: usize, x: Record, record: u64) -> Judged
 }
 
 // A record with a name against what its index line says: 21, then its sequence.
-fn judge_entry(fasta: &[u8], start: usize, def: &[u8], name: Span, line: &[u8], x: Record, record: u64) -> Judged
+fn judge_entry(
+    fasta: &[u8],
+    start: usize,
+    def: &[u8],
+    name: Span,
+    line: &[u8],
+    x: Record,
+    record: u64,
+) -> Judged
     requires { ⌜ (name .start + name .length ≤ length (now def)) × (x .«name_start» + x .«name_length» ≤ length (now line)) × (0 < x .«line_bases») ⌝ }
     ensures { λ r. ⌜ r ≡ judgedAs (entrySays «record» start (spanOf (now (def .entry)) name) (seqAt (now (fasta .entry)) start) (nameIn (now (line .entry)) x) x) (start + sumWidths (seqAt (now (fasta .entry)) start)) ⌝ }
 {
@@ -84,7 +92,14 @@ fn judge_entry(fasta: &[u8], start: usize, def: &[u8], name: Span, line: &[u8], 
 }
 
 // A record with a name against its index line, which has no bytes where there is none: 19, 9 to 12, then what it says.
-fn judge_named(fasta: &[u8], start: usize, def: &[u8], name: Span, line: &[u8], record: u64) -> Judged
+fn judge_named(
+    fasta: &[u8],
+    start: usize,
+    def: &[u8],
+    name: Span,
+    line: &[u8],
+    record: u64,
+) -> Judged
     requires { ⌜ name .start + name .length ≤ length (now def) ⌝ }
     ensures { λ r. ⌜ r ≡ judgedAs (againstLines «record» start (spanOf (now (def .entry)) name) (seqAt (now (fasta .entry)) start) (onlyLine (now (line .entry)))) (start + sumWidths (seqAt (now (fasta .entry)) start)) ⌝ }
 {
@@ -123,7 +138,13 @@ fn check_record(fasta: &[u8], index: &[u8], w: Place) -> Step
     let line = w.index;
     let behind = lines::line_end(index, line);
     let record = w.records + 1;
-    match judge_record(fasta, start, &fasta[at..start], &index[line..behind], record) {
+    match judge_record(
+        fasta,
+        start,
+        &fasta[at..start],
+        &index[line..behind],
+        record,
+    ) {
         Judged::Refused(r) => Step::Refused(r),
         Judged::Behind(next) => Step::Next(Place {
             fasta: next,

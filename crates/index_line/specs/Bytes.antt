@@ -1,6 +1,6 @@
 -- Bytes: the first of a kind, and bytes laid over others.
-use Prim.Native.Nat.{ℕ, zero, suc, _+_, _-_, _≤_, _<_}
-use mathlib.Core.Path.{_≡_, refl, sym, ap, _∙_}
+use Prim.Native.Nat.{ℕ, suc, _+_, _-_, _≤_, _<_}
+use mathlib.Core.Path.{_≡_, sym, ap, _∙_}
 use mathlib.Core.List.{List, [], _∷_, _++_, append-assoc}
 use mathlib.Core.Bool.{Bool, true, false, cond}
 use native.Mathlib.Omega.{arith}
@@ -8,7 +8,7 @@ use native.Mathlib.Numerals.{add-one}
 use native.Mathlib.Nat.{add-zero, zero-add, add-assoc, suc-add, add-suc}
 use lib.ListN.{length, take, drop, getD, set, length-append, length-drop, take-append-drop, drop-of-length-le}
 use lib.Seq.{drop-cons, take-all, length-take-le, take-suc, set-at, set-split, append-snoc, take-at, drop-append-add, drop-drop}
-use lib.Dec.{ltb}
+use lib.Dec.{eqb, ltb}
 use borrow.Author.Tests.{lt-ltb, le-ltb}
 
 -- some bytes, with s from a place on
@@ -18,6 +18,10 @@ overlaid out at s = take at out ++ (s ++ drop (at + length s) out)
 -- the same if there is room for all of s; else as they were
 unfoldable pub laidAt : List ℕ → ℕ → List ℕ → List ℕ
 laidAt out at s = cond (ltb (length out) (at + length s)) out (overlaid out at s)
+
+-- is a byte b
+abbrev pub is : ℕ → ℕ → Bool
+is b x = eqb x b
 
 -- the place of the first byte that passes a test; the length where there is none
 unfoldable pub firstWhere : (ℕ → Bool) → List ℕ → ℕ

@@ -10,7 +10,8 @@ use borrow.Author.Tests.{eqb-true, ne-eqb}
 use Rattle.lines.specs.Lines.{onto}
 use Rattle.index_line.specs.Decimal.{decimalOf}
 use Rattle.index_line.specs.Fields.{cutAt, tabbed, numbersText}
-use Rattle.index_line.specs.Reading.{isTab, cut-first}
+use Rattle.index_line.specs.Bytes.{is}
+use Rattle.index_line.specs.Reading.{cut-first}
 use Rattle.index_line.specs.Lacks.{Lacks, lacks-head, lacks-tail, decimal-lacks}
 
 -- fields with tabs between
@@ -57,15 +58,15 @@ cut-most (suc k) (b ∷ l) = go (eqb b 9) (cut-most k l) (cut-most (suc k) l)
     go false h m = onto-most b (suc k) (cutAt (suc k) l) m
 
 -- a field without a tab is cut off at the tab behind it
-cut-here : (k : ℕ) (f r : List ℕ) → Lacks isTab f → cutAt (suc k) (f ++ (9 ∷ r)) ≡ f ∷ cutAt k r
+cut-here : (k : ℕ) (f r : List ℕ) → Lacks (is 9) f → cutAt (suc k) (f ++ (9 ∷ r)) ≡ f ∷ cutAt k r
 unfolding cutAt
 cut-here k [] r h = refl
-cut-here k (b ∷ f) r h = rw (lacks-head isTab b f h, cut-here k f r (lacks-tail isTab b f h))
+cut-here k (b ∷ f) r h = rw (lacks-head (is 9) b f h, cut-here k f r (lacks-tail (is 9) b f h))
 
 -- a name without a tab and numbers as they are written are cut into the name and the numbers
-pub text-cut : (f ns : List ℕ) → Lacks isTab f → cutAt (length ns) (f ++ numbersText ns) ≡ f ∷ map decimalOf ns
+pub text-cut : (f ns : List ℕ) → Lacks (is 9) f → cutAt (length ns) (f ++ numbersText ns) ≡ f ∷ map decimalOf ns
 unfolding tabbed cutAt
 text-cut f [] h = rw append-nil
 text-cut f (n ∷ ns) h =
     cut-here (length ns) f (decimalOf n ++ numbersText ns) h
-    ∙ ap (λ (r : List (List ℕ)). f ∷ r) (text-cut (decimalOf n) ns (decimal-lacks isTab (λ b l. ne-eqb b 9 (λ e. omega arith)) n))
+    ∙ ap (λ (r : List (List ℕ)). f ∷ r) (text-cut (decimalOf n) ns (decimal-lacks (is 9) (λ b l. ne-eqb b 9 (λ e. omega arith)) n))

@@ -1,9 +1,8 @@
 -- Reading and writing share these facts over the number of digits.
 use Prim.Native.Nat.{ℕ, zero, suc, _+_, _-_, _*_, _/_, _%_, _^_, _≤_, _<_}
-use mathlib.Core.Path.{_≡_, refl, sym, ap, subst, _∙_}
+use mathlib.Core.Path.{_≡_, refl, sym, ap, _∙_}
 use mathlib.Core.List.{List, [], _∷_}
 use mathlib.Core.Bool.{Bool, true, false, cond, not, _&&_, true≢false}
-use mathlib.Core.Logic.{⊎-elim}
 use native.Mathlib.Omega.{arith}
 use native.Mathlib.Numerals.{add-one}
 use native.Mathlib.Nat.{pow-succ', pow-le-pow-right, one-le-pow, add-mul, mul-assoc, mul-le-mul-right, mod-eq-of-lt, div-eq-of-lt-le, div-div-eq-div-mul, lt-of-not-le, le-trans, add-zero, suc-add, add-suc, le-div-iff-mul-le, div-lt-iff-lt-mul, mul-comm}
@@ -12,9 +11,8 @@ use lib.ListN.{length, getD, drop, drop-of-length-le}
 use lib.Seq.{drop-cons}
 use lib.Dec.{ltb, leb, eqb, lit<}
 use borrow.Author.Tests.{lt-ltb, le-ltb, ltb-true, ltb-false, le-leb, lt-leb, leb-true, ne-eqb, eqb-false, not-true}
-use Rattle.index_line.specs.declared.Number.{Number}
 use Rattle.index_line.specs.declared.Number.the-variants.{Value, Bad}
-use Rattle.index_line.specs.Decimal.{isDigit, allDigits, valueFrom, numberFrom, numberOf, plainNumber, digits, widthFrom, width, decimalOf}
+use Rattle.index_line.specs.Decimal.{allDigits, valueFrom, numberFrom, numberOf, plainNumber, digits, widthFrom, width, decimalOf}
 
 -- ---- reading, from a place on
 

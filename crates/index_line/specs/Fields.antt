@@ -1,13 +1,13 @@
 -- A line of a name and numbers with tabs between, read by fields from the left, and written.
 use Prim.Native.Nat.{ℕ, zero, suc}
 use mathlib.Core.List.{List, [], _∷_, _++_, map}
-use mathlib.Core.Bool.{Bool, true, false, cond, _&&_, _||_}
+use mathlib.Core.Bool.{Bool, true, cond, _&&_, _||_}
 use lib.ListN.{length, drop}
 use lib.Dec.{eqb, ltb}
 use Rattle.refusal.specs.declared.Refusal.{Refusal}
 use Rattle.refusal.specs.declared.Refusal.the-variants.{FieldAbsent, NotANumber, ZeroField, NameSplit, NoRoom}
 use Rattle.lines.specs.Lines.{onto}
-use Rattle.index_line.specs.Bytes.{firstWhere}
+use Rattle.index_line.specs.Bytes.{is, firstWhere}
 use Rattle.index_line.specs.Decimal.{numberOf, plainNumber, decimalOf}
 use Rattle.index_line.specs.declared.Number.{Number}
 use Rattle.index_line.specs.declared.Number.the-variants.{Value, Bad}
@@ -71,7 +71,7 @@ textOf name ns = name ++ (numbersText ns ++ (10 ∷ []))
 
 -- a tab or an LF, which may not stand in a name that is written
 abbrev pub splits : ℕ → Bool
-splits b = eqb b 9 || eqb b 10
+splits b = is 9 b || is 10 b
 
 -- an answer of writing, and the output afterwards
 pub record Wrote : Type 0 where

@@ -1,9 +1,8 @@
 -- What an index line says, and how one is written.
 use Prim.Native.Nat.{ℕ}
-use mathlib.Core.List.{List, [], _∷_, _++_}
-use mathlib.Core.Bool.{Bool, true, false, cond, not, _&&_}
+use mathlib.Core.List.{List, [], _∷_}
+use mathlib.Core.Bool.{Bool, cond, not, _&&_}
 use lib.ListN.{length, getD, take, drop}
-use Rattle.refusal.specs.declared.Refusal.{Refusal}
 use Rattle.refusal.specs.declared.Refusal.the-variants.{TooLong, EmptyIndexLine}
 use Rattle.refusal.specs.Numbers.{overLimit}
 use Rattle.lines.specs.Lines.{chop, ends, contentOf}
@@ -13,7 +12,6 @@ use Rattle.record.specs.declared.Held.the-variants as held
 use Rattle.record.specs.Row.{namedAt}
 use Rattle.index_line.specs.Fields.{cutAt, Numbers, numbersFrom, textOf, Wrote, wrote, textWritten}
 use Rattle.index_line.specs.Fields.Numbers.{Are, Not}
-use Rattle.index_line.specs.declared.Entry.{Entry}
 use Rattle.index_line.specs.declared.Written.the-variants.{Refused}
 use Rattle.index_line.specs.declared.LineRead.{LineRead}
 use Rattle.index_line.specs.declared.LineRead.the-variants as read

@@ -1,13 +1,12 @@
 -- Bytes of which none passes a test; and that digits, and so the text of numbers, have no tab and no CR among them.
 use Prim.Native.Nat.{ℕ, zero, suc, _+_, _/_, _%_, _^_, _≤_}
-use mathlib.Core.Path.{_≡_, refl, sym, ap, _∙_}
+use mathlib.Core.Path.{_≡_, refl}
 use mathlib.Core.List.{List, [], _∷_, _++_}
 use mathlib.Core.Bool.{Bool, true, false, cond}
 use native.Mathlib.Omega.{arith}
 use lib.ListN.{length}
-use lib.Dec.{eqb}
 use Rattle.lines.specs.Lines.{ends}
-use Rattle.index_line.specs.Bytes.{firstWhere}
+use Rattle.index_line.specs.Bytes.{is, firstWhere}
 use Rattle.index_line.specs.Decimal.{digits, width, decimalOf}
 use Rattle.index_line.specs.Fields.{tabbed, numbersText}
 
@@ -57,8 +56,8 @@ module _ (p : ℕ → Bool) where
     text-lacks t (n ∷ ns) = lacks-cons 9 (decimalOf n ++ numbersText ns) t (lacks-append (decimalOf n) (numbersText ns) (decimal-lacks n) (text-lacks t ns))
 
 -- bytes without a b do not end in it
-pub lacks-ends : (b : ℕ) (l : List ℕ) → Lacks (λ (x : ℕ). eqb x b) l → ends b l ≡ false
+pub lacks-ends : (b : ℕ) (l : List ℕ) → Lacks (is b) l → ends b l ≡ false
 unfolding ends
 lacks-ends b [] h = refl
-lacks-ends b (x ∷ []) h = lacks-head (λ (y : ℕ). eqb y b) x [] h
-lacks-ends b (x ∷ y ∷ l) h = lacks-ends b (y ∷ l) (lacks-tail (λ (z : ℕ). eqb z b) x (y ∷ l) h)
+lacks-ends b (x ∷ []) h = lacks-head (is b) x [] h
+lacks-ends b (x ∷ y ∷ l) h = lacks-ends b (y ∷ l) (lacks-tail (is b) x (y ∷ l) h)

@@ -1,24 +1,43 @@
--- What is known of a line that reads.
-use Prim.Native.Nat.{ℕ, suc, _+_, _^_, _≤_, _<_}
+-- What the code finds of a line is what the line says; and what is known of a line that reads.
+use Prim.Native.Nat.{ℕ, _^_, _≤_, _<_}
 use mathlib.Core.Path.{_≡_, refl, sym, ap, _∙_}
-use mathlib.Core.List.{List, [], _∷_, _++_}
+use mathlib.Core.List.{List, [], _∷_}
 use mathlib.Core.Bool.{Bool, true, false, _&&_, true≢false}
 use native.Mathlib.Omega.{arith}
-use lib.ListN.{length, getD, take, length-append}
-use lib.Seq.{take-at, take-take}
+use lib.ListN.{length, take, drop, length-append}
+use lib.Seq.{take-at, take-take, length-take-le}
 use lib.Dec.{eqb}
 use borrow.Author.Tests.{eqb-false}
+use Rattle.refusal.specs.declared.Refusal.the-variants.{EmptyIndexLine}
 use Rattle.lines.specs.Lines.{contentOf}
 use Rattle.lines.specs.Laws.{content-le, content-front}
 use Rattle.record.specs.declared.Record.{Record}
 use Rattle.index_line.specs.Fields.{cutAt, tabbed, Numbers, numbersFrom}
 use Rattle.index_line.specs.Fields.Numbers.{Are, Not}
+use Rattle.index_line.specs.Reading.{fieldLen, fieldLen-le, behind, cut-first}
 use Rattle.index_line.specs.Numbers.{Reads, numbers-read, reads-say, reads-allowed}
 use Rattle.index_line.specs.Cut.{cut-text}
 use Rattle.index_line.specs.IndexLine.{fieldsOf, recordOf, rowOf, fieldsSay, contentSays, plainEnd, onlyIf, lineSays, nameOf}
 use Rattle.index_line.specs.declared.Entry.{Entry}
 use Rattle.index_line.specs.declared.LineRead.{LineRead}
 use Rattle.index_line.specs.declared.LineRead.the-variants.{Row, Refused}
+
+-- ---- the content of a line, by its first field
+
+pub content-empty : (line : ℕ) (l : List ℕ) → length l ≡ 0 → Refused (EmptyIndexLine line) ≡ contentSays line l
+unfolding contentSays fieldsOf
+content-empty line [] h = refl
+content-empty line (b ∷ l) h = absurd (omega arith)
+
+pub content-says : (line : ℕ) (l : List ℕ) → (length l ≡ 0 → ⊥)
+    → contentSays line l ≡ rowOf (fieldLen 4 l) (numbersFrom line 2 4 (behind 4 (drop (fieldLen 4 l) l)))
+unfolding contentSays fieldsOf
+content-says line [] h = absurd (h refl)
+content-says line (b ∷ l) h =
+    rw (cut-first 4 (b ∷ l))
+    (ap (λ (n : ℕ). rowOf n (numbersFrom line 2 4 (behind 4 (drop (fieldLen 4 (b ∷ l)) (b ∷ l))))) (length-take-le _ _ (fieldLen-le 4 (b ∷ l))))
+
+-- ---- a line that reads
 
 -- a record whose numbers can stand in a line: they fit 64 bits, and line bases and line width are not 0
 pub record Lined (x : Record) : Type 0 where
@@ -29,8 +48,7 @@ pub record Lined (x : Record) : Type 0 where
   pub fits-bases : x .«line_bases» < 2 ^ 64
   pub fits-width : x .«line_width» < 2 ^ 64
 
--- ---- the content of a line that reads: a name, and four fields that are numbers
-
+-- its content: a name, and four fields that are numbers
 pub record ContentRead (l : List ℕ) (e : Entry) : Type 0 where
   pub name : List ℕ
   pub fields : List (List ℕ)
@@ -67,8 +85,7 @@ unfolding fieldsOf
 fields-cut [] f fs e = let z : _≡_ {A = ℕ} 0 1 = cc in absurd (omega arith)
 fields-cut (b ∷ l) f fs e = e
 
--- ---- a line that reads
-
+-- the line itself, by its content
 pub record LineIs (l : List ℕ) (e : Entry) : Type 0 where
   pub content : Entry
   pub known : ContentRead (contentOf l) content

@@ -2,11 +2,10 @@
 use Prim.Native.Nat.{ℕ, zero, suc, _+_, _^_, _≤_, _<_}
 use mathlib.Core.Path.{_≡_, refl, sym, ap, _∙_}
 use mathlib.Core.List.{List, [], _∷_, map}
-use mathlib.Core.Bool.{Bool, true, false, cond, _&&_, true≢false}
+use mathlib.Core.Bool.{Bool, true, false, _&&_, true≢false}
 use native.Mathlib.Omega.{arith}
 use native.Mathlib.Nat.{add-zero, suc-add, add-suc}
 use lib.ListN.{length, getD}
-use Rattle.refusal.specs.declared.Refusal.{Refusal}
 use Rattle.index_line.specs.Decimal.{decimalOf}
 use Rattle.index_line.specs.Digits.{read-written, written-plain, write-read, number-fits}
 use Rattle.index_line.specs.Fields.{zeroBarred, fieldSays, Numbers, front, numbersFrom}

@@ -11,25 +11,21 @@ use lib.Dec.{eqb}
 use Rattle.refusal.specs.declared.Refusal.{Refusal}
 use Rattle.refusal.specs.declared.Refusal.the-variants.{FieldAbsent, NotANumber, ZeroField}
 use Rattle.lines.specs.Lines.{onto}
-use Rattle.index_line.specs.Bytes.{firstWhere, first-le}
+use Rattle.index_line.specs.Bytes.{is, firstWhere, first-le}
 use Rattle.index_line.specs.Decimal.{numberOf, plainNumber}
 use Rattle.index_line.specs.Fields.{cutAt, zeroBarred, placed, fieldSays, Numbers, front, numbersFrom}
 use Rattle.index_line.specs.Fields.Numbers.{Are, Not}
 use Rattle.index_line.specs.declared.Number.{Number}
 use Rattle.index_line.specs.declared.Number.the-variants.{Value, Bad}
 use Rattle.index_line.specs.declared.fields.Field.{Field}
-use Rattle.index_line.specs.declared.fields.FieldRead.{FieldRead}
 use Rattle.index_line.specs.declared.fields.FieldRead.the-variants as field
 use Rattle.index_line.specs.declared.fields.NumbersRead.{NumbersRead}
 use Rattle.index_line.specs.declared.fields.NumbersRead.the-variants as read
 
-abbrev pub isTab : ℕ → Bool
-isTab b = eqb b 9
-
 -- how many bytes the first field has, where k tabs cut
 unfoldable pub fieldLen : ℕ → List ℕ → ℕ
 fieldLen zero l = length l
-fieldLen (suc k) l = firstWhere isTab l
+fieldLen (suc k) l = firstWhere (is 9) l
 
 -- the fields behind a place where a tab stands, or behind the end, where k tabs cut from that place on
 unfoldable pub behind : ℕ → List ℕ → List (List ℕ)
@@ -52,25 +48,25 @@ after vs p (Not r) = Not r
 pub fieldLen-le : (k : ℕ) (l : List ℕ) → fieldLen k l ≤ length l
 unfolding fieldLen
 fieldLen-le zero l = omega arith
-fieldLen-le (suc k) l = first-le isTab l
+fieldLen-le (suc k) l = first-le (is 9) l
 
 pub len-all : (k : ℕ) (l : List ℕ) → k ≡ 0 → length l ≡ fieldLen k l
 unfolding fieldLen
 len-all zero l h = refl
 len-all (suc k) l h = absurd (omega arith)
 
-pub len-tab : (k : ℕ) (l : List ℕ) → (k ≡ 0 → ⊥) → firstWhere isTab l ≡ fieldLen k l
+pub len-tab : (k : ℕ) (l : List ℕ) → (k ≡ 0 → ⊥) → firstWhere (is 9) l ≡ fieldLen k l
 unfolding fieldLen
 len-tab zero l h = absurd (h refl)
 len-tab (suc k) l h = refl
 
-cut-tab : (k : ℕ) (l : List ℕ) → cutAt (suc k) l ≡ take (firstWhere isTab l) l ∷ behind (suc k) (drop (firstWhere isTab l) l)
+cut-tab : (k : ℕ) (l : List ℕ) → cutAt (suc k) l ≡ take (firstWhere (is 9) l) l ∷ behind (suc k) (drop (firstWhere (is 9) l) l)
 unfolding cutAt behind firstWhere
 cut-tab k [] = refl
 cut-tab k (b ∷ l) = go (eqb b 9) (cut-tab k l)
   where
-    go : (t : Bool) → cutAt (suc k) l ≡ take (firstWhere isTab l) l ∷ behind (suc k) (drop (firstWhere isTab l) l)
-        → cond t ([] ∷ cutAt k l) (onto b (cutAt (suc k) l)) ≡ take (cond t 0 (suc (firstWhere isTab l))) (b ∷ l) ∷ behind (suc k) (drop (cond t 0 (suc (firstWhere isTab l))) (b ∷ l))
+    go : (t : Bool) → cutAt (suc k) l ≡ take (firstWhere (is 9) l) l ∷ behind (suc k) (drop (firstWhere (is 9) l) l)
+        → cond t ([] ∷ cutAt k l) (onto b (cutAt (suc k) l)) ≡ take (cond t 0 (suc (firstWhere (is 9) l))) (b ∷ l) ∷ behind (suc k) (drop (cond t 0 (suc (firstWhere (is 9) l))) (b ∷ l))
     go true h = refl
     go false h = ap (onto b) h
 

@@ -3,31 +3,30 @@
 use Prim.Native.Nat.{ℕ, zero, suc, _+_, _^_, _≤_, _<_}
 use mathlib.Core.Path.{_≡_, refl, sym, ap, _∙_}
 use mathlib.Core.List.{List, [], _∷_, _++_, map, append-assoc}
-use mathlib.Core.Bool.{Bool, true, false, cond, _&&_, _||_, and-false}
+use mathlib.Core.Bool.{Bool, true, false, cond, _||_, and-false}
 use native.Mathlib.Omega.{arith}
-use lib.ListN.{length, getD, take, drop, length-append, length-take, length-drop}
-use lib.Seq.{take-at, take-take, drop-at, length-take-le}
-use lib.Dec.{eqb, ltb}
-use borrow.Author.Tests.{ne-eqb, le-ltb, ltb-false}
+use lib.ListN.{length, getD, take, length-append, length-take, length-drop}
+use lib.Seq.{take-at, take-take, length-take-le}
+use lib.Dec.{eqb}
+use borrow.Author.Tests.{ne-eqb, le-ltb}
 use Rattle.refusal.specs.Numbers.{overLimit}
-use Rattle.refusal.specs.declared.Refusal.{Refusal}
-use Rattle.refusal.specs.declared.Refusal.the-variants.{TooLong, NameSplit, NoRoom}
+use Rattle.refusal.specs.declared.Refusal.the-variants.{TooLong}
 use Rattle.lines.specs.Lines.{ends, contentOf}
 use Rattle.record.specs.declared.Record.{Record}
 use Rattle.record.specs.declared.Held.{Held}
 use Rattle.record.specs.declared.Held.the-variants as held
 use Rattle.record.specs.Row.{namedAt, rowAt}
 use Rattle.record.specs.Laws.{HeldRow, held-known, named-known}
-use Rattle.index_line.specs.Bytes.{firstWhere, first-le}
+use Rattle.index_line.specs.Bytes.{is}
 use Rattle.index_line.specs.Decimal.{decimalOf}
-use Rattle.index_line.specs.Fields.{cutAt, tabbed, numbersText, textOf, splits, Wrote, wrote, frontWritten, textWritten}
-use Rattle.index_line.specs.Reading.{isTab}
+use Rattle.index_line.specs.Fields.{cutAt, tabbed, numbersText, textOf, splits, wrote}
+use Rattle.index_line.specs.Writing.{TextPut, no-bytes, text-known}
 use Rattle.index_line.specs.Lacks.{Lacks, lacks-less, lacks-ends, text-lacks}
 use Rattle.index_line.specs.Numbers.{Allowed, both, text-reads, reads-say, reads-text, reads-count}
 use Rattle.index_line.specs.Cut.{text-cut, cut-text, cut-most}
 use Rattle.index_line.specs.Ends.{ends-behind, content-lf, plain-lf, plain-content}
 use Rattle.index_line.specs.IndexLine.{fieldsOf, recordOf, contentSays, plainEnd, lineSays, readLine, numbersOf, lineOf, nameIn, rowWritten, writtenAs}
-use Rattle.index_line.specs.Laws.{Lined, ContentRead, LineIs, line-known, fields-cut}
+use Rattle.index_line.specs.Laws.{Lined, line-known, fields-cut}
 use Rattle.index_line.specs.declared.Entry.{Entry}
 use Rattle.index_line.specs.declared.LineRead.the-variants as read
 use Rattle.index_line.specs.declared.Written.the-variants as written
@@ -51,7 +50,7 @@ unfolding fieldsOf
 fields-some [] h = absurd (omega arith)
 fields-some (b ∷ l) h = refl
 
-content-written : (line : ℕ) (name : List ℕ) (x : Record) → Lacks isTab name → Lined x → contentSays line (name ++ numbersText (numbersOf x)) ≡ read.Row (entryOf (length name) x)
+content-written : (line : ℕ) (name : List ℕ) (x : Record) → Lacks (is 9) name → Lined x → contentSays line (name ++ numbersText (numbersOf x)) ≡ read.Row (entryOf (length name) x)
 unfolding contentSays entryOf tabbed
 content-written line name x h p =
     rw (fields-some (name ++ numbersText (numbersOf x)) (simp length-append (omega arith)), text-cut name (numbersOf x) h, reads-say line (text-reads (numbersOf x) 2 (lined-allowed x p)))
@@ -60,10 +59,10 @@ ends-digit : (name : List ℕ) (n : ℕ) (ns : List ℕ) → ends 13 (name ++ nu
 unfolding tabbed
 ends-digit name n ns =
     ends-behind 13 name 9 (decimalOf n ++ numbersText ns)
-    ∙ lacks-ends 13 (numbersText (n ∷ ns)) (text-lacks (λ (b : ℕ). eqb b 13) (λ b l. ne-eqb b 13 (λ e. omega arith)) refl (n ∷ ns))
+    ∙ lacks-ends 13 (numbersText (n ∷ ns)) (text-lacks (is 13) (λ b l. ne-eqb b 13 (λ e. omega arith)) refl (n ∷ ns))
 
 -- a line that is written reads back as the same name bytes and the same four numbers, and is plain
-pub written-reads : (line : ℕ) (name : List ℕ) (x : Record) → Lacks isTab name → Lined x → lineSays line (lineOf name x) ≡ read.Row (entryOf (length name) x)
+pub written-reads : (line : ℕ) (name : List ℕ) (x : Record) → Lacks (is 9) name → Lined x → lineSays line (lineOf name x) ≡ read.Row (entryOf (length name) x)
 unfolding lineSays lineOf textOf entryOf
 written-reads line name x h p =
     let e = ends-digit name (x .length) (x .position .0 ∷ x .«line_bases» ∷ x .«line_width» ∷ []) in
@@ -76,52 +75,24 @@ pub name-long : (names : List ℕ) (x : Record) → x .«name_start» + x .«nam
 unfolding nameIn
 name-long names x h = length-take-le _ _ (simp length-drop (omega arith))
 
--- what is known of a line that the call wrote: k bytes at the front of the output
+-- what is known of a line that the call wrote: the row's, in k bytes at the front of the output
 pub record LineWritten (names t : List ℕ) (n r : ℕ) (out : List ℕ) (k : ℕ) (after : List ℕ) : Type 0 where
   pub row : Record
   pub held : namedAt t n r (length names) ≡ held.Row row
-  pub whole : Lacks splits (nameIn names row)
-  pub text : take k after ≡ lineOf (nameIn names row) row
-  pub rest : drop k after ≡ drop k out
   pub name : length (nameIn names row) ≡ row .«name_length»
+  pub put : TextPut (nameIn names row) (numbersOf row) out k after
 
-module _ (names t : List ℕ) (n r : ℕ) (out : List ℕ) (k : ℕ) (after : List ℕ) where
-  no-answer : (f : Refusal) → wrote (written.Refused f) out ≡ wrote (written.Bytes k) after → ⊥
-  no-answer f q = let a = ap (λ (w : Wrote). w .answer) q in let z : _≡_ {A = ℕ} 0 1 = cc in omega arith
-
-  pub line-written : writtenAs names t n r out ≡ wrote (written.Bytes k) after → LineWritten names t n r out k after
-  unfolding writtenAs textWritten frontWritten lineOf
-  line-written h = go (overLimit (length names)) (namedAt t n r (length names)) refl h
-    where
-      front : (x : Record) → namedAt t n r (length names) ≡ held.Row x → Lacks splits (nameIn names x)
-          → (u : Bool) → cond u (wrote (written.Refused (NoRoom (length (lineOf (nameIn names x) x)))) out) (wrote (written.Bytes (length (lineOf (nameIn names x) x))) (lineOf (nameIn names x) x ++ drop (length (lineOf (nameIn names x) x)) out)) ≡ wrote (written.Bytes k) after
-          → LineWritten names t n r out k after
-      front x e w true q = absurd (no-answer _ q)
-      front x e w false q =
-          let l : List ℕ = lineOf (nameIn names x) x in
-          let a = ap (λ (y : Wrote). y .answer) q in
-          let b : length l ≡ k = cc in
-          let o : l ++ drop (length l) out ≡ after = ap (λ (y : Wrote). y .out) q in
-          record {
-            row = x;
-            held = e;
-            whole = w;
-            text = ap (take k) (sym o) ∙ take-at l (drop (length l) out) k b;
-            rest = ap (drop k) (sym o) ∙ (drop-at l (drop (length l) out) k b ∙ ap (λ (i : ℕ). drop i out) b);
-            name = name-long names x (named-known t n r (length names) x e .1);
-          }
-
-      split : (x : Record) → namedAt t n r (length names) ≡ held.Row x → (u : Bool) → ltb (firstWhere splits (nameIn names x)) (length (nameIn names x)) ≡ u
-          → cond u (wrote (written.Refused (NameSplit (firstWhere splits (nameIn names x)))) out) (frontWritten (textOf (nameIn names x) (numbersOf x)) out) ≡ wrote (written.Bytes k) after
-          → LineWritten names t n r out k after
-      split x e true w q = absurd (no-answer _ q)
-      split x e false w q = front x e (omega (arith, ltb-false (firstWhere splits (nameIn names x)) (length (nameIn names x)) w, first-le splits (nameIn names x))) (ltb (length out) (length (lineOf (nameIn names x) x))) q
-
-      go : (u : Bool) (o : Held) → namedAt t n r (length names) ≡ o → cond u (wrote (written.Refused TooLong) out) (rowWritten names out o) ≡ wrote (written.Bytes k) after
-          → LineWritten names t n r out k after
-      go true o e q = absurd (no-answer _ q)
-      go false (held.Refused f) e q = absurd (no-answer _ q)
-      go false (held.Row x) e q = split x e (ltb (firstWhere splits (nameIn names x)) (length (nameIn names x))) refl q
+pub line-written : (names t : List ℕ) (n r : ℕ) (out : List ℕ) (k : ℕ) (after : List ℕ) → writtenAs names t n r out ≡ wrote (written.Bytes k) after
+    → LineWritten names t n r out k after
+unfolding writtenAs
+line-written names t n r out k after h = go (overLimit (length names)) (namedAt t n r (length names)) refl h
+  where
+    go : (u : Bool) (o : Held) → namedAt t n r (length names) ≡ o → cond u (wrote (written.Refused TooLong) out) (rowWritten names out o) ≡ wrote (written.Bytes k) after
+        → LineWritten names t n r out k after
+    go true o e q = absurd (no-bytes _ out k after q)
+    go false (held.Refused f) e q = absurd (no-bytes _ out k after q)
+    go false (held.Row x) e q =
+        record { row = x; held = e; name = name-long names x (named-known t n r (length names) x e .1); put = text-known (nameIn names x) (numbersOf x) out k after q }
 
 -- the numbers of a table, which is one of 64-bit numbers
 row-lined : (t : List ℕ) (n r : ℕ) (x : Record) → ((i : ℕ) → getD t i 0 < 2 ^ 64) → HeldRow t n r x → Lined x
@@ -137,7 +108,7 @@ pub record ReadBack (names t : List ℕ) (n r k : ℕ) (after : List ℕ) : Type
   pub read : readLine (take k after) ≡ read.Row (entryOf (row .«name_length») row)
   pub name : take (row .«name_length») after ≡ nameIn names row
 
-tab-splits : (b : ℕ) → splits b ≡ false → isTab b ≡ false
+tab-splits : (b : ℕ) → splits b ≡ false → is 9 b ≡ false
 tab-splits b h = go (eqb b 9) h
   where
     go : (t : Bool) → (t || eqb b 10) ≡ false → t ≡ false
@@ -145,8 +116,8 @@ tab-splits b h = go (eqb b 9) h
     go false k = refl
 
 -- the front of a line's bytes is its name
-line-front : (name : List ℕ) (x : Record) (k : ℕ) (after : List ℕ) → take k after ≡ lineOf name x → take (length name) after ≡ name
-unfolding lineOf textOf
+line-front : (name : List ℕ) (x : Record) (k : ℕ) (after : List ℕ) → take k after ≡ textOf name (numbersOf x) → take (length name) after ≡ name
+unfolding textOf
 line-front name x k after e =
     let rest : List ℕ = numbersText (numbersOf x) ++ (10 ∷ []) in
     let n : length name ≤ k = omega (arith, ap length e, length-append name rest, length-take k after) in
@@ -154,18 +125,18 @@ line-front name x k after e =
 
 pub reads-back : (names t : List ℕ) (n r : ℕ) (out : List ℕ) (k : ℕ) (after : List ℕ) → ((i : ℕ) → getD t i 0 < 2 ^ 64)
     → writtenAs names t n r out ≡ wrote (written.Bytes k) after → k ≤ 1099511627776 → ReadBack names t n r k after
-unfolding readLine overLimit
+unfolding readLine overLimit lineOf
 reads-back names t n r out k after f h m =
     let w = line-written names t n r out k after h in
     let x = w .row in
     let lined = row-lined t n r x f (held-known t n r x (named-known t n r (length names) x (w .held) .0)) in
-    let untabbed = lacks-less splits isTab tab-splits (nameIn names x) (w .whole) in
+    let untabbed = lacks-less splits (is 9) tab-splits (nameIn names x) (w .put .whole) in
     let small : length (take k after) ≤ 1099511627776 = omega (arith, length-take k after) in
     record {
       row = x;
       held = w .held;
-      read = rw (le-ltb _ _ small, w .text, ← w .name) (written-reads 1 (nameIn names x) x untabbed lined);
-      name = rw (← w .name) (line-front (nameIn names x) x k after (w .text));
+      read = rw (le-ltb _ _ small, w .put .front, ← w .name) (written-reads 1 (nameIn names x) x untabbed lined);
+      name = rw (← w .name) (line-front (nameIn names x) x k after (w .put .front));
     }
 
 -- ---- read, then written

@@ -1,16 +1,19 @@
 -- What the code's steps of writing leave, and the laws that make a written line of it.
-use Prim.Native.Nat.{ℕ, zero, suc, _+_, _≤_, _<_}
+use Prim.Native.Nat.{ℕ, suc, _+_, _≤_, _<_}
 use mathlib.Core.Path.{_≡_, refl, sym, ap, _∙_}
 use mathlib.Core.List.{List, [], _∷_, _++_, map, map-append, append-nil, append-assoc}
+use mathlib.Core.Bool.{Bool, true, false, cond, _||_}
 use native.Mathlib.Omega.{arith}
 use native.Mathlib.Numerals.{add-one}
-use lib.ListN.{length, getD, take, drop, set, length-append, length-drop, take-append-drop}
-use lib.Seq.{take-suc, append-snoc}
-use borrow.Author.Tests.{lt-ltb, le-ltb}
-use Rattle.index_line.specs.Bytes.{firstWhere, overlaid, laidAt, overlaid-length, overlaid-next, overlaid-more, overlaid-zero, laid-all}
+use lib.ListN.{length, getD, take, drop, set, length-append, take-append-drop}
+use lib.Seq.{take-suc, take-at, drop-at, append-snoc}
+use lib.Dec.{ltb}
+use borrow.Author.Tests.{lt-ltb, le-ltb, ltb-false}
+use Rattle.index_line.specs.Bytes.{is, firstWhere, first-le, overlaid, laidAt, overlaid-length, overlaid-next, overlaid-more, overlaid-zero, laid-all}
 use Rattle.index_line.specs.Decimal.{decimalOf}
-use Rattle.index_line.specs.Fields.{tabbed, numbersText, textOf, splits, wrote, frontWritten, textWritten}
+use Rattle.index_line.specs.Fields.{tabbed, numbersText, textOf, splits, Wrote, wrote, frontWritten, textWritten}
 use Rattle.index_line.specs.declared.Written.the-variants.{Bytes, Refused}
+use Rattle.refusal.specs.declared.Refusal.{Refusal}
 use Rattle.refusal.specs.declared.Refusal.the-variants.{NameSplit, NoRoom}
 
 -- numbers put from a place on: the place behind them, and the output afterwards
@@ -62,6 +65,19 @@ module _ (ns out : List ℕ) (at i place : ℕ) (h : i < length ns) (room : at +
       let fits : place + 1 + length d ≤ length (overlaid out at t) = rw (overlaid-length out at t (omega (arith, next-room))) (omega (arith, next-room)) in
       rw (overlaid-next out at place s 9 e (omega (arith, next-room)), ← laid-all (overlaid out at t) (place + 1) d fits, overlaid-more out at (place + 1) t d (omega arith) (omega arith), append-snoc, add-one, text-more ns i h)
 
+-- ---- the name
+
+-- the first LF before the first tab is the first of either
+pub split-is : (l : List ℕ) → firstWhere (is 10) (take (firstWhere (is 9) l) l) ≡ firstWhere splits l
+unfolding firstWhere
+split-is [] = refl
+split-is (b ∷ l) = go (is 9 b) (is 10 b) (split-is l)
+  where
+    go : (t u : Bool) → firstWhere (is 10) (take (firstWhere (is 9) l) l) ≡ firstWhere splits l
+        → firstWhere (is 10) (take (cond t 0 (suc (firstWhere (is 9) l))) (b ∷ l)) ≡ cond (t || is 10 b) 0 (suc (firstWhere splits l))
+    go true u h = refl
+    go false u h = rw h
+
 -- ---- the whole text
 
 -- the name at the front, the numbers behind it, and the LF
@@ -87,3 +103,34 @@ module _ (name ns out : List ℕ) where
     pub text-put : length (textOf name ns) ≤ length out → wrote (Bytes (length (textOf name ns))) (overlaid out 0 (textOf name ns)) ≡ textWritten name ns out
     unfolding textWritten frontWritten
     text-put r = rw (overlaid-zero out (textOf name ns), le-ltb _ _ h, le-ltb _ _ r)
+
+-- what is known of a text that was written: k bytes at the front of the output
+pub record TextPut (name ns out : List ℕ) (k : ℕ) (after : List ℕ) : Type 0 where
+  pub whole : firstWhere splits name ≡ length name
+  pub front : take k after ≡ textOf name ns
+  pub rest : drop k after ≡ drop k out
+
+pub no-bytes : (f : Refusal) (out : List ℕ) (k : ℕ) (after : List ℕ) → wrote (Refused f) out ≡ wrote (Bytes k) after → ⊥
+no-bytes f out k after q = let a = ap (λ (w : Wrote). w .answer) q in let z : _≡_ {A = ℕ} 0 1 = cc in omega arith
+
+pub text-known : (name ns out : List ℕ) (k : ℕ) (after : List ℕ) → textWritten name ns out ≡ wrote (Bytes k) after → TextPut name ns out k after
+unfolding textWritten frontWritten
+text-known name ns out k after h = go (ltb (firstWhere splits name) (length name)) refl (ltb (length out) (length text)) h
+  where
+    text : List ℕ
+    text = textOf name ns
+
+    go : (t : Bool) → ltb (firstWhere splits name) (length name) ≡ t → (u : Bool)
+        → cond t (wrote (Refused (NameSplit (firstWhere splits name))) out) (cond u (wrote (Refused (NoRoom (length text))) out) (wrote (Bytes (length text)) (text ++ drop (length text) out))) ≡ wrote (Bytes k) after
+        → TextPut name ns out k after
+    go true e u q = absurd (no-bytes _ out k after q)
+    go false e true q = absurd (no-bytes _ out k after q)
+    go false e false q =
+        let a = ap (λ (w : Wrote). w .answer) q in
+        let b : length text ≡ k = cc in
+        let o : text ++ drop (length text) out ≡ after = ap (λ (w : Wrote). w .out) q in
+        record {
+          whole = omega (arith, ltb-false (firstWhere splits name) (length name) e, first-le splits name);
+          front = ap (take k) (sym o) ∙ take-at text (drop (length text) out) k b;
+          rest = ap (drop k) (sym o) ∙ (drop-at text (drop (length text) out) k b ∙ ap (λ (i : ℕ). drop i out) b);
+        }

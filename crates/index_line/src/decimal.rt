@@ -7,8 +7,10 @@ ghost use lib.ListN.{length};
 ghost use Rattle.index_line.specs.Decimal.{numberOf, plainNumber, digits, decimalOf, NumberWritten};
 ghost use Rattle.index_line.specs.Bytes.{overlaid};
 
-const MAX: u64 = 18446744073709551615;
+// The largest number.
+const LARGEST: u64 = 18446744073709551615;
 
+// A byte as a number.
 fn wide(b: u8) -> u64
     ensures { λ r. ⌜ r ≡ b ⌝ }
 {
@@ -33,7 +35,7 @@ pub fn read_number(s: &[u8]) -> Number
             return Number::Bad;
         }
         let d = b - 48;
-        if (MAX - d) / 10 < value {
+        if (LARGEST - d) / 10 < value {
             return Number::Bad;
         }
         value = value * 10 + d;
@@ -43,7 +45,7 @@ pub fn read_number(s: &[u8]) -> Number
 }
 
 // Has a number no needless leading zero.
-pub fn plain_number(s: &[u8]) -> bool
+pub(crate) fn plain_number(s: &[u8]) -> bool
     ensures { λ r. ⌜ r ≡ plainNumber (now (s .entry)) ⌝ }
 {
     if s.len() < 2 {
@@ -53,7 +55,7 @@ pub fn plain_number(s: &[u8]) -> bool
 }
 
 // How many digits a number is written with.
-pub fn digit_count(n: u64) -> usize
+pub(crate) fn digit_count(n: u64) -> usize
     ensures { λ r. ⌜ r ≡ length (decimalOf n) ⌝ }
 {
     let mut w: usize = 1;

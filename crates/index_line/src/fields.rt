@@ -7,9 +7,9 @@ use refusal::Refusal;
 ghost use mathlib.Core.Path.{_≡_};
 ghost use Prim.Native.Nat.{_+_, _*_, _^_, _<_, _≤_};
 ghost use lib.ListN.{length, take, drop};
-ghost use Rattle.index_line.specs.Bytes.{firstWhere, overlaid};
+ghost use Rattle.index_line.specs.Bytes.{is, firstWhere, overlaid};
 ghost use Rattle.index_line.specs.Fields.{zeroBarred, fieldSays, numbersFrom, numbersText, textOf, splits, wrote, textWritten};
-ghost use Rattle.index_line.specs.Reading.{isTab, fieldLen, behind, told};
+ghost use Rattle.index_line.specs.Reading.{fieldLen, behind, told};
 ghost use Rattle.index_line.specs.Writing.{NumbersPut};
 
 // A field that is a number: its value, how many bytes it has, and whether it has no needless leading zero.
@@ -31,13 +31,13 @@ pub enum NumbersRead {
     Refused(Refusal),
 }
 
-// The place of the first tab; the length where there is none.
-fn first_tab(l: &[u8]) -> usize
-    ensures { λ r. ⌜ r ≡ firstWhere isTab (now (l .entry)) ⌝ }
+// The place of the first `b`; the length where there is none.
+fn first_byte(l: &[u8], b: u8) -> usize
+    ensures { λ r. ⌜ r ≡ firstWhere (is b) (now (l .entry)) ⌝ }
 {
     let mut i = 0;
     while i < l.len() {
-        if l[i] == 9 {
+        if l[i] == b {
             return i;
         }
         i += 1;
@@ -46,13 +46,13 @@ fn first_tab(l: &[u8]) -> usize
 }
 
 // How many bytes the first field of `l` has, where so many tabs cut.
-pub fn field_length(l: &[u8], tabs: usize) -> usize
+pub(crate) fn field_length(l: &[u8], tabs: usize) -> usize
     ensures { λ r. ⌜ r ≡ fieldLen tabs (now (l .entry)) ⌝ }
 {
     if tabs == 0 {
         return l.len();
     }
-    first_tab(l)
+    first_byte(l, 9)
 }
 
 // Is a value 0 where it may not be: in field 4 and in field 5.
@@ -96,33 +96,32 @@ fn number_field(rest: &[u8], tabs: usize, line: u64, place: u64) -> FieldRead
     whole_field(&rest[..length], line, place)
 }
 
-// Reads as many numbers as the table has, each behind a tab; the first tab stands at `tab`, or that is the end.
+// Reads as many numbers as the table has, each behind a tab; the first tab stands behind a name of `name` bytes, or there is the end.
 pub(crate) fn read_numbers(
     content: &[u8],
-    tab: usize,
+    name: usize,
     line: u64,
     numbers: &mut [u64],
 ) -> NumbersRead
     requires { ⌜ length (now numbers) ≤ 5 ⌝ }
-    ensures { λ r. ⌜ told r (now (numbers .exit)) ≡ numbersFrom line 2 (length (now (numbers .entry))) (behind (length (now (numbers .entry))) (drop tab (now (content .entry)))) ⌝ }
+    ensures { λ r. ⌜ told r (now (numbers .exit)) ≡ numbersFrom line 2 (length (now (numbers .entry))) (behind (length (now (numbers .entry))) (drop name (now (content .entry)))) ⌝ }
 {
-    let mut at = tab;
+    let mut tab = name;
     let mut plain = true;
     let mut place: u64 = 2;
     let mut i = 0;
     while i < numbers.len() {
-        if content.len() <= at {
+        if content.len() <= tab {
             return NumbersRead::Refused(Refusal::FieldAbsent { line, field: place });
         }
-        let start = at + 1;
-        match number_field(&content[start..], numbers.len() - i - 1, line, place) {
+        match number_field(&content[tab + 1..], numbers.len() - i - 1, line, place) {
             FieldRead::Refused(r) => {
                 return NumbersRead::Refused(r);
             }
             FieldRead::Good(f) => {
                 numbers[i] = f.value;
                 plain = plain & f.plain;
-                at = start + f.length;
+                tab = tab + 1 + f.length;
             }
         }
         place += 1;
@@ -135,18 +134,8 @@ pub(crate) fn read_numbers(
 fn name_split(name: &[u8]) -> usize
     ensures { λ r. ⌜ r ≡ firstWhere splits (now (name .entry)) ⌝ }
 {
-    let mut i = 0;
-    while i < name.len() {
-        let b = name[i];
-        if b == 9 {
-            return i;
-        }
-        if b == 10 {
-            return i;
-        }
-        i += 1;
-    }
-    i
+    let tab = first_byte(name, 9);
+    first_byte(&name[..tab], 10)
 }
 
 // How many bytes a name and numbers are written with.

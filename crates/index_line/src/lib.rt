@@ -1,4 +1,7 @@
-// Index lines: a record's name and its four numbers, with tabs between.
+// Index lines, read and written: a name, which may be any bytes, and four decimal numbers (length, position, line bases, line width)
+// with tabs between, and an LF. Refused in reading: 9, an empty line; 10, a field that is absent; 11, one that is no number; 12, a 0 in
+// field 4 or 5. In writing: 25, a row that is not there or not sound; 13, a name with a tab or an LF; 14, no room. 1 comes first in the
+// calls on a line that stands alone and in writing.
 mod decimal;
 mod fields;
 
@@ -10,8 +13,6 @@ use refusal::Refusal;
 ghost use mathlib.Core.Path.{_≡_};
 ghost use Rattle.index_line.specs.IndexLine.{contentSays, lineSays, readContent, readLine, writtenAs};
 ghost use Rattle.index_line.specs.Fields.{wrote};
-pub use decimal::digit_count;
-pub use decimal::plain_number;
 pub use decimal::read_number;
 pub use decimal::write_number;
 
@@ -39,6 +40,9 @@ pub enum Written {
     Refused(Refusal),
 }
 
+// How many numbers a line has behind its name, each with a tab before it.
+const NUMBERS: usize = 4;
+
 // Reads the content of line number `line`, which has no end. Of content, plain means that no number has a needless leading zero.
 pub fn parse_record(content: &[u8], line: u64) -> LineRead
     ensures { λ r. ⌜ r ≡ contentSays line (now (content .entry)) ⌝ }
@@ -46,8 +50,8 @@ pub fn parse_record(content: &[u8], line: u64) -> LineRead
     if content.len() == 0 {
         return LineRead::Refused(Refusal::EmptyIndexLine { line });
     }
-    let name = fields::field_length(content, 4);
-    let mut numbers: [u64; 4] = [0; 4];
+    let name = fields::field_length(content, NUMBERS);
+    let mut numbers: [u64; NUMBERS] = [0; NUMBERS];
     match fields::read_numbers(content, name, line, &mut numbers) {
         NumbersRead::Refused(r) => LineRead::Refused(r),
         NumbersRead::All { plain } => {
@@ -109,7 +113,7 @@ pub fn write_line(names: &[u8], table: &[u64], in_use: usize, row: usize, out: &
             let start = x.name_start as usize;
             let end = start + x.name_length as usize;
             let position = x.position;
-            let numbers: [u64; 4] = [x.length, position.0, x.line_bases, x.line_width];
+            let numbers: [u64; NUMBERS] = [x.length, position.0, x.line_bases, x.line_width];
             fields::write_text(&names[start..end], &numbers, out)
         }
     }

@@ -2,8 +2,8 @@
 -- output, the file's length and the bytes at those offsets, and of nothing else.
 use Prim.Native.Nat.{ℕ, suc, _+_, _-_}
 use mathlib.Core.List.{List, [], _∷_, map}
-use mathlib.Core.Bool.{Bool, true, false, cond, _||_}
-use lib.ListN.{length, getD}
+use mathlib.Core.Bool.{Bool, cond, _||_}
+use lib.ListN.{length}
 use lib.Dec.{ltb}
 use Rattle.refusal.specs.Numbers.{overLimit}
 use Rattle.refusal.specs.declared.Refusal.the-variants.{TooLong, NoRoom, PastLength, NotInFile}
@@ -11,6 +11,7 @@ use Rattle.record.specs.declared.Record.{Record}
 use Rattle.record.specs.declared.Held.{Held}
 use Rattle.record.specs.declared.Held.the-variants as held
 use Rattle.record.specs.Place.{placesFrom}
+use Rattle.record.specs.Bases.{byteAt}
 use Rattle.record.specs.Row.{heldAt}
 use Rattle.region.specs.declared.Bound.{Bound}
 use Rattle.region.specs.Region.{Outcome, refuses, gives, boundedRow, startOf, endOf, basesTo}
@@ -30,31 +31,27 @@ pastLength bases a e = ltb bases a || ltb bases e
 
 -- the n bytes at some offsets: 18 with the first base that is not in the file, where base a has the first of the offsets
 unfoldable pub bytesAt : ℕ → (ℕ → ℕ) → ℕ → List ℕ → List ℕ → Outcome
-bytesAt bytes byteAt a os out =
-    cond (ltb (inFile bytes os) (length os)) (refuses (NotInFile (a + inFile bytes os)) out) (gives (map byteAt os) out)
+bytesAt bytes byte a os out =
+    cond (ltb (inFile bytes os) (length os)) (refuses (NotInFile (a + inFile bytes os)) out) (gives (map byte os) out)
 
 -- n bases of a record from base a on: 14, then 18
 unfoldable pub basesFrom : ℕ → (ℕ → ℕ) → Record → ℕ → ℕ → List ℕ → Outcome
-basesFrom bytes byteAt x a n out = cond (ltb (length out) n) (refuses (NoRoom n) out) (bytesAt bytes byteAt a (offsetsOf x a n) out)
+basesFrom bytes byte x a n out = cond (ltb (length out) n) (refuses (NoRoom n) out) (bytesAt bytes byte a (offsetsOf x a n) out)
 
 -- the bases from a to e of a record: 17 first
 unfoldable pub regionOf : ℕ → (ℕ → ℕ) → Record → ℕ → ℕ → List ℕ → Outcome
-regionOf bytes byteAt x a e out =
-    cond (pastLength (x .length) a e) (refuses (PastLength (x .length)) out) (basesFrom bytes byteAt x a (basesTo a e) out)
+regionOf bytes byte x a e out =
+    cond (pastLength (x .length) a e) (refuses (PastLength (x .length)) out) (basesFrom bytes byte x a (basesTo a e) out)
 
 -- the region of a row, if there is one
 unfoldable pub exactIn : ℕ → (ℕ → ℕ) → Held → Bound → Bound → List ℕ → Outcome
-exactIn bytes byteAt (held.Refused f) a e out = refuses f out
-exactIn bytes byteAt (held.Row x) a e out = regionOf bytes byteAt x (startOf a) (endOf (x .length) e) out
+exactIn bytes byte (held.Refused f) a e out = refuses f out
+exactIn bytes byte (held.Row x) a e out = regionOf bytes byte x (startOf a) (endOf (x .length) e) out
 
 -- the exact read of a file of so many bytes, by the byte at an offset: 16, then 25, then the rest
 unfoldable pub exactOf : ℕ → (ℕ → ℕ) → Held → Bound → Bound → List ℕ → Outcome
-exactOf bytes byteAt h a e out = exactIn bytes byteAt (boundedRow a e h) a e out
-
--- the byte of a file at an offset
-abbrev pub byteOf : List ℕ → ℕ → ℕ
-byteOf s o = getD s o 0
+exactOf bytes byte h a e out = exactIn bytes byte (boundedRow a e h) a e out
 
 -- the exact read of row r of a table with u rows in use: 1 first
 unfoldable pub exactRead : List ℕ → List ℕ → ℕ → ℕ → Bound → Bound → List ℕ → Outcome
-exactRead s t u r a e out = cond (overLimit (length s)) (refuses TooLong out) (exactOf (length s) (byteOf s) (heldAt t u r) a e out)
+exactRead s t u r a e out = cond (overLimit (length s)) (refuses TooLong out) (exactOf (length s) (byteAt s) (heldAt t u r) a e out)

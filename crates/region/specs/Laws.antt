@@ -1,11 +1,11 @@
 -- Laws of the reads: what the bounds say, and what each test says of the outcome.
-use Prim.Native.Nat.{ℕ, zero, suc, _+_, _-_, _≤_, _<_}
-use mathlib.Core.Path.{_≡_, refl, ap, sym, _∙_}
-use mathlib.Core.List.{List, [], _∷_, _++_, map}
+use Prim.Native.Nat.{ℕ, _+_, _≤_, _<_}
+use mathlib.Core.Path.{_≡_, refl, ap, _∙_}
+use mathlib.Core.List.{List, _++_, map}
 use mathlib.Core.Bool.{Bool, true, false, cond, _||_}
-use lib.ListN.{length, drop, getD, length-map}
+use lib.ListN.{length, drop, length-map}
 use lib.Dec.{eqb, ltb, leb}
-use borrow.Author.Tests.{eqb-false, ltb-true, ltb-false, leb-true, leb-false, lt-ltb, le-ltb}
+use borrow.Author.Tests.{eqb-false, ltb-false, leb-true, leb-false, lt-ltb, le-ltb}
 use native.Mathlib.Omega.{arith}
 use Rattle.refusal.specs.Numbers.{overLimit}
 use Rattle.refusal.specs.declared.Refusal.{Refusal}
@@ -15,20 +15,24 @@ use Rattle.record.specs.declared.Held.{Held}
 use Rattle.record.specs.declared.Held.the-variants as held
 use Rattle.record.specs.declared.Address.the-variants.{At, Nowhere}
 use Rattle.record.specs.declared.Offset.{Offset}
-use Rattle.record.specs.Place.{placesFrom, placeIn, addressOf}
+use Rattle.record.specs.Place.{addressOf}
+use Rattle.record.specs.Bases.{byteAt}
 use Rattle.record.specs.Row.{heldAt}
 use Rattle.sequence.specs.declared.SequenceRead.{SequenceRead}
 use Rattle.sequence.specs.declared.SequenceRead.the-variants as scanned
 use Rattle.sequence.specs.Scan.{Scan, scanAt, scanAll}
 use Rattle.sequence.specs.Read.{Left, leaves as scanned-leaves, written, poured, scanInto}
+use Rattle.index.specs.declared.Found.{Found}
+use Rattle.index.specs.declared.Found.the-variants as found
 use Rattle.region.specs.declared.Bound.{Bound}
 use Rattle.region.specs.declared.Bound.the-variants.{Given, Absent}
 use Rattle.region.specs.declared.RegionRead.{RegionRead}
 use Rattle.region.specs.declared.RegionRead.the-variants.{Bytes, Refused}
 use Rattle.region.specs.Region.{Outcome, leaves, refuses, gives, isZero, crossed, badBounds, boundedRow, startOf, endOf, basesTo}
-use Rattle.region.specs.Exact.{offsetsOf, inFile, pastLength, bytesAt, basesFrom, regionOf, exactIn, exactOf, byteOf, exactRead}
+use Rattle.region.specs.Exact.{offsetsOf, inFile, pastLength, bytesAt, basesFrom, regionOf, exactIn, exactOf, exactRead}
 use Rattle.region.specs.Raw.{scanTo, pours, rawAt, rawOf, rawIn, rawRead}
-use Rattle.region.specs.Walk.{length-offsets}
+use Rattle.region.specs.Named.{readFound}
+use Rattle.region.specs.Inside.{length-offsets}
 
 -- ---- bounds
 
@@ -74,49 +78,49 @@ unfolding pastLength
 within-length bases a e h =
     (ltb-false _ _ (or-false-left (ltb bases a) (ltb bases e) h), ltb-false _ _ (or-false-right (ltb bases a) (ltb bases e) h))
 
+pub past-none : (bases a e : ℕ) → a ≤ bases → e ≤ bases → pastLength bases a e ≡ false
+unfolding pastLength
+past-none bases a e h k = rw (le-ltb _ _ h, le-ltb _ _ k)
+
 -- ---- what each test says of the exact read
 
-module _ (bytes : ℕ) (byteAt : ℕ → ℕ) where
+module _ (bytes : ℕ) (byte : ℕ → ℕ) where
   module _ (x : Record) (a n : ℕ) (out : List ℕ) where
-    pub bases-no-room : length out < n → leaves (Refused (NoRoom n)) out ≡ basesFrom bytes byteAt x a n out
+    pub bases-no-room : length out < n → leaves (Refused (NoRoom n)) out ≡ basesFrom bytes byte x a n out
     unfolding basesFrom refuses
     bases-no-room h = rw (lt-ltb _ _ h)
 
     module _ (room : n ≤ length out) (k : ℕ) (e : k ≡ inFile bytes (offsetsOf x a n)) where
-      pub bases-outside : k < n → leaves (Refused (NotInFile (a + k))) out ≡ basesFrom bytes byteAt x a n out
+      pub bases-outside : k < n → leaves (Refused (NotInFile (a + k))) out ≡ basesFrom bytes byte x a n out
       unfolding basesFrom bytesAt refuses
       bases-outside h = rw (le-ltb _ _ room, length-offsets x a n, ← e, lt-ltb _ _ h)
 
-      pub bases-read : n ≤ k → leaves (Bytes n) (map byteAt (offsetsOf x a n) ++ drop n out) ≡ basesFrom bytes byteAt x a n out
+      pub bases-read : n ≤ k → leaves (Bytes n) (map byte (offsetsOf x a n) ++ drop n out) ≡ basesFrom bytes byte x a n out
       unfolding basesFrom bytesAt gives
-      bases-read h = rw (le-ltb _ _ room, length-offsets x a n, ← e, le-ltb _ _ h, length-map (offsetsOf x a n) byteAt, length-offsets x a n)
+      bases-read h = rw (le-ltb _ _ room, length-offsets x a n, ← e, le-ltb _ _ h, length-map (offsetsOf x a n) byte, length-offsets x a n)
 
   module _ (x : Record) (a e : ℕ) (out : List ℕ) where
-    pub region-past : pastLength (x .length) a e ≡ true → leaves (Refused (PastLength (x .length))) out ≡ regionOf bytes byteAt x a e out
+    pub region-past : pastLength (x .length) a e ≡ true → leaves (Refused (PastLength (x .length))) out ≡ regionOf bytes byte x a e out
     unfolding regionOf refuses
     region-past h = rw h
 
-    pub region-within : pastLength (x .length) a e ≡ false → basesFrom bytes byteAt x a (basesTo a e) out ≡ regionOf bytes byteAt x a e out
+    pub region-within : pastLength (x .length) a e ≡ false → basesFrom bytes byte x a (basesTo a e) out ≡ regionOf bytes byte x a e out
     unfolding regionOf
     region-within h = rw h
 
-  module _ (h : Held) (a e : Bound) (out : List ℕ) where
-    pub exact-refused : (f : Refusal) → boundedRow a e h ≡ held.Refused f → leaves (Refused f) out ≡ exactOf bytes byteAt h a e out
-    unfolding exactOf exactIn refuses
-    exact-refused f q = rw q
-
-    pub exact-row : (x : Record) → boundedRow a e h ≡ held.Row x → regionOf bytes byteAt x (startOf a) (endOf (x .length) e) out ≡ exactOf bytes byteAt h a e out
-    unfolding exactOf exactIn
-    exact-row x q = rw q
-
 module _ (s t : List ℕ) (u r : ℕ) (a e : Bound) (out : List ℕ) where
-  pub read-long : overLimit (length s) ≡ true → leaves (Refused TooLong) out ≡ exactRead s t u r a e out
+  pub exact-long : overLimit (length s) ≡ true → leaves (Refused TooLong) out ≡ exactRead s t u r a e out
   unfolding exactRead refuses
-  read-long h = rw h
+  exact-long h = rw h
 
-  pub read-short : overLimit (length s) ≡ false → exactOf (length s) (byteOf s) (heldAt t u r) a e out ≡ exactRead s t u r a e out
-  unfolding exactRead
-  read-short h = rw h
+  module _ (h : overLimit (length s) ≡ false) where
+    pub exact-refused : (f : Refusal) → boundedRow a e (heldAt t u r) ≡ held.Refused f → leaves (Refused f) out ≡ exactRead s t u r a e out
+    unfolding exactRead exactOf exactIn refuses
+    exact-refused f q = rw (h, q)
+
+    pub exact-row : (x : Record) → boundedRow a e (heldAt t u r) ≡ held.Row x → regionOf (length s) (byteAt s) x (startOf a) (endOf (x .length) e) out ≡ exactRead s t u r a e out
+    unfolding exactRead exactOf exactIn
+    exact-row x q = rw (h, q)
 
 -- ---- and of the raw read
 
@@ -144,7 +148,7 @@ left-poured c out = go (leb (length (c .bases)) (length out)) refl
   where
     go : (t : Bool) → leb (length (c .bases)) (length out) ≡ t
         → regionLeft (cond t (written c out) (scanned-leaves (scanned.Refused (NoRoom (length (c .bases)))) out))
-          ≡ cond (ltb (length out) (length (c .bases))) (refuses (NoRoom (length (c .bases))) out) (gives (c .bases) out)
+        ≡ cond (ltb (length out) (length (c .bases))) (refuses (NoRoom (length (c .bases))) out) (gives (c .bases) out)
     go true h = unfold written gives in rw (le-ltb _ _ (leb-true _ _ h))
     go false h = unfold refuses in rw (lt-ltb _ _ (leb-false _ _ h))
 
@@ -162,20 +166,27 @@ module _ (s : List ℕ) (x : Record) (a : ℕ) (e : Bound) (out : List ℕ) wher
   unfolding rawAt
   raw-at o h = rw h
 
-module _ (s : List ℕ) (h : Held) (a e : Bound) (out : List ℕ) where
-  pub raw-refused : (f : Refusal) → boundedRow a e h ≡ held.Refused f → leaves (Refused f) out ≡ rawOf s h a e out
-  unfolding rawOf rawIn refuses
-  raw-refused f q = rw q
-
-  pub raw-row : (x : Record) → boundedRow a e h ≡ held.Row x → rawAt s (addressOf x (record { 0 = startOf a })) (startOf a) e out ≡ rawOf s h a e out
-  unfolding rawOf rawIn
-  raw-row x q = rw q
-
 module _ (s t : List ℕ) (u r : ℕ) (a e : Bound) (out : List ℕ) where
   pub raw-long : overLimit (length s) ≡ true → leaves (Refused TooLong) out ≡ rawRead s t u r a e out
   unfolding rawRead refuses
   raw-long h = rw h
 
-  pub raw-short : overLimit (length s) ≡ false → rawOf s (heldAt t u r) a e out ≡ rawRead s t u r a e out
-  unfolding rawRead
-  raw-short h = rw h
+  module _ (h : overLimit (length s) ≡ false) where
+    pub raw-refused : (f : Refusal) → boundedRow a e (heldAt t u r) ≡ held.Refused f → leaves (Refused f) out ≡ rawRead s t u r a e out
+    unfolding rawRead rawOf rawIn refuses
+    raw-refused f q = rw (h, q)
+
+    pub raw-row : (x : Record) → boundedRow a e (heldAt t u r) ≡ held.Row x → rawAt s (addressOf x (record { 0 = startOf a })) (startOf a) e out ≡ rawRead s t u r a e out
+    unfolding rawRead rawOf rawIn
+    raw-row x q = rw (h, q)
+
+-- ---- by name
+
+module _ (f : Found) (read : ℕ → Outcome) (out : List ℕ) where
+  pub found-refused : (y : Refusal) → f ≡ found.Refused y → leaves (Refused y) out ≡ readFound f read out
+  unfolding readFound refuses
+  found-refused y q = rw q
+
+  pub found-row : (r : ℕ) → f ≡ found.Row r → read r ≡ readFound f read out
+  unfolding readFound
+  found-row r q = rw q

@@ -1,5 +1,9 @@
 pub mod Region
 pub mod Exact
 pub mod Raw
-pub mod Walk
+pub mod Named
+pub mod Inside
+pub mod Copy
 pub mod Laws
+pub mod Dependence
+pub mod Examples

@@ -1,3 +1,6 @@
+-- `checker::check` meets its contract: the size limit comes first, and what the file and the index from the place on lead to stays
+-- what they lead to as a whole.
+-- Assumes nothing.
 use Prim.Native.Nat.{_-_, _≤_}
 use mathlib.Core.Path.{_≡_, sym, _∙_}
 use borrow.Author.Needs.{needs}
@@ -7,10 +10,6 @@ use Rattle.checker.specs.Check.{checkOf}
 use Rattle.checker.specs.Steps.{checkAt, Moved, check-start, check-long, check-long-index, check-next, check-refused, check-left, check-end}
 use Rattle.checker.proofs.check.Statement.{statement}
 use Rattle.checker.proofs.check.Tie as tie
-use Rattle.checker.proofs.check.Reads as reads
-use Rattle.checker.proofs.check.Lts as lts
-use Rattle.checker.proofs.check_record.Reads as check-record-reads
-use Rattle.refusal.proofs.over_limit.Reads as over-limit-reads
 
 abbrev Inv-loop : tie.InvT-loop
 Inv-loop fasta index w₀ w = (w .records ≤ w .fasta) × (w .fasta ≤ length fasta) × (w .index ≤ length index) × (checkAt fasta index w ≡ checkOf fasta index)

@@ -1,13 +1,12 @@
+-- `checker::check_record` meets its contract: the record at the place is its definition line and the sequence lines behind it, and
+-- the line at the place is the first that is left.
+-- Assumes nothing.
 use borrow.Author.Needs.{needs}
 use native.Mathlib.Omega.{arith}
 use Rattle.lines.specs.Laws.{lineEnd-le}
 use Rattle.checker.specs.Steps.{stepped-refused, stepped-next}
 use Rattle.checker.proofs.check_record.Statement.{statement}
 use Rattle.checker.proofs.check_record.Tie as tie
-use Rattle.checker.proofs.check_record.Reads as reads
-use Rattle.checker.proofs.check_record.Lts as lts
-use Rattle.checker.proofs.judge_record.Reads as judge-record-reads
-use Rattle.lines.proofs.line_end.Reads as line-end-reads
 
 line-end-requires : tie.Need-line-end-requires
 line-end-requires c κs = search needs

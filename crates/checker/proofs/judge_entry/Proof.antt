@@ -1,12 +1,10 @@
+-- `checker::judge_entry` meets its contract: the names decide first, then the sequence.
+-- Assumes nothing.
 use borrow.Author.Needs.{needs}
 use mathlib.Core.Path.{_∙_}
 use Rattle.checker.specs.Steps.{judged-name, judged-same}
 use Rattle.checker.proofs.judge_entry.Statement.{statement}
 use Rattle.checker.proofs.judge_entry.Tie as tie
-use Rattle.checker.proofs.judge_entry.Reads as reads
-use Rattle.checker.proofs.judge_entry.Lts as lts
-use Rattle.checker.proofs.judge_sequence.Reads as judge-sequence-reads
-use Rattle.checker.proofs.same_name.Reads as same-name-reads
 
 same-name-requires : tie.Need-same-name-requires
 same-name-requires c κs = search needs

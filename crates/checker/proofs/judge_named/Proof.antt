@@ -1,3 +1,5 @@
+-- `checker::judge_named` meets its contract: a line that reads has its name inside, and line bases that are not 0.
+-- Assumes nothing.
 use borrow.Author.Needs.{needs}
 use mathlib.Core.Path.{sym, _∙_}
 use native.Mathlib.Omega.{arith}
@@ -5,10 +7,6 @@ use Rattle.index_line.specs.Laws.{line-sound}
 use Rattle.checker.specs.Steps.{judged-absent, judged-line, judged-row}
 use Rattle.checker.proofs.judge_named.Statement.{statement}
 use Rattle.checker.proofs.judge_named.Tie as tie
-use Rattle.checker.proofs.judge_named.Reads as reads
-use Rattle.checker.proofs.judge_named.Lts as lts
-use Rattle.checker.proofs.judge_entry.Reads as judge-entry-reads
-use Rattle.index_line.proofs.parse_line.Reads as parse-line-reads
 
 returns : tie.Need-returns
 returns c = judged-absent _ _ _ _ _ _ (c .if1 .taken)

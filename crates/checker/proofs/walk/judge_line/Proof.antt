@@ -5,9 +5,6 @@ use borrow.Author.Needs.{needs}
 use Rattle.checker.specs.Walk.{judged-none, judged-there, judged-crosses, judged-elsewhere}
 use Rattle.checker.proofs.walk.judge_line.Statement.{statement}
 use Rattle.checker.proofs.walk.judge_line.Tie as tie
-use Rattle.checker.proofs.walk.judge_line.Reads as reads
-use Rattle.checker.proofs.walk.judge_line.Lts as lts
-use Rattle.checker.proofs.walk.is_next.Reads as is-next-reads
 
 returns : tie.Need-returns
 returns c = judged-none _ _ _ _ _ (c .before .pre .0) (c .if1 .taken)

@@ -1,37 +1,28 @@
+-- `checker::walk::walk_line` meets its contract: a base elsewhere stays the first; otherwise the line is judged beside its row.
+-- Assumes nothing.
 use borrow.Author.Needs.{needs}
 use Rattle.checker.specs.Walk.{walked-elsewhere, walked-there}
 use Rattle.checker.proofs.walk.walk_line.Statement.{statement}
 use Rattle.checker.proofs.walk.walk_line.Tie as tie
-use Rattle.checker.proofs.walk.walk_line.Reads as reads
-use Rattle.checker.proofs.walk.walk_line.Lts as lts
-use Rattle.checker.proofs.walk.judge_line.Reads as judge-line-reads
-use Rattle.checker.proofs.walk.moved_on.Reads as moved-on-reads
 
--- src/walk.rt:102:15
 add-all : tie.Need-add-all
 add-all c = search needs
 
--- src/walk.rt:104:27
 enum-known-placed : tie.Need-enum-known-placed
 enum-known-placed c = search needs
 
--- src/walk.rt:110:17
 enum-told : tie.Need-enum-told
 enum-told c = search needs
 
--- src/walk.rt:110:17
 judge-line-requires : tie.Need-judge-line-requires
 judge-line-requires c κs = search needs
 
--- src/walk.rt:111:17
 moved-on-requires : tie.Need-moved-on-requires
 moved-on-requires c κs = search needs
 
--- src/walk.rt:96:1
 returns : tie.Need-returns
 returns c = walked-elsewhere _ _ _ _ _ _ (c .before .placed .given .1)
 
--- src/walk.rt:96:1
 returns-2 : tie.Need-returns-2
 returns-2 c =
     let a = c .before .before .before .before .before .before in

@@ -1,3 +1,5 @@
+-- `checker::walk::walk_rows` meets its contract: the offsets of the bases passed, and those of the lines from `i` on, are all.
+-- Assumes nothing.
 use Prim.Native.Nat.{_-_, _≤_, _<_, _+_}
 use mathlib.Core.Path.{_≡_, refl, sym, _∙_}
 use mathlib.Core.Bool.{false}
@@ -9,12 +11,6 @@ use Rattle.lines.specs.Lines.{seqAt, none}
 use Rattle.checker.specs.Walk.{Onward, onward-start, onward-line, onward-end, line-within}
 use Rattle.checker.proofs.walk.walk_rows.Statement.{statement}
 use Rattle.checker.proofs.walk.walk_rows.Tie as tie
-use Rattle.checker.proofs.walk.walk_rows.Reads as reads
-use Rattle.checker.proofs.walk.walk_rows.Lts as lts
-use Rattle.checker.proofs.walk.walk_line.Reads as walk-line-reads
-use Rattle.lines.proofs.base_count.Reads as base-count-reads
-use Rattle.lines.proofs.line_end.Reads as line-end-reads
-use Rattle.lines.proofs.sequence_ends.Reads as sequence-ends-reads
 
 abbrev Inv-loop : tie.InvT-loop
 Inv-loop s at row-bases row-width walk₀ i₀ walk i = Onward s at (walk₀ .row .start .0) row-bases row-width i walk

@@ -2,7 +2,7 @@
 -- it is a single digit, w digits are enough and fewer are not.
 -- Assumes nothing.
 use Prim.Native.Nat.{suc, _≤_, _<_, _+_, _-_, _/_, _^_}
-use mathlib.Core.Path.{_≡_, ap, _∙_, sym}
+use mathlib.Core.Path.{_≡_, _∙_}
 use native.Mathlib.Omega.{arith}
 use Rattle.index_line.specs.Digits.{digits-counted, ten-times}
 use Rattle.index_line.proofs.decimal.digit_count.Statement.{statement}

@@ -1,12 +1,9 @@
 -- `index_line::write_number` meets its contract: without room nothing is written; with room the digits are laid over what was there.
 -- Assumes nothing.
 use borrow.Author.Needs.{needs}
-use mathlib.Core.Path.{_≡_, ap, _∙_, sym}
+use mathlib.Core.Path.{_∙_}
 use native.Mathlib.Omega.{arith}
-use lib.ListN.{length}
-use Prim.Native.Nat.{_+_, _≤_, _<_}
-use Rattle.index_line.specs.Bytes.{overlaid, laid-none, laid-all}
-use Rattle.index_line.specs.Decimal.{decimalOf}
+use Rattle.index_line.specs.Bytes.{laid-none, laid-all}
 use Rattle.index_line.specs.Digits.{all-digits}
 use Rattle.index_line.proofs.decimal.write_number.Statement.{statement}
 use Rattle.index_line.proofs.decimal.write_number.Tie as tie

@@ -9,11 +9,11 @@ use Rattle.index_line.proofs.fields.field_length.Tie as tie
 returns : tie.Need-returns
 returns c = len-all _ _ (c .if1 .taken)
 
-first-tab-requires : tie.Need-first-tab-requires
-first-tab-requires c κs = search needs
+first-byte-requires : tie.Need-first-byte-requires
+first-byte-requires c κs = search needs
 
 returns-2 : tie.Need-returns-2
-returns-2 c = c .first-tab .ensures ∙ len-tab _ _ (c .before .if1 .left)
+returns-2 c = c .first-byte .ensures ∙ len-tab _ _ (c .before .if1 .left)
 
 pub field-length-spec : {M : Type 1} → statement M
-field-length-spec = tie.close (tie.spec returns first-tab-requires returns-2)
+field-length-spec = tie.close (tie.spec returns first-byte-requires returns-2)

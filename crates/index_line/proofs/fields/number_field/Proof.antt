@@ -1,7 +1,7 @@
 -- `index_line::fields::number_field` meets its contract: the field is the front of the rest, and `whole_field` reads it.
 -- Assumes nothing.
 use borrow.Author.Needs.{needs}
-use mathlib.Core.Path.{_≡_, sym, _∙_}
+use mathlib.Core.Path.{sym}
 use lib.Seq.{length-take-le}
 use Rattle.index_line.specs.Reading.{fieldLen-le}
 use Rattle.index_line.proofs.fields.number_field.Statement.{statement}

@@ -17,15 +17,15 @@ use Rattle.index_line.proofs.fields.read_numbers.Statement.{statement}
 use Rattle.index_line.proofs.fields.read_numbers.Tie as tie
 
 abbrev Inv-loop : tie.InvT-loop
-Inv-loop content tab line numbers₀ at₀ plain₀ place₀ i₀ numbers at plain place i =
+Inv-loop content name line numbers₀ tab₀ plain₀ place₀ i₀ numbers tab plain place i =
     (i ≤ length numbers₀)
     × ((length numbers ≡ length numbers₀)
     × ((place ≡ i + 2)
-    × (after (take i numbers) plain (numbersFrom line place (length numbers₀ - i) (behind (length numbers₀ - i) (drop at content)))
-    ≡ numbersFrom line 2 (length numbers₀) (behind (length numbers₀) (drop tab content)))))
+    × (after (take i numbers) plain (numbersFrom line place (length numbers₀ - i) (behind (length numbers₀ - i) (drop tab content)))
+    ≡ numbersFrom line 2 (length numbers₀) (behind (length numbers₀) (drop name content)))))
 
 abbrev μ-loop : tie.MeasureT-loop
-μ-loop content tab line numbers₀ at₀ plain₀ place₀ i₀ numbers at plain place i = length numbers₀ - i
+μ-loop content name line numbers₀ tab₀ plain₀ place₀ i₀ numbers tab plain place i = length numbers₀ - i
 
 loop-holds : tie.Need-loop-holds Inv-loop μ-loop
 loop-holds c = (omega arith, (refl, (omega arith, rw sub-zero (after-none _))))
@@ -36,8 +36,8 @@ same-length c = omega arith
 returns : tie.Need-returns Inv-loop μ-loop
 returns c = on-absent _ _ _ _ _ _ _ _ (c .before .before .loop .inv .1 .1 .1) (omega arith) (c .if1 .taken)
 
-add-start : tie.Need-add-start Inv-loop μ-loop
-add-start c = omega arith
+add-number-field : tie.Need-add-number-field Inv-loop μ-loop
+add-number-field c = omega arith
 
 sub-number-field : tie.Need-sub-number-field Inv-loop μ-loop
 sub-number-field c = omega arith
@@ -61,12 +61,12 @@ number-field-requires c κs = search needs
 said : (c : tie.After-number-field Inv-loop μ-loop)
     → (let l = c .before .before .before .before in
     let a = l .before .before .before .args in
-    let r = drop (l .loop .at + 1) (a .content .now) in
+    let r = drop (l .loop .tab + 1) (a .content .now) in
     c .number-field .result ≡ fieldSays (a .line) (l .loop .place) (take (fieldLen (length (a .numbers .now) - l .loop .i - 1) r) r))
 said c =
     let l = c .before .before .before .before in
     let a = l .before .before .before .args in
-    rw (← l .loop .inv .1 .0, ← take-rest (l .loop .at + 1) (a .content .now)) (c .number-field .ensures)
+    rw (← l .loop .inv .1 .0, ← take-rest (l .loop .tab + 1) (a .content .now)) (c .number-field .ensures)
 
 enum-known-r : tie.Need-enum-known-r Inv-loop μ-loop
 enum-known-r c = search needs
@@ -93,12 +93,15 @@ slice-write-numbers c = omega arith
 good : (c : tie.After-f Inv-loop μ-loop)
     → (let l = c .before .before .before .before .before .before in
     let a = l .before .before .before .args in
-    let r = drop (l .loop .at + 1) (a .content .now) in
+    let r = drop (l .loop .tab + 1) (a .content .now) in
     Good (c .f .given .0 .0) ≡ fieldSays (a .line) (l .loop .place) (take (fieldLen (length (a .numbers .now) - l .loop .i - 1) r) r))
 good c = sym (c .f .given .1) ∙ said (c .before .before)
 
-add-at : tie.Need-add-at Inv-loop μ-loop
-add-at c =
+add-tab : tie.Need-add-tab Inv-loop μ-loop
+add-tab c = omega arith
+
+add-tab-2 : tie.Need-add-tab-2 Inv-loop μ-loop
+add-tab-2 c =
     let g = c .before .before .before in
     let m = g .before .before in
     let l = m .before .before .before .before in
@@ -137,7 +140,7 @@ same-length-3 c = omega arith
 returns-3 : tie.Need-returns-3 Inv-loop μ-loop
 returns-3 c =
     let l = c .before .loop in
-    rw (← take-all (l .i) (l .numbers) (omega arith)) (on-end _ _ _ (c .before .before .before .before .args .content .now) (l .at) _ _ _ (l .inv .1 .1 .1) (omega arith))
+    rw (← take-all (l .i) (l .numbers) (omega arith)) (on-end _ _ _ (c .before .before .before .before .args .content .now) (l .tab) _ _ _ (l .inv .1 .1 .1) (omega arith))
 
 pub read-numbers-spec : {M : Type 1} → statement M
 read-numbers-spec =
@@ -148,7 +151,7 @@ read-numbers-spec =
     loop-holds
     same-length
     returns
-    add-start
+    add-number-field
     sub-number-field
     part-number-field-start
     part-number-field-end
@@ -161,7 +164,8 @@ read-numbers-spec =
     enum-known-f
     mul-numbers
     slice-write-numbers
-    add-at
+    add-tab
+    add-tab-2
     add-place
     add-i
     loop-less

@@ -1,7 +1,6 @@
 -- `index_line::fields::write_text` meets its contract: a name that splits, no room, or the text put at the front, by a law each.
 -- Assumes nothing.
 use borrow.Author.Needs.{needs}
-use mathlib.Core.Path.{_≡_, sym, ap, _∙_}
 use native.Mathlib.Omega.{arith}
 use Rattle.index_line.specs.Writing.{text-split, text-no-room, text-put}
 use Rattle.index_line.proofs.fields.write_text.Statement.{statement}

@@ -1,0 +1,189 @@
+// The exact read of a record: the bytes at the offsets of a region's bases. Room is judged before places, so no walk is longer
+// than the output. Where offsets never go back one place is judged, and a copy goes from line to line without the rule.
+use crate::Bound;
+use crate::RegionRead;
+use crate::bounds;
+use record::Address;
+use record::Position;
+use record::Record;
+use refusal::Refusal;
+ghost use mathlib.Core.Path.{_≡_};
+ghost use Prim.Native.Nat.{_+_, _-_, _%_, _^_, _≤_, _<_, min};
+ghost use mathlib.Core.List.{_++_, map};
+ghost use mathlib.Core.Bool.{false, _&&_};
+ghost use lib.ListN.{length, drop};
+ghost use lib.Dec.{leb, ltb};
+ghost use lib.Seq.{paste};
+ghost use Rattle.record.specs.Bases.{byteAt};
+ghost use Rattle.record.specs.Place.{placeIn};
+ghost use Rattle.region.specs.Region.{leaves, badBounds, startOf, endOf, basesTo};
+ghost use Rattle.region.specs.Exact.{offsetsOf, inFile, basesFrom, regionOf};
+ghost use Rattle.region.specs.Inside.{Addressable};
+
+// The smaller of what is left of a line and what is left of a region.
+fn shorter(line: u64, left: usize) -> usize
+    ensures { λ r. ⌜ r ≡ min left line ⌝ }
+{
+    if line < left as u64 {
+        return line as usize;
+    }
+    left
+}
+
+// How many of `left` bases from base `p` on are in one line, as the record has it.
+fn in_line(x: Record, p: Position, left: usize) -> usize
+    requires { ⌜ (0 < x .«line_bases») × (0 < p .0) ⌝ }
+    ensures { λ r. ⌜ r ≡ min left (x .«line_bases» - (p .0 - 1) % x .«line_bases») ⌝ }
+{
+    let bases = x.line_bases;
+    shorter(bases - (p.0 - Record::FIRST) % bases, left)
+}
+
+// How many bytes a file of so many has from base `p` on.
+fn bytes_from(bytes: usize, x: Record, p: Position) -> usize
+    requires { ⌜ (0 < x .«line_bases») × (0 < x .«line_width») × (0 < p .0) ⌝ }
+    ensures { λ r. ⌜ r ≡ bytes - placeIn x (p .0 - 1) ⌝ }
+{
+    let Address::At(o) = x.offset_of(p) else {
+        return 0;
+    };
+    let all = bytes as u64;
+    if all <= o.0 {
+        return 0;
+    }
+    (all - o.0) as usize
+}
+
+// Do offsets never go back, and is base `last` in a file of so many bytes: then so is every base before it.
+fn last_inside(bytes: usize, x: Record, last: Position) -> bool
+    requires { ⌜ (0 < x .«line_bases») × (0 < x .«line_width») × (0 < last .0) ⌝ }
+    ensures { λ r. ⌜ r ≡ (leb (x .«line_bases») (x .«line_width») && ltb (placeIn x (last .0 - 1)) bytes) ⌝ }
+{
+    if x.line_width < x.line_bases {
+        return false;
+    }
+    0 < bytes_from(bytes, x, last)
+}
+
+// How many of `n` bases from base `a` on lie in a file of so many bytes, up to the first that does not, line by line.
+fn count_lines(bytes: usize, x: Record, a: Position, n: usize) -> usize
+    requires { ⌜ Addressable x (a .0) n ⌝ }
+    ensures { λ r. ⌜ r ≡ inFile bytes (offsetsOf x (a .0) n) ⌝ }
+{
+    let mut k = 0;
+    while k < n {
+        let p = Position(a.0 + k as u64);
+        let run = in_line(x, p, n - k);
+        let rest = bytes_from(bytes, x, p);
+        if rest < run {
+            return k + rest;
+        }
+        k += run;
+    }
+    k
+}
+
+// The same count, by the last base where that is enough.
+fn count_inside(bytes: usize, x: Record, a: Position, n: usize) -> usize
+    requires { ⌜ Addressable x (a .0) n ⌝ }
+    ensures { λ r. ⌜ r ≡ inFile bytes (offsetsOf x (a .0) n) ⌝ }
+{
+    let last = Position(a.0 + (n as u64 - 1));
+    if last_inside(bytes, x, last) {
+        return n;
+    }
+    count_lines(bytes, x, a, n)
+}
+
+// The offset of base `p`, which is known to fit.
+fn offset_in(x: Record, p: Position) -> usize
+    requires { ⌜ (0 < x .«line_bases») × (0 < x .«line_width») × (0 < p .0) × (placeIn x (p .0 - 1) < 2 ^ 64) ⌝ }
+    ensures { λ r. ⌜ r ≡ placeIn x (p .0 - 1) ⌝ }
+{
+    match x.offset_of(p) {
+        Address::At(o) => o.0 as usize,
+        Address::Nowhere => 0,
+    }
+}
+
+// Copies `n` bytes from `start` on to the output, from `to` on.
+fn copy_run(file: &[u8], start: usize, n: usize, out: &mut [u8], to: usize)
+    requires { ⌜ start + n ≤ length (now file) ⌝ }
+    requires { ⌜ to + n ≤ length (now out) ⌝ }
+    ensures { λ _. ⌜ now (out .exit) ≡ paste (now (out .entry)) to (drop start (now (file .entry))) n ⌝ }
+{
+    let mut k = 0;
+    while k < n {
+        out[to + k] = file[start + k];
+        k += 1;
+    }
+}
+
+// The offset of the next line, where the bases of a line end at offset `end`.
+fn next_line(x: Record, end: usize) -> usize
+    requires { ⌜ (x .«line_bases» ≤ end + x .«line_width») × (end + x .«line_width» < 2 ^ 64 + x .«line_bases») ⌝ }
+    ensures { λ r. ⌜ r + x .«line_bases» ≡ end + x .«line_width» ⌝ }
+{
+    if x.line_width < x.line_bases {
+        return end - (x.line_bases - x.line_width) as usize;
+    }
+    end + (x.line_width - x.line_bases) as usize
+}
+
+// Copies `n` bases from base `a` on, which all lie in the file, to the front of the output. Only the first is addressed by the
+// rule: each line but the first begins where the one before says.
+fn copy_bases(file: &[u8], x: Record, a: Position, n: usize, out: &mut [u8])
+    requires { ⌜ Addressable x (a .0) n ⌝ }
+    requires { ⌜ inFile (length (now file)) (offsetsOf x (a .0) n) ≡ n ⌝ }
+    requires { ⌜ n ≤ length (now out) ⌝ }
+    ensures { λ _. ⌜ now (out .exit) ≡ map (byteAt (now (file .entry))) (offsetsOf x (a .0) n) ++ drop n (now (out .entry)) ⌝ }
+{
+    let mut k = 0;
+    let mut at = offset_in(x, a);
+    let mut run = in_line(x, a, n);
+    while run < n - k {
+        copy_run(file, at, run, out, k);
+        k += run;
+        at = next_line(x, at + run);
+        run = shorter(x.line_bases, n - k);
+    }
+    copy_run(file, at, run, out, k);
+}
+
+// Reads the bases from `first` to `last` of a record.
+fn read_bases(file: &[u8], x: Record, first: Position, last: Position, out: &mut [u8]) -> RegionRead
+    requires { ⌜ (0 < x .«line_bases») × (0 < x .«line_width») × (0 < first .0) × (first .0 ≤ last .0) ⌝ }
+    ensures { λ r. ⌜ leaves r (now (out .exit)) ≡ basesFrom (length (now (file .entry))) (byteAt (now (file .entry))) x (first .0) (basesTo (first .0) (last .0)) (now (out .entry)) ⌝ }
+{
+    let needed = last.0 - first.0 + 1;
+    if (out.len() as u64) < needed {
+        return RegionRead::Refused(Refusal::NoRoom { needed });
+    }
+    let n = needed as usize;
+    let inside = count_inside(file.len(), x, first, n);
+    if inside < n {
+        let base = first.0 + inside as u64;
+        return RegionRead::Refused(Refusal::NotInFile { base });
+    }
+    copy_bases(file, x, first, n, out);
+    RegionRead::Bytes(n)
+}
+
+// Reads a region of a record, by bounds that are not bad.
+pub(crate) fn read_region(
+    file: &[u8],
+    x: Record,
+    start: Bound,
+    end: Bound,
+    out: &mut [u8],
+) -> RegionRead
+    requires { ⌜ (0 < x .«line_bases») × (0 < x .«line_width») × (badBounds start end ≡ false) ⌝ }
+    ensures { λ r. ⌜ leaves r (now (out .exit)) ≡ regionOf (length (now (file .entry))) (byteAt (now (file .entry))) x (startOf start) (endOf (x .length) end) (now (out .entry)) ⌝ }
+{
+    let first = bounds::first_base(start);
+    let last = bounds::last_base(x.length, end);
+    if bounds::past_length(x.length, first, last) {
+        return RegionRead::Refused(Refusal::PastLength { length: x.length });
+    }
+    read_bases(file, x, first, last, out)
+}

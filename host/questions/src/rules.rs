@@ -1,0 +1,130 @@
+//! When two answers to a question count as the same.
+//!
+//! Against the model they must be equal. Against the original there are listed differences, and each of them is held to what
+//! the list says: an answer that merely looks like one is a difference.
+
+use crate::form;
+
+/// Refusals that the original doesn't have: where one is right, it has no answer to give.
+const ADDED: [&str; 7] = ["1", "8", "13", "14", "16", "18", "25"];
+
+/// Families where the original tells the memory after a refusal too.
+const TELLS_MEMORY: [&str; 3] = ["idx", "cmp", "rev"];
+
+/// How two answers stand to each other.
+#[derive(Clone, Copy, Debug, Eq, Ord, PartialEq, PartialOrd)]
+pub enum Kind {
+    /// They are equal.
+    Same,
+    /// They are equal in all that the original tells.
+    SameAsToldOf,
+    /// The original has no answer, and ours is a refusal that was added.
+    Added,
+    /// The original has no answer.
+    Skipped,
+    /// Ours wasn't asked: there is no program to run.
+    NotAsked,
+    /// Listed: a plus before a number, which the original takes.
+    Plus,
+    /// Listed: the program ends at its limits of bytes and rows.
+    ProgramLimit,
+    /// Listed: an absent end is no limit, where the original stops at the greatest base position.
+    NoLimit,
+    /// They differ, and no list says so.
+    Different,
+}
+
+impl Kind {
+    /// The kind in a few words.
+    pub fn words(self) -> &'static str {
+        match self {
+            Self::Same => "same",
+            Self::SameAsToldOf => "same as far as told",
+            Self::Added => "no answer, an added refusal",
+            Self::Skipped => "no answer",
+            Self::NotAsked => "not asked",
+            Self::Plus => "listed: plus",
+            Self::ProgramLimit => "listed: program's limits",
+            Self::NoLimit => "listed: no limit",
+            Self::Different => "DIFFERENT",
+        }
+    }
+}
+
+/// By which rules answers are compared.
+#[derive(Clone, Copy, Debug, Eq, PartialEq)]
+pub enum Rules {
+    /// The first speaker is the original.
+    Original,
+    /// The first speaker is the model.
+    Exact,
+}
+
+impl Rules {
+    /// Holds our answer against the first speaker's.
+    pub fn judge(self, question: &str, first: &str, ours: &str) -> Kind {
+        if ours == "skip" && first != "skip" {
+            return if question.starts_with("prg ") { Kind::NotAsked } else { Kind::Different };
+        }
+        match self {
+            Self::Exact if first == ours => Kind::Same,
+            Self::Exact => Kind::Different,
+            Self::Original => against_original(question, first, ours),
+        }
+    }
+}
+
+fn against_original(question: &str, original: &str, ours: &str) -> Kind {
+    let (family, mine): (_, Vec<&str>) = (question.split(' ').next().unwrap_or_default(), ours.split(' ').collect());
+    let refused = if mine[0] == "no" { mine.get(1).copied() } else { None };
+    if original == "skip" {
+        return if refused.is_some_and(|n| ADDED.contains(&n)) { Kind::Added } else { Kind::Skipped };
+    }
+    if original == ours {
+        return Kind::Same;
+    }
+    let theirs: Vec<&str> = original.split(' ').collect();
+    if theirs[0] == "no" && refused.is_some() {
+        let all = TELLS_MEMORY.contains(&family);
+        let length = if all { theirs.len().max(mine.len()) } else { 4 };
+        let told = (0..length).all(|k| theirs.get(k) == Some(&"?") || theirs.get(k) == mine.get(k));
+        if told {
+            return Kind::SameAsToldOf;
+        }
+    }
+    let arguments: Vec<&str> = question.split(' ').skip(1).collect();
+    match family {
+        "ixc" | "ixt" if is_plus(&arguments, &mine) => Kind::Plus,
+        "prg" if is_program_limit(&arguments, original, ours) => Kind::ProgramLimit,
+        "rar" if is_no_limit(&arguments, &theirs, &mine) => Kind::NoLimit,
+        _ => Kind::Different,
+    }
+}
+
+/// Ours refuses a number, and the field that it names begins with a plus.
+fn is_plus(arguments: &[&str], mine: &[&str]) -> bool {
+    let [_, "11", line, field, ..] = mine else { return false };
+    let (Ok(line), Ok(field)) = (line.parse::<usize>(), field.parse::<usize>()) else { return false };
+    let text = arguments.first().and_then(|word| form::bytes(word)).unwrap_or_default();
+    // a content that is read alone is one line, whatever is in it
+    let line = if arguments.len() == 1 { Some(&text[..]) } else { text.split(|b| *b == b'\n').nth(line - 1) };
+    line.and_then(|line| line.splitn(5, |b| *b == b'\t').nth(field - 1)).is_some_and(|field| field.starts_with(b"+"))
+}
+
+/// Ours ends with refusal 8 at 1,024 rows, and all before it is the beginning of the original's.
+fn is_program_limit(arguments: &[&str], original: &str, ours: &str) -> bool {
+    let told = |word: &str| form::bytes(word).unwrap_or_default();
+    let (theirs, mine, input) = (told(original), told(ours), told(arguments[0]));
+    let rows = mine.strip_suffix(b"refused 8 1024 0\n").unwrap_or_default();
+    let full = rows.iter().filter(|b| **b == b'\n').count() == 1_024;
+    input.len() <= 65_536 && full && theirs.len() > rows.len() && theirs.starts_with(rows)
+}
+
+/// The end is absent, the original's answer is as long as there are base positions up to the greatest, and ours begins with it.
+fn is_no_limit(arguments: &[&str], theirs: &[&str], mine: &[&str]) -> bool {
+    let [_, _, _, _, start, "-", _] = arguments else { return false };
+    let (["ok", count, theirs], ["ok", _, mine]) = (theirs, mine) else { return false };
+    let (Ok(start), Ok(count)) = (start.parse::<u64>(), count.parse::<u64>()) else { return false };
+    let given = 1 + 2 * count as usize;
+    start > 0 && count == u64::MAX - start + 1 && mine.get(..given) == theirs.get(..given)
+}

@@ -1,0 +1,160 @@
+//! Why a call gave no answer, in numbers and in words.
+
+use std::error::Error;
+use std::fmt;
+
+/// What was asked for when it was refused. The two numbers of some refusals mean different things in different calls.
+#[derive(Clone, Copy, Debug, Eq, PartialEq)]
+#[non_exhaustive]
+pub enum Call {
+    /// Reading a definition line.
+    Definition,
+    /// Indexing a file, or one of its records.
+    Index,
+    /// Reading an index text, or one of its lines.
+    ReadIndex,
+    /// Writing a line of an index.
+    WriteIndex,
+    /// Holding an index against its file.
+    Check,
+    /// Looking up a name.
+    Find,
+    /// An exact read.
+    ReadExact,
+    /// A raw read.
+    ReadRaw,
+    /// Reading lines or sequences from an offset on.
+    ReadSequence,
+    /// Complement or reverse complement.
+    Complement,
+}
+
+/// Why a call gave no answer: the refusal's number and its two numbers, 0 where none is named.
+///
+/// Its `Display` says in words what is wrong and where, then the numbers:
+///
+/// ```
+/// let table = wakeluri::index(b">s\nACGT\nAC\n")?;
+/// let refusal = table.read_exact(b">s\nACGT\nAC\n", 0, 5..=7).unwrap_err();
+/// assert_eq!((refusal.number, refusal.first), (17, 6));
+/// assert_eq!(refusal.to_string(), "the record has 6 bases, and the region goes past them: refused 17 (length 6)");
+/// # Ok::<(), wakeluri::Refusal>(())
+/// ```
+#[derive(Clone, Copy, Debug, Eq, PartialEq)]
+pub struct Refusal {
+    /// The number, from 1.
+    pub number: u64,
+    /// The first of its two numbers.
+    pub first: u64,
+    /// The second.
+    pub second: u64,
+    /// What was asked for.
+    pub call: Call,
+}
+
+/// The five columns of an index line, by their field's number.
+fn column(field: u64) -> &'static str {
+    match field {
+        2 => "the length",
+        3 => "the offset of the first base",
+        4 => "the bases in a line",
+        5 => "the bytes in a line",
+        _ => "the name",
+    }
+}
+
+impl Refusal {
+    /// The refusal of an answer's three numbers, if there is one.
+    pub(crate) fn of(call: Call, number: u64, first: u64, second: u64) -> Result<(), Self> {
+        if number == 0 { Ok(()) } else { Err(Self { number, first, second, call }) }
+    }
+
+    /// What is wrong and where, in words.
+    ///
+    /// ```
+    /// let refusal = wakeluri::check(b">s\nACGT\nAC\n", b"s\t6\t3\t4\t6\n").unwrap_err();
+    /// assert_eq!(refusal.words(), "base 5 of record 1 is not where its index line says");
+    /// ```
+    pub fn words(&self) -> String {
+        let (first, second) = (self.first, self.second);
+        let checking = self.call == Call::Check;
+        let line = if checking { format!("the index line of record {first}") } else { format!("line {first}") };
+        let definition =
+            if checking { format!("the definition line of record {first}") } else { "a definition line".to_string() };
+        match self.number {
+            1 => "an input has more than 1,099,511,627,776 bytes".to_string(),
+            2 => format!("{definition} is empty"),
+            3 => format!("{definition} does not begin with '>'"),
+            4 => format!("{definition} has no name after its '>'"),
+            5 => format!("a record has no bases in its first line, which ends at offset {first}"),
+            6 => format!("a line has {first} bases, and its record's lines have {second}"),
+            7 => format!("a line has {first} bytes with its end, and its record's lines have {second}"),
+            8 => format!("the table has room for {first} rows, and there are more"),
+            9 => format!("{line} is empty"),
+            10 => format!("{line} ends before field {second}, {}", column(second)),
+            11 => format!("{line} has no number that 64 bits hold in field {second}, {}", column(second)),
+            12 => format!("{line} has 0 in field {second}, {}", column(second)),
+            13 => format!("the name has a tab or a line feed at place {first}, and can't stand in an index"),
+            14 => format!("the output is too short: {first} bytes are needed"),
+            15 => "no record has that name".to_string(),
+            16 => "the region's start is after its end, or a bound is 0".to_string(),
+            17 => format!("the record has {} bases, and the region goes past them", first),
+            18 => format!("base {first} would not lie in the file, by the record's numbers"),
+            19 => format!("the index has no line for record {first}"),
+            20 => format!("the index goes on after the lines of all {first} records"),
+            21 => format!("record {first} and its index line have different names"),
+            22 => format!("record {first} has another number of bases than its index line says"),
+            23 => format!("base {second} of record {first} is not where its index line says"),
+            24 => format!("the byte {} at place {first} has no complement", shown(second)),
+            25 => format!("row {first} is not in the table, its name is not in the bytes, or its lines have no bases"),
+            number => format!("it was refused for a reason that this version has no words for, {number}"),
+        }
+    }
+
+    /// The numbers, for a program to read: `refused 17 (length 6)`.
+    ///
+    /// ```
+    /// let refusal = wakeluri::index(b">s\nACGT\n\n\n").unwrap_err();
+    /// assert_eq!(refusal.code(), "refused 6 (found 0, expected 4)");
+    /// ```
+    pub fn code(&self) -> String {
+        let (number, first, second) = (self.number, self.first, self.second);
+        let checking = self.call == Call::Check;
+        let line = if checking { "record" } else { "line" };
+        match number {
+            2..=4 if checking => format!("refused {number} (record {first})"),
+            1..=4 | 15 | 16 => format!("refused {number}"),
+            5 => format!("refused {number} (offset {first})"),
+            6 | 7 => format!("refused {number} (found {first}, expected {second})"),
+            8 => format!("refused {number} (rows {first})"),
+            9 if !checking => format!("refused {number} (line {first})"),
+            9..=12 => format!("refused {number} ({line} {first}, field {second})"),
+            13 => format!("refused {number} (place {first})"),
+            14 => format!("refused {number} (bytes {first})"),
+            17 => format!("refused {number} (length {first})"),
+            18 => format!("refused {number} (base {first})"),
+            19 | 21 | 22 => format!("refused {number} (record {first})"),
+            20 => format!("refused {number} (records {first})"),
+            23 => format!("refused {number} (record {first}, base {second})"),
+            24 => format!("refused {number} (place {first}, byte {second})"),
+            25 => format!("refused {number} (row {first})"),
+            _ => format!("refused {number} ({first}, {second})"),
+        }
+    }
+}
+
+/// A byte as it is written in a sentence.
+fn shown(byte: u64) -> String {
+    match u8::try_from(byte) {
+        Ok(byte) if byte.is_ascii_graphic() => format!("'{}'", char::from(byte)),
+        _ => byte.to_string(),
+    }
+}
+
+impl fmt::Display for Refusal {
+    fn fmt(&self, f: &mut fmt::Formatter<'_>) -> fmt::Result {
+        write!(f, "{}: {}", self.words(), self.code())
+    }
+}
+
+impl Error for Refusal {}

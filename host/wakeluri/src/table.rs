@@ -1,0 +1,381 @@
+//! The rows of an index: made from a file or read from an index text, looked up, and used to read bases.
+
+use crate::refusal::Call;
+use crate::{Bounds, Refusal, entry};
+
+/// The bytes of a row: six numbers of eight bytes.
+const ROW_BYTES: usize = 48;
+
+/// A table of this many rows is tried first. Memory that isn't written to costs nothing.
+const FIRST_ROWS: usize = 1 << 20;
+
+/// What an index says of one record.
+#[derive(Clone, Copy, Debug, Eq, PartialEq)]
+pub struct Record<'n> {
+    /// Its name.
+    pub name: &'n [u8],
+    /// How many bases it has.
+    pub length: u64,
+    /// The offset of its first base in the file.
+    pub position: u64,
+    /// How many bases are in a line.
+    pub line_bases: u64,
+    /// How many bytes are in a line, with its end.
+    pub line_width: u64,
+}
+
+impl<'n> Record<'n> {
+    /// The record of a row's numbers, whose name lies in `names`; none where it doesn't.
+    pub(crate) fn of(names: &'n [u8], row: [u64; 6]) -> Option<Self> {
+        let [name_start, name_length, length, position, line_bases, line_width] = row;
+        let start = usize::try_from(name_start).ok()?;
+        let name = names.get(start..)?.get(..usize::try_from(name_length).ok()?)?;
+        Some(Self { name, length, position, line_bases, line_width })
+    }
+}
+
+/// The rows of an index. Names are not copied: they are parts of the bytes that they came from, a file or an index text.
+///
+/// ```
+/// let fasta = b">sq0\nACGT\n>sq1\nNNNN\nNNNN\nNN\n";
+/// let table = wakeluri::index(fasta)?;
+/// assert_eq!(table.write_index()?, b"sq0\t4\t5\t4\t5\nsq1\t10\t15\t4\t5\n");
+///
+/// let row = table.find(b"sq1")?;
+/// assert_eq!(table.read_exact(fasta, row, 8..)?, b"NNN");
+/// # Ok::<(), wakeluri::Refusal>(())
+/// ```
+#[derive(Clone, Debug, Eq, PartialEq)]
+pub struct Table<'n> {
+    names: &'n [u8],
+    bytes: Vec<u8>,
+    in_use: usize,
+}
+
+/// A row for each record of a FASTA file. Refuses 1 to 7.
+///
+/// It takes time in proportion to the file, and memory in proportion to the records.
+///
+/// ```
+/// let table = wakeluri::index(b">s\nACGT\nAC\n")?;
+/// let record = table.record(0).expect("one record");
+/// assert_eq!((record.name, record.length, record.position), (&b"s"[..], 6, 3));
+/// assert_eq!((record.line_bases, record.line_width), (4, 5));
+///
+/// let refusal = wakeluri::index(b">s\nACGT\nACGT\r\n").unwrap_err();
+/// assert_eq!(
+///     refusal.to_string(),
+///     "a line has 6 bytes with its end, and its record's lines have 5: refused 7 (found 6, expected 5)"
+/// );
+/// # Ok::<(), wakeluri::Refusal>(())
+/// ```
+pub fn index(fasta: &[u8]) -> Result<Table<'_>, Refusal> {
+    let (table, refusal) = index_until_refused(fasta);
+    refusal.map_or(Ok(table), Err)
+}
+
+/// A row for each record of a FASTA file up to the first that is refused, and that refusal.
+///
+/// ```
+/// let (table, refusal) = wakeluri::index_until_refused(b">s\nAC\n>t\n\nGT\n");
+/// assert_eq!(table.len(), 1);
+/// assert_eq!(refusal.map(|refusal| (refusal.number, refusal.first)), Some((5, 10)));
+/// ```
+pub fn index_until_refused(fasta: &[u8]) -> (Table<'_>, Option<Refusal>) {
+    // no record has fewer than four bytes
+    filled(fasta, fasta.len() / 4 + 1, Call::Index, entry::index_file)
+}
+
+/// A row for each line of an index text, whose names are parts of that text. Refuses 1, 9 to 12.
+///
+/// ```
+/// let table = wakeluri::read_index(b"sq0\t4\t5\t4\t5\nsq1\t10\t15\t4\t5\n")?;
+/// assert_eq!(table.find(b"sq1")?, 1);
+///
+/// let refusal = wakeluri::read_index(b"s\t4\t3\t0\t5\n").unwrap_err();
+/// assert_eq!(
+///     refusal.to_string(),
+///     "line 1 has 0 in field 4, the bases in a line: refused 12 (line 1, field 4)"
+/// );
+/// # Ok::<(), wakeluri::Refusal>(())
+/// ```
+pub fn read_index(index: &[u8]) -> Result<Table<'_>, Refusal> {
+    let (table, refusal) = read_index_until_refused(index);
+    refusal.map_or(Ok(table), Err)
+}
+
+/// A row for each line of an index text up to the first that is refused, and that refusal.
+pub fn read_index_until_refused(index: &[u8]) -> (Table<'_>, Option<Refusal>) {
+    // no line has fewer than eight bytes
+    filled(index, index.len() / 8 + 1, Call::ReadIndex, entry::read_index)
+}
+
+/// Fills a table, and tries again with a longer one while it is too short. There are never more rows than `most`.
+fn filled(
+    text: &[u8],
+    most: usize,
+    call: Call,
+    fill: impl Fn(&[u8], &mut [u8]) -> entry::Answer,
+) -> (Table<'_>, Option<Refusal>) {
+    let mut rows = most.min(FIRST_ROWS);
+    loop {
+        let mut bytes = vec![0; rows * ROW_BYTES];
+        let answer = fill(text, &mut bytes);
+        if answer.refusal == 8 && rows < most {
+            // each time so much longer that all the times before cost little beside the last
+            rows = rows.saturating_mul(8).min(most);
+            continue;
+        }
+        let in_use = answer.count as usize;
+        bytes.truncate(in_use.saturating_mul(ROW_BYTES));
+        bytes.shrink_to_fit();
+        let refusal = Refusal::of(call, answer.refusal, answer.first, answer.second).err();
+        return (Table { names: text, bytes, in_use }, refusal);
+    }
+}
+
+/// Accepts a FASTA file and an index of any program, exactly if the index leads to every base of every record.
+///
+/// Refuses 1, and at the first fault, record by record, 2 to 4, 19, 9 to 12, 21 to 23, and last 20.
+///
+/// ```
+/// let fasta = b">s\nACGT\nAC\n";
+/// assert_eq!(wakeluri::check(fasta, b"s\t6\t3\t4\t5\n"), Ok(()));
+///
+/// let refusal = wakeluri::check(fasta, b"s\t6\t3\t4\t6\n").unwrap_err();
+/// assert_eq!(
+///     refusal.to_string(),
+///     "base 5 of record 1 is not where its index line says: refused 23 (record 1, base 5)"
+/// );
+/// ```
+pub fn check(fasta: &[u8], index: &[u8]) -> Result<(), Refusal> {
+    let answer = entry::check(fasta, index);
+    Refusal::of(Call::Check, answer.refusal, answer.first, answer.second)
+}
+
+impl<'n> Table<'n> {
+    /// A table from bytes as they are: six numbers of eight bytes to a row, low byte first. Nothing is judged here; a row that
+    /// can't be used is refused with 25 when it is.
+    pub fn from_bytes(names: &'n [u8], bytes: Vec<u8>, in_use: usize) -> Self {
+        Self { names, bytes, in_use }
+    }
+
+    /// How many rows are in use.
+    pub fn len(&self) -> usize {
+        self.in_use
+    }
+
+    /// Whether there is no row in use.
+    pub fn is_empty(&self) -> bool {
+        self.in_use == 0
+    }
+
+    /// The rows as bytes.
+    pub fn as_bytes(&self) -> &[u8] {
+        &self.bytes
+    }
+
+    /// The bytes that names are parts of.
+    pub fn names(&self) -> &'n [u8] {
+        self.names
+    }
+
+    /// The record of a row; none where there is no such row, or its name isn't in the bytes.
+    pub fn record(&self, row: usize) -> Option<Record<'n>> {
+        if row >= self.in_use {
+            return None;
+        }
+        let from = row.checked_mul(ROW_BYTES)?;
+        let bytes = self.bytes.get(from..)?.get(..ROW_BYTES)?;
+        let mut numbers = [0; 6];
+        for (number, bytes) in numbers.iter_mut().zip(bytes.chunks_exact(8)) {
+            *number = u64::from_le_bytes(bytes.try_into().ok()?);
+        }
+        Record::of(self.names, numbers)
+    }
+
+    /// The records in order of their rows.
+    pub fn records(&self) -> impl Iterator<Item = Record<'n>> + '_ {
+        (0..self.in_use).map_while(|row| self.record(row))
+    }
+
+    /// The first row that has a name. Refuses 1, 25, 15.
+    ///
+    /// ```
+    /// let table = wakeluri::index(b">s\nAC\n>t\nGT\n")?;
+    /// assert_eq!(table.find(b"t"), Ok(1));
+    /// assert_eq!(table.find(b"u").unwrap_err().to_string(), "no record has that name: refused 15");
+    /// # Ok::<(), wakeluri::Refusal>(())
+    /// ```
+    pub fn find(&self, name: &[u8]) -> Result<usize, Refusal> {
+        counted(Call::Find, entry::find(self.names, &self.bytes, self.in_use as u64, name))
+    }
+
+    /// Exactly the bases of a row's record within some bounds, never fewer. Refuses 1, 16, 25, 17, 14, 18.
+    ///
+    /// 14 tells that so many bytes are not to be had.
+    ///
+    /// ```
+    /// let fasta = b">s\nACGT\nAC\n";
+    /// let table = wakeluri::index(fasta)?;
+    /// assert_eq!(table.read_exact(fasta, 0, 4..=5)?, b"TA");
+    /// assert_eq!(table.read_exact(fasta, 0, ..)?, b"ACGTAC");
+    /// # Ok::<(), wakeluri::Refusal>(())
+    /// ```
+    pub fn read_exact(&self, fasta: &[u8], row: usize, bounds: impl Into<Bounds>) -> Result<Vec<u8>, Refusal> {
+        let bounds = bounds.into();
+        with_room(|out| self.read_exact_into(fasta, row, bounds, out))
+    }
+
+    /// As [`Table::read_exact`], to the front of a room that is lent; tells how many bytes. A refusal leaves it as it was.
+    pub fn read_exact_into(
+        &self,
+        fasta: &[u8],
+        row: usize,
+        bounds: impl Into<Bounds>,
+        out: &mut [u8],
+    ) -> Result<usize, Refusal> {
+        let in_use = self.in_use as u64;
+        counted(Call::ReadExact, entry::read_exact(fasta, &self.bytes, in_use, row as u64, bounds.into(), out))
+    }
+
+    /// Exactly the bases of the first record that has a name. Refuses 1, 25, 15, then as [`Table::read_exact`].
+    ///
+    /// ```
+    /// let fasta = b">s\nAC\n>t\nGT\n";
+    /// let table = wakeluri::index(fasta)?;
+    /// assert_eq!(table.read_exact_by_name(fasta, b"t", 2..)?, b"T");
+    /// # Ok::<(), wakeluri::Refusal>(())
+    /// ```
+    pub fn read_exact_by_name(&self, fasta: &[u8], name: &[u8], bounds: impl Into<Bounds>) -> Result<Vec<u8>, Refusal> {
+        let bounds = bounds.into();
+        with_room(|out| self.read_exact_by_name_into(fasta, name, bounds, out))
+    }
+
+    /// As [`Table::read_exact_by_name`], to the front of a room that is lent; tells how many bytes.
+    pub fn read_exact_by_name_into(
+        &self,
+        fasta: &[u8],
+        name: &[u8],
+        bounds: impl Into<Bounds>,
+        out: &mut [u8],
+    ) -> Result<usize, Refusal> {
+        let in_use = self.in_use as u64;
+        let answer = entry::read_exact_by_name(fasta, self.names, &self.bytes, in_use, name, bounds.into(), out);
+        counted(Call::ReadExact, answer)
+    }
+
+    /// The bases that a scan finds from the start on. Refuses 1, 16, 25, 18, 14.
+    ///
+    /// This is what noodles-fasta's query does. It ignores the record's length: it gives fewer bases where the file has fewer,
+    /// and where it starts behind its record it may give bytes of the next definition line. Use [`Table::read_exact`] unless
+    /// you want just that.
+    ///
+    /// ```
+    /// let fasta = b">s\nAC\n>t\nGG\n";
+    /// let table = wakeluri::index(fasta)?;
+    /// assert_eq!(table.read_raw(fasta, 0, 1..=100)?, b"AC");
+    /// assert_eq!(table.read_raw(fasta, 0, 4..=5)?, b"tG");
+    /// # Ok::<(), wakeluri::Refusal>(())
+    /// ```
+    pub fn read_raw(&self, fasta: &[u8], row: usize, bounds: impl Into<Bounds>) -> Result<Vec<u8>, Refusal> {
+        let bounds = bounds.into();
+        with_room(|out| self.read_raw_into(fasta, row, bounds, out))
+    }
+
+    /// As [`Table::read_raw`], to the front of a room that is lent; tells how many bytes.
+    pub fn read_raw_into(
+        &self,
+        fasta: &[u8],
+        row: usize,
+        bounds: impl Into<Bounds>,
+        out: &mut [u8],
+    ) -> Result<usize, Refusal> {
+        let in_use = self.in_use as u64;
+        counted(Call::ReadRaw, entry::read_raw(fasta, &self.bytes, in_use, row as u64, bounds.into(), out))
+    }
+
+    /// The raw read of the first record that has a name. Refuses 1, 25, 15, then as [`Table::read_raw`].
+    pub fn read_raw_by_name(&self, fasta: &[u8], name: &[u8], bounds: impl Into<Bounds>) -> Result<Vec<u8>, Refusal> {
+        let bounds = bounds.into();
+        with_room(|out| self.read_raw_by_name_into(fasta, name, bounds, out))
+    }
+
+    /// As [`Table::read_raw_by_name`], to the front of a room that is lent; tells how many bytes.
+    pub fn read_raw_by_name_into(
+        &self,
+        fasta: &[u8],
+        name: &[u8],
+        bounds: impl Into<Bounds>,
+        out: &mut [u8],
+    ) -> Result<usize, Refusal> {
+        let in_use = self.in_use as u64;
+        let answer = entry::read_raw_by_name(fasta, self.names, &self.bytes, in_use, name, bounds.into(), out);
+        counted(Call::ReadRaw, answer)
+    }
+
+    /// The whole index text: a line for each row. Refuses 1, 25, 13.
+    ///
+    /// ```
+    /// let table = wakeluri::index(b">s\nACGT\r\nAC")?;
+    /// assert_eq!(table.write_index()?, b"s\t6\t3\t4\t6\n");
+    /// # Ok::<(), wakeluri::Refusal>(())
+    /// ```
+    pub fn write_index(&self) -> Result<Vec<u8>, Refusal> {
+        let mut text = vec![];
+        for row in 0..self.in_use {
+            self.write_index_line(row, &mut text)?;
+        }
+        Ok(text)
+    }
+
+    /// Adds the index line of a row to a text. Refuses 1, 25, 13, and then adds nothing.
+    pub fn write_index_line(&self, row: usize, text: &mut Vec<u8>) -> Result<(), Refusal> {
+        let before = text.len();
+        // room for most lines; a longer one says how much it needs
+        text.resize(before + 128, 0);
+        let mut written = self.write_index_line_into(row, text.get_mut(before..).unwrap_or_default());
+        if let Err(Refusal { number: 14, first, .. }) = written {
+            text.resize(before + first as usize, 0);
+            written = self.write_index_line_into(row, text.get_mut(before..).unwrap_or_default());
+        }
+        text.truncate(before + written.unwrap_or(0));
+        written.map(|_| ())
+    }
+
+    /// The index line of a row, at the front of a room that is lent; tells how many bytes. Refuses 1, 25, 13, 14.
+    pub fn write_index_line_into(&self, row: usize, out: &mut [u8]) -> Result<usize, Refusal> {
+        let in_use = self.in_use as u64;
+        counted(Call::WriteIndex, entry::write_index_line(self.names, &self.bytes, in_use, row as u64, out))
+    }
+}
+
+/// The count of an answer, or its refusal.
+pub(crate) fn counted(call: Call, answer: entry::Answer) -> Result<usize, Refusal> {
+    Refusal::of(call, answer.refusal, answer.first, answer.second).map(|()| answer.count as usize)
+}
+
+/// What a read gives, in a room of just its size: the read itself says how much it needs.
+pub(crate) fn with_room(read: impl Fn(&mut [u8]) -> Result<usize, Refusal>) -> Result<Vec<u8>, Refusal> {
+    let refusal = match read(&mut []) {
+        Ok(_) => return Ok(vec![]),
+        Err(refusal) if refusal.number != 14 => return Err(refusal),
+        Err(refusal) => refusal,
+    };
+    let mut out = room(refusal.first).ok_or(refusal)?;
+    let count = read(&mut out)?;
+    out.truncate(count);
+    Ok(out)
+}
+
+/// So many bytes, if they are to be had. They come from the system as zeros, so that what isn't written to costs nothing; an
+/// index that lies about a length costs no memory.
+fn room(bytes: u64) -> Option<Vec<u8>> {
+    let bytes = usize::try_from(bytes).ok()?;
+    let mut tried = Vec::<u8>::new();
+    tried.try_reserve_exact(bytes).ok()?;
+    // the compiler may not drop the trial
+    std::hint::black_box(&tried);
+    drop(tried);
+    Some(vec![0; bytes])
+}

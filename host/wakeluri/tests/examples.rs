@@ -1,0 +1,272 @@
+//! The marked examples of the rules, and what must come out right though it surprises.
+
+use wakeluri::entry::{self, Answer};
+use wakeluri::{Bounds, Table, check, complement, index, read_index, reverse_complement};
+
+/// A table of one row.
+fn row(numbers: [u64; 6]) -> Vec<u8> {
+    numbers.iter().flat_map(|n| n.to_le_bytes()).collect()
+}
+
+/// The three numbers of a refusal.
+fn no(answer: Answer) -> (u64, u64, u64) {
+    (answer.refusal, answer.first, answer.second)
+}
+
+fn index_text(fasta: &[u8]) -> Result<String, (u64, u64, u64)> {
+    let table = index(fasta).map_err(|r| (r.number, r.first, r.second))?;
+    let text = table.write_index().expect("a name without tab and LF");
+    Ok(String::from_utf8(text).expect("text"))
+}
+
+fn checked(fasta: &[u8], text: &[u8]) -> (u64, u64, u64) {
+    check(fasta, text).map_or_else(|r| (r.number, r.first, r.second), |()| (0, 0, 0))
+}
+
+#[test]
+fn m1_two_records() {
+    let fasta = b">sq0\nACGT\n>sq1\nNNNN\nNNNN\nNN\n";
+    assert_eq!(index_text(fasta).as_deref(), Ok("sq0\t4\t5\t4\t5\nsq1\t10\t15\t4\t5\n"));
+}
+
+#[test]
+fn m2_to_m8_what_is_indexed() {
+    assert_eq!(index_text(b">s\nACGT\n\n").as_deref(), Ok("s\t4\t3\t4\t5\n"));
+    assert_eq!(index_text(b">s\nACGT\n\n\n"), Err((6, 0, 4)));
+    assert_eq!(index_text(b">s\nACGT\nACGT\r\n"), Err((7, 6, 5)));
+    assert_eq!(index_text(b">s\n\nACGT\n"), Err((5, 4, 0)));
+    assert_eq!(index_text(b">s\nACGT\r\nACGTA"), Err((6, 5, 4)));
+    assert_eq!(index_text(b">s"), Err((5, 2, 0)));
+    assert_eq!(index_text(b">s\nACGT\r").as_deref(), Ok("s\t4\t3\t4\t5\n"));
+}
+
+#[test]
+fn m9_exact_and_never_clipped() {
+    let fasta = b">s\nACGT\nAC\n";
+    assert_eq!(index_text(fasta).as_deref(), Ok("s\t6\t3\t4\t5\n"));
+    let table = index(fasta).expect("an index");
+    assert_eq!(table.read_exact(fasta, 0, 4..=5).as_deref(), Ok(&b"TA"[..]));
+    let refusal = table.read_exact(fasta, 0, 5..=7).expect_err("past the end");
+    assert_eq!((refusal.number, refusal.first, refusal.second), (17, 6, 0));
+}
+
+#[test]
+fn m10_m11_the_checker() {
+    assert_eq!(checked(b">s\nACGT\nAC\n", b"s\t6\t3\t4\t6\n"), (23, 1, 5));
+    assert_eq!(checked(b">s\nACGT\n", b"s\t4\t3\t60\t61\n"), (0, 0, 0));
+}
+
+#[test]
+fn m12_an_angle_inside_a_line() {
+    let fasta = b">s\nAC>GT\n";
+    let table = index(fasta).expect("an index");
+    assert_eq!(table.read_exact(fasta, 0, 3..=4).as_deref(), Ok(&b">G"[..]));
+    assert_eq!(table.read_raw(fasta, 0, 3..=4).as_deref(), Ok(&b""[..]));
+}
+
+#[test]
+fn m13_reverse_complement() {
+    assert_eq!(reverse_complement(b"ACGU").as_deref(), Ok(&b"ACGT"[..]));
+}
+
+#[test]
+fn an_index_is_accepted_though_the_indexer_refuses_the_file() {
+    assert_eq!(checked(b">s\nACGT\n\n\n", b"s\t4\t3\t4\t5\n"), (0, 0, 0));
+    assert_eq!(checked(b">s\nA\n\n\nC\n", b"s\t2\t3\t1\t4\n"), (0, 0, 0));
+    assert_eq!(checked(b">s\nA\n\n\nC\n", b"s\t2\t3\t1\t4"), (0, 0, 0));
+}
+
+#[test]
+fn what_the_checker_refuses_first() {
+    assert_eq!(checked(b"", b""), (0, 0, 0));
+    assert_eq!(checked(b">\n", b""), (4, 1, 0));
+    assert_eq!(checked(b"", b"\n"), (20, 0, 0));
+    assert_eq!(checked(b">s\n", b"s\t0\t3\t0\t0\n"), (12, 1, 4));
+    assert_eq!(checked(b">s\n", b"s\t0\t9\t7\t1\n"), (0, 0, 0));
+    assert_eq!(checked(b">s\nA\n>t\nA\n", b"s\t1\t3\t1\t2\n"), (19, 2, 0));
+    assert_eq!(checked(b">s\nA\n>t\nA\n", b"s\t1\t3\t1\t2\n\n"), (9, 2, 0));
+    assert_eq!(checked(b">s\nA\n>t\nA\n", b"s\t1\t3\t1\t2\nu\t1\t8\t1\t2\n"), (21, 2, 0));
+    assert_eq!(checked(b">s\nA\n>t\nA\n", b"s\t1\t3\t1\t2\nt\t2\t8\t1\t2\n"), (22, 2, 0));
+    assert_eq!(checked(b">s\nA\n>t\nA\n", b"s\t1\t3\t1\t2\nt\t1\t7\t1\t2\n"), (23, 2, 1));
+    assert_eq!(checked(b">s\nA\n", b"s\t1\t3\t1\t2\nx"), (20, 1, 0));
+}
+
+#[test]
+fn offsets_that_go_back() {
+    let (fasta, table) = (b">s\nACG", row([0, 0, 8, 3, 4, 1]));
+    let mut out = *b"....";
+    let answer = entry::read_exact(fasta, &table, 1, 0, Bounds::from(5..=6), &mut out);
+    assert_eq!((no(answer), answer.count, &out), ((0, 0, 0), 2, b"CG.."));
+    let answer = entry::read_exact(fasta, &table, 1, 0, Bounds::from(3..=5), &mut out);
+    assert_eq!((no(answer), answer.count, &out), ((18, 4, 0), 0, b"CG.."));
+}
+
+#[test]
+fn sums_that_64_bits_do_not_hold() {
+    let table = row([0, 0, 3, 3, 2, u64::MAX]);
+    let mut out = *b"....";
+    let answer = entry::read_exact(b">s\nACG", &table, 1, 0, Bounds::from(3..=3), &mut out);
+    assert_eq!((no(answer), &out), ((18, 3, 0), b"...."));
+    let answer = entry::read_raw(b">s\nACG", &table, 1, 0, Bounds::from(3..=3), &mut out);
+    assert_eq!((no(answer), &out), ((18, 3, 0), b"...."));
+}
+
+#[test]
+fn the_order_of_refusals_in_an_exact_read() {
+    let whole = row([0, 0, u64::MAX, 3, 4, 5]);
+    let read = |table: &[u8], in_use, row, bounds: Bounds| {
+        no(entry::read_exact(b">s\nACG", table, in_use, row, bounds, &mut []))
+    };
+    // a bound 0 is judged before a row that isn't there
+    assert_eq!(read(&[], 0, 7, Bounds::from(0..)), (16, 0, 0));
+    assert_eq!(read(&[], 0, 7, Bounds::from(..)), (25, 7, 0));
+    // a table that lacks rows, before the row that is asked for
+    assert_eq!(read(&whole, 3, 0, Bounds::from(..)), (25, 1, 0));
+    assert_eq!(read(&whole, 1, 0, Bounds::from(..)), (14, u64::MAX, 0));
+    assert_eq!(read(&row([0, 0, 0, 3, 4, 5]), 1, 0, Bounds::from(..)), (17, 0, 0));
+    assert_eq!(read(&row([9, 9, 1, 3, 0, 5]), 1, 0, Bounds::from(..)), (25, 0, 0));
+}
+
+#[test]
+fn a_raw_read_that_starts_behind_its_record() {
+    let fasta = b">s\nAC\n>t\nGG\n";
+    let table = index(fasta).expect("an index");
+    assert_eq!(table.read_raw(fasta, 0, 4..=5).as_deref(), Ok(&b"tG"[..]));
+    assert_eq!(table.read_exact(fasta, 0, 4..=5).map_err(|r| r.number), Err(17));
+    // as many as there are, though a hundred were asked for
+    let mut out = *b"..";
+    assert_eq!(table.read_raw_into(fasta, 0, 1..=100, &mut out), Ok(2));
+}
+
+#[test]
+fn an_absent_end_is_no_limit() {
+    // the original stops at the greatest base position here, and gives one base
+    let table = row([0, 0, 4, 0, u64::MAX / 2, 1]);
+    let mut out = *b"....";
+    let answer = entry::read_raw(b">s\nACGT", &table, 1, 0, Bounds::from(u64::MAX..), &mut out);
+    assert_eq!((no(answer), answer.count, &out), ((0, 0, 0), 4, b"ACGT"));
+}
+
+#[test]
+fn two_calls_for_a_definition() {
+    assert_eq!(entry::definition_line(b"\n").refusal, 2);
+    assert_eq!(entry::definition_content(b"\n").refusal, 3);
+    // the CR of a line without LF stays, and is whitespace
+    let definition = entry::definition_line(b">s\r");
+    assert_eq!((definition.name_start, definition.name_length, definition.description_length), (1, 1, 0));
+    // vertical tab isn't whitespace, form feed is
+    assert_eq!(entry::definition_line(b">a\x0bb\x0cc").name_length, 3);
+}
+
+#[test]
+fn where_a_limited_read_stops() {
+    let mut out = *b"..";
+    let read = |file: &[u8], at, limit, out: &mut [u8]| {
+        let answer = entry::read_sequence_limit(file, at, limit, out);
+        (no(answer), answer.count, answer.next)
+    };
+    assert_eq!(read(b"A\nC", 0, 1, &mut out), ((0, 0, 0), 1, 1));
+    assert_eq!(read(b"\nA", 0, 0, &mut out), ((0, 0, 0), 0, 0));
+    assert_eq!(read(b"A", 9, 4, &mut out), ((0, 0, 0), 0, 9));
+    assert_eq!(read(b"ACGT", 0, 100, &mut out), ((14, 4, 0), 0, 0));
+    assert_eq!(read(b"A>", 0, 1, &mut out), ((0, 0, 0), 1, 1));
+    assert_eq!(read(b"A>", 1, 1, &mut out), ((0, 0, 0), 0, 1));
+}
+
+#[test]
+fn index_lines_by_field_from_the_left() {
+    let refused = |line: &[u8]| {
+        let row = entry::index_line(line);
+        (row.refusal, row.first, row.second)
+    };
+    assert_eq!(refused(b"\n"), (9, 1, 0));
+    assert_eq!(refused(b"s\tx"), (11, 1, 2));
+    assert_eq!(refused(b"s\t4\t3\t0"), (12, 1, 4));
+    assert_eq!(refused(b"s\t4\t3\t18446744073709551616\t5"), (11, 1, 4));
+    assert_eq!(refused(b"s\t4\t3\t4\t5\t6\n"), (11, 1, 5));
+    assert_eq!(refused(b"\t4\t3\t4\t5"), (0, 0, 0));
+    let plain = |line: &[u8]| entry::index_line(line).plain;
+    assert_eq!(plain(b"s\t0\t3\t4\t5\n"), 1);
+    assert_eq!([&b"s\t0\t3\t4\t5"[..], b"s\t0\t3\t4\t5\r\n", b"s\t00\t3\t4\t5\n"].map(plain), [0, 0, 0]);
+}
+
+#[test]
+fn names_that_lie_outside() {
+    let find = |row_numbers, name: &[u8]| {
+        let answer = entry::find(b"ab", &row(row_numbers), 1, name);
+        (no(answer), answer.count)
+    };
+    assert_eq!(find([2, 0, 1, 1, 1, 1], b""), ((0, 0, 0), 0));
+    assert_eq!(find([3, 0, 1, 1, 1, 1], b""), ((25, 0, 0), 0));
+    assert_eq!(find([u64::MAX, 2, 1, 1, 1, 1], b"a"), ((25, 0, 0), 0));
+    assert_eq!(find([0, 1, 1, 1, 1, 1], b"c"), ((15, 0, 0), 0));
+}
+
+#[test]
+fn rows_that_stand_after_a_refusal() {
+    let mut table = vec![7; 2 * 48 + 5];
+    let answer = entry::index_file(b">s\nAC\n>t\n\n", &mut table);
+    assert_eq!((no(answer), answer.count), ((5, 10, 0), 1));
+    assert_eq!(&table[..48], row([1, 1, 2, 3, 2, 3]));
+    assert!(table[48..].iter().all(|b| *b == 7));
+    let answer = entry::index_file(b">s\nAC\n", &mut []);
+    assert_eq!((no(answer), answer.count), ((8, 0, 0), 0));
+}
+
+#[test]
+fn a_name_with_a_tab_is_not_written() {
+    let table = Table::from_bytes(b"a\tb", row([0, 3, 1, 1, 1, 1]), 1);
+    let refusal = table.write_index().expect_err("a tab");
+    assert_eq!((refusal.number, refusal.first), (13, 1));
+    let mut text = b"kept".to_vec();
+    assert!(table.write_index_line(0, &mut text).is_err());
+    assert_eq!(text, b"kept");
+}
+
+#[test]
+fn long_names_are_written_whole() {
+    let name = vec![b'n'; 1000];
+    let fasta = [b">", &name[..], b"\nACGT\n"].concat();
+    let text = index(&fasta).and_then(|table| table.write_index()).expect("a line");
+    assert_eq!(text, [&name[..], b"\t4\t1002\t4\t5\n"].concat());
+    let read = read_index(&text).expect("it reads back");
+    assert_eq!(read.record(0).map(|r| (r.name, r.length)), Some((&name[..], 4)));
+}
+
+#[test]
+fn more_records_than_were_thought_of() {
+    let records = 1_200_000;
+    let fasta = b">s\nA\n".repeat(records);
+    let table = index(&fasta).expect("an index");
+    assert_eq!(table.len(), records);
+    assert_eq!(table.record(records - 1).map(|r| r.position), Some(fasta.len() as u64 - 2));
+    assert_eq!(table.record(records), None);
+}
+
+#[test]
+fn lengths_that_lie_cost_nothing() {
+    for length in [u64::MAX, 1 << 62, 1 << 50] {
+        let table = Table::from_bytes(b"", row([0, 0, length, 3, 4, 5]), 1);
+        let refusal = table.read_exact(b">s\nACGT\n", 0, ..).expect_err("no such bases");
+        assert!(refusal.number == 14 || refusal.number == 18, "{refusal}");
+    }
+}
+
+#[test]
+fn complements() {
+    assert_eq!(complement(b"").as_deref(), Ok(&b""[..]));
+    let refusal = |r: wakeluri::Refusal| (r.number, r.first, r.second);
+    assert_eq!(complement(b"AXCX").map_err(refusal), Err((24, 1, 88)));
+    assert_eq!(reverse_complement(b"AXCX").map_err(refusal), Err((24, 3, 88)));
+}
+
+#[test]
+fn every_refusal_has_words() {
+    for number in 1..=25 {
+        for call in [wakeluri::Call::Index, wakeluri::Call::Check, wakeluri::Call::ReadIndex] {
+            let told = wakeluri::Refusal { number, first: 3, second: 4, call }.to_string();
+            assert!(!told.contains("no words for"), "{told}");
+            assert!(told.contains(&format!(": refused {number}")), "{told}");
+        }
+    }
+}

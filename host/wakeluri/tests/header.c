@@ -1,0 +1,164 @@
+/* Calls every entry point through include/wakeluri.h, as a host in C would. Ends with 0, or tells the first line that is wrong. */
+#define _DEFAULT_SOURCE
+#include "wakeluri.h"
+#include <stdio.h>
+#include <stdlib.h>
+#include <string.h>
+#include <sys/mman.h>
+
+#define MUST(fact) \
+    do { \
+        if (!(fact)) { \
+            fprintf(stderr, "line %d: %s\n", __LINE__, #fact); \
+            exit(1); \
+        } \
+    } while (0)
+
+#define BYTES(text) ((const uint8_t *)(text)), (sizeof(text) - 1)
+
+static const char fasta[] = ">s one\nACGT\nAC\n>t\nGG\n";
+
+/* A row of a table: six numbers of eight bytes, low byte first. */
+static void put_row(uint8_t *table, const uint64_t *numbers) {
+    for (int k = 0; k < 48; k++) table[k] = (uint8_t)(numbers[k / 8] >> (8 * (k % 8)));
+}
+
+static void ordinary_calls(void) {
+    uint8_t table[3 * 48], out[64], expected[48];
+    const uint64_t first_row[6] = {1, 1, 6, 7, 4, 5};
+
+    struct wakeluri_definition d = wakeluri_definition_line(BYTES(">s one \r\n"));
+    MUST(d.refusal == 0 && d.name_start == 1 && d.name_length == 1 && d.description_start == 3 && d.description_length == 3);
+    d = wakeluri_definition_content(BYTES("\n"));
+    MUST(d.refusal == 3 && d.first == 0 && d.second == 0);
+
+    struct wakeluri_span s = wakeluri_read_line(BYTES(fasta), 7);
+    MUST(s.refusal == 0 && s.found == 1 && s.start == 7 && s.length == 4 && s.next == 12);
+    s = wakeluri_read_line(BYTES(fasta), 1000);
+    MUST(s.refusal == 0 && s.found == 0);
+    s = wakeluri_read_run(BYTES(fasta), 11);
+    MUST(s.refusal == 0 && s.start == 12 && s.length == 2);
+
+    memset(out, '.', sizeof out);
+    struct wakeluri_answer a = wakeluri_read_sequence(BYTES(fasta), 7, out, sizeof out);
+    MUST(a.refusal == 0 && a.count == 6 && a.next == 15 && memcmp(out, "ACGTAC..", 8) == 0);
+    a = wakeluri_read_sequence_limit(BYTES(fasta), 7, 5, out, sizeof out);
+    MUST(a.refusal == 0 && a.count == 5 && a.next == 13);
+    a = wakeluri_read_sequence_limit(BYTES(fasta), 7, 5, out, 4);
+    MUST(a.refusal == 14 && a.first == 5 && a.second == 0 && a.count == 0);
+
+    struct wakeluri_row r = wakeluri_index_record(BYTES(fasta), 0);
+    MUST(r.refusal == 0 && r.found == 1 && r.next == 15 && r.name_start == 1 && r.name_length == 1);
+    MUST(r.length == 6 && r.position == 7 && r.line_bases == 4 && r.line_width == 5);
+    memset(table, 7, sizeof table);
+    a = wakeluri_index_file(BYTES(fasta), table, sizeof table);
+    put_row(expected, first_row);
+    MUST(a.refusal == 0 && a.count == 2 && memcmp(table, expected, 48) == 0 && table[96] == 7 && table[143] == 7);
+
+    r = wakeluri_index_line(BYTES("s\t6\t7\t4\t5\n"));
+    MUST(r.refusal == 0 && r.plain == 1 && r.name_length == 1 && r.length == 6 && r.line_width == 5);
+    r = wakeluri_index_content(BYTES("s\t6\t7\t4"));
+    MUST(r.refusal == 10 && r.first == 1 && r.second == 5);
+    memset(table, 7, sizeof table);
+    a = wakeluri_read_index(BYTES("s\t6\t7\t4\t5\nt\t2\t18\t2\t3"), table, sizeof table);
+    MUST(a.refusal == 0 && a.count == 2 && table[48] == 10);
+    a = wakeluri_index_file(BYTES(fasta), table, sizeof table);
+    MUST(a.refusal == 0 && a.count == 2);
+
+    memset(out, '.', sizeof out);
+    a = wakeluri_write_index_line(BYTES(fasta), table, sizeof table, 2, 1, out, sizeof out);
+    MUST(a.refusal == 0 && a.count == 11 && memcmp(out, "t\t2\t18\t2\t3\n.", 12) == 0);
+    a = wakeluri_find(BYTES(fasta), table, sizeof table, 2, BYTES("t"));
+    MUST(a.refusal == 0 && a.count == 1);
+    a = wakeluri_find(BYTES(fasta), table, sizeof table, 2, BYTES("u"));
+    MUST(a.refusal == 15);
+
+    memset(out, '.', sizeof out);
+    a = wakeluri_read_exact(BYTES(fasta), table, sizeof table, 2, 0, 1, 4, 1, 5, out, sizeof out);
+    MUST(a.refusal == 0 && a.count == 2 && memcmp(out, "TA.", 3) == 0);
+    a = wakeluri_read_exact(BYTES(fasta), table, sizeof table, 2, 0, 0, 99, 0, 99, out, sizeof out);
+    MUST(a.refusal == 0 && a.count == 6 && memcmp(out, "ACGTAC.", 7) == 0);
+    a = wakeluri_read_exact(BYTES(fasta), table, sizeof table, 2, 0, 1, 5, 1, 7, out, sizeof out);
+    MUST(a.refusal == 17 && a.first == 6 && a.second == 0 && a.count == 0 && memcmp(out, "ACGTAC.", 7) == 0);
+    a = wakeluri_read_raw(BYTES(fasta), table, sizeof table, 2, 0, 1, 5, 1, 100, out, sizeof out);
+    MUST(a.refusal == 0 && a.count == 2 && memcmp(out, "ACGTAC.", 7) == 0);
+    a = wakeluri_read_exact_by_name(BYTES(fasta), BYTES(fasta), table, sizeof table, 2, BYTES("t"), 1, 2, 0, 0, out, sizeof out);
+    MUST(a.refusal == 0 && a.count == 1 && out[0] == 'G');
+    a = wakeluri_read_raw_by_name(BYTES(fasta), BYTES(fasta), table, sizeof table, 2, BYTES("s"), 0, 0, 1, 2, out, sizeof out);
+    MUST(a.refusal == 0 && a.count == 2 && memcmp(out, "AC", 2) == 0);
+
+    a = wakeluri_complement(BYTES("ACGU"), out, sizeof out);
+    MUST(a.refusal == 0 && a.count == 4 && memcmp(out, "TGCA", 4) == 0);
+    a = wakeluri_reverse_complement(BYTES("ACGU"), out, sizeof out);
+    MUST(a.refusal == 0 && a.count == 4 && memcmp(out, "ACGT", 4) == 0);
+    a = wakeluri_reverse_complement(BYTES("AXCX"), out, sizeof out);
+    MUST(a.refusal == 24 && a.first == 3 && a.second == 'X');
+
+    a = wakeluri_check(BYTES(fasta), BYTES("s\t6\t7\t4\t5\nt\t2\t18\t9\t9\n"));
+    MUST(a.refusal == 0 && a.first == 0 && a.second == 0);
+    a = wakeluri_check(BYTES(fasta), BYTES("s\t6\t7\t4\t6\nt\t2\t18\t9\t9\n"));
+    MUST(a.refusal == 23 && a.first == 1 && a.second == 5);
+}
+
+/* Refusal 1: an input one byte over the limit, which is never looked at. Passed over where so much room for addresses isn't to
+ * be had. */
+static void beyond_the_limit(void) {
+    const size_t limit = (size_t)1 << 40, n = limit + 1;
+    uint8_t table[48], out[8];
+    const uint64_t numbers[6] = {0, 1, 1, 0, 1, 2};
+    const uint8_t *big = mmap(NULL, n, PROT_READ, MAP_PRIVATE | MAP_ANONYMOUS | MAP_NORESERVE, -1, 0);
+    if (big == MAP_FAILED) {
+        puts("no room for addresses: refusal 1 was not tried");
+        return;
+    }
+    put_row(table, numbers);
+    memset(out, '.', sizeof out);
+#define REFUSED(call) MUST((call).refusal == 1 && (call).first == 0 && (call).second == 0)
+    REFUSED(wakeluri_definition_line(big, n));
+    REFUSED(wakeluri_definition_content(big, n));
+    REFUSED(wakeluri_read_line(big, n, 0));
+    REFUSED(wakeluri_read_run(big, n, 0));
+    REFUSED(wakeluri_read_sequence(big, n, 0, out, 0));
+    REFUSED(wakeluri_read_sequence_limit(big, n, 0, 1, out, 0));
+    REFUSED(wakeluri_index_record(big, n, 0));
+    REFUSED(wakeluri_index_file(big, n, table, 0));
+    REFUSED(wakeluri_index_line(big, n));
+    REFUSED(wakeluri_index_content(big, n));
+    REFUSED(wakeluri_read_index(big, n, table, 0));
+    REFUSED(wakeluri_write_index_line(big, n, table, 0, 9, 9, out, 0));
+    REFUSED(wakeluri_find(big, n, table, 0, 9, out, 0));
+    REFUSED(wakeluri_find(out, 0, table, 0, 9, big, n));
+    REFUSED(wakeluri_read_exact(big, n, table, 0, 9, 9, 1, 0, 1, 0, out, 0));
+    REFUSED(wakeluri_read_raw(big, n, table, 0, 9, 9, 1, 0, 1, 0, out, 0));
+    REFUSED(wakeluri_read_exact_by_name(big, n, out, 0, table, 0, 9, out, 0, 1, 0, 1, 0, out, 0));
+    REFUSED(wakeluri_read_exact_by_name(out, 0, big, n, table, 0, 9, out, 0, 1, 0, 1, 0, out, 0));
+    REFUSED(wakeluri_read_exact_by_name(out, 0, out, 0, table, 0, 9, big, n, 1, 0, 1, 0, out, 0));
+    REFUSED(wakeluri_read_raw_by_name(big, n, out, 0, table, 0, 9, out, 0, 1, 0, 1, 0, out, 0));
+    REFUSED(wakeluri_read_raw_by_name(out, 0, big, n, table, 0, 9, out, 0, 1, 0, 1, 0, out, 0));
+    REFUSED(wakeluri_read_raw_by_name(out, 0, out, 0, table, 0, 9, big, n, 1, 0, 1, 0, out, 0));
+    REFUSED(wakeluri_complement(big, n, out, 0));
+    REFUSED(wakeluri_reverse_complement(big, n, out, 0));
+    REFUSED(wakeluri_check(big, n, out, 0));
+    REFUSED(wakeluri_check(out, 0, big, n));
+    /* at the limit itself it is taken: bases 1 and 1 of a row at offset 0 are read from the first byte alone */
+    struct wakeluri_answer a = wakeluri_read_exact(big, limit, table, sizeof table, 1, 0, 0, 0, 0, 0, out, sizeof out);
+    MUST(a.refusal == 0 && a.count == 1 && out[0] == 0 && out[1] == '.');
+    a = wakeluri_read_exact(big, n, table, sizeof table, 1, 0, 0, 0, 0, 0, out, sizeof out);
+    MUST(a.refusal == 1 && a.count == 0);
+    /* a table and an output are not counted for 1 */
+    uint8_t *room = mmap(NULL, n, PROT_READ | PROT_WRITE, MAP_PRIVATE | MAP_ANONYMOUS | MAP_NORESERVE, -1, 0);
+    if (room != MAP_FAILED) {
+        a = wakeluri_complement(BYTES("A"), room, n);
+        MUST(a.refusal == 0 && a.count == 1 && room[0] == 'T' && room[1] == 0);
+        a = wakeluri_index_file(BYTES(">s\nA\n"), room, n);
+        MUST(a.refusal == 0 && a.count == 1 && room[0] == 1 && room[48] == 0);
+        munmap(room, n);
+    }
+    munmap((void *)big, n);
+}
+
+int main(void) {
+    ordinary_calls();
+    beyond_the_limit();
+    return 0;
+}
