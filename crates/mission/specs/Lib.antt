@@ -1,5 +1,5 @@
+pub mod IndexedLaws
+pub mod Indexed
 pub mod ReadsLaws
 pub mod Reads
 pub mod Marked
-pub mod IndexedLaws
-pub mod Indexed

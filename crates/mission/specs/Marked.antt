@@ -31,7 +31,6 @@ use Rattle.region.specs.declared.Bound.{Bound}
 use Rattle.region.specs.declared.Bound.the-variants.{Given}
 use Rattle.region.specs.declared.RegionRead.{RegionRead}
 use Rattle.region.specs.declared.RegionRead.the-variants as region
-
 use Rattle.region.specs.Region.{refuses, gives, isZero, crossed, badBounds, boundedRow, startOf, endOf}
 use Rattle.region.specs.Exact.{inFile, pastLength, bytesAt, basesFrom, regionOf, exactIn, exactOf, exactRead}
 use Rattle.region.specs.Raw.{scanTo, pours, rawAt, rawIn, rawOf, rawRead}

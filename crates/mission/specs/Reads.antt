@@ -5,37 +5,37 @@
 -- record r of the file, with room for them, answers how many they are and puts them at the front of the output: they are the bases
 -- from a to e of that record by the line rule, and nothing else of the output changes.
 use Prim.Native.Nat.{ℕ, suc, _+_, _-_, _≤_, _<_}
-use mathlib.Core.Path.{_≡_, refl, ap, sym, _∙_}
+use mathlib.Core.Path.{_≡_, ap, sym, _∙_}
 use mathlib.Core.List.{List, [], _++_, map}
-use mathlib.Core.Bool.{false}
 use lib.ListN.{length, take, drop, getD}
 use borrow.Author.Tests.{le-ltb}
 use native.Mathlib.Omega.{arith}
-use native.Mathlib.Nat.{zero-add}
 use native.Mathlib.Numerals.{one-add}
 use Rattle.refusal.specs.Numbers.{overLimit}
 use Rattle.lines.specs.Lines.{lines, allBases, sumBases}
-use Rattle.lines.specs.Groups.{Group, groups}
+use Rattle.lines.specs.Groups.{groups}
 use Rattle.record.specs.declared.Record.{Record}
-use Rattle.record.specs.declared.Held.{Held}
 use Rattle.record.specs.declared.Held.the-variants as held
 use Rattle.record.specs.Place.{placeIn}
 use Rattle.record.specs.Row.{rowCount, withRows, heldAt, soundRow}
 use Rattle.record.specs.Laws.{held-stored, sound-row, length-places, getD-places}
 use Rattle.table.specs.declared.Filled.{Filled}
-use Rattle.table.specs.Fill.{Found, heldIn, FilledAs}
-use Rattle.table.specs.Laws.{held-all}
+use Rattle.table.specs.Fill.{FilledAs}
 use Rattle.index_line.specs.Laws.{line-sound}
-use Rattle.index_line.specs.declared.Entry.{Entry}
-use Rattle.index.specs.Index.{placedAt, linesSay, indexAt, indexIn}
-use Rattle.region.specs.declared.Bound.{Bound}
+use Rattle.index.specs.Index.{placedAt, indexAt, indexIn}
 use Rattle.region.specs.declared.Bound.the-variants.{Given}
 use Rattle.region.specs.declared.RegionRead.the-variants.{Bytes}
-use Rattle.region.specs.Region.{Outcome, leaves, startOf, endOf, basesTo}
-use Rattle.region.specs.Exact.{offsetsOf, exactOf, exactRead, byteOf}
+use Rattle.region.specs.Region.{leaves, startOf, endOf, basesTo}
+use Rattle.region.specs.Exact.{offsetsOf, exactOf, exactRead}
+use Rattle.record.specs.Bases.{byteAt}
 use Rattle.region.specs.Dependence.{readable-given, exact-reads}
 use Rattle.checker.specs.Accepts.{recordAt, sequenceAt, Matches, Accepts}
-use Rattle.mission.specs.ReadsLaws.{Reads, AllRead, RowsOf, rows-of, SequenceOf, sequence-of, base-inside, bases-part}
+use Rattle.checker.specs.declared.Verdict.the-variants.{Accepted}
+use Rattle.checker.specs.Check.{checkOf}
+use Rattle.checker.specs.Exactly.{accepted-only-if}
+use Rattle.checker.specs.Sequences.{sequence-here, sequence-inside}
+use Rattle.mission.specs.ReadsLaws.{AllRead, RowsOf, rows-of, base-inside, bases-part}
+use Rattle.mission.specs.IndexedLaws.{index-whole}
 
 -- the bases from a to e of record r of a file
 unfoldable pub basesBetween : List ℕ → ℕ → ℕ → ℕ → List ℕ
@@ -78,41 +78,29 @@ module _ (f i : List ℕ) (accepted : Accepts f i) where
         ∙ ap (soundRow r) (found .row x r (omega (arith, accepted .count)) (match .both .entry) (rw (one-add r) (match .both .reads)))
         ∙ sym (sound-row r x (λ q. omega (arith, s .lined .some-bases)) (λ q. omega (arith, s .lined .some-width)))
 
-    here : SequenceOf f (sequenceAt (groups (lines f)) r) (recordAt (groups (lines f)) r)
-    here = rw zero-add at (sequence-of f r (lines f) 0 refl h)
-
     -- the bases from a to e of it
     module _ (a e : ℕ) (out : List ℕ) (q : Asked f r a e out) where
       -- where each lies
       in-file : (p : ℕ) → a ≤ p → p ≤ e → placeIn x (p - 1) < length f
       in-file p u v =
           let j : p - 1 < sumBases (recordAt (groups (lines f)) r .seq) = omega (arith, q .from-one, q .inside) in
-          rw (← match .places (p - 1) j) (base-inside f (sequenceAt (groups (lines f)) r) (recordAt (groups (lines f)) r .seq) (here .inside) (here .lines) (p - 1) j)
+          rw (← match .places (p - 1) j) (base-inside f (sequenceAt (groups (lines f)) r) (recordAt (groups (lines f)) r .seq) (sequence-inside f r h) (sequence-here f r h) (p - 1) j)
 
-      bytes : map (byteOf f) (offsetsOf x a (basesTo a e)) ≡ basesBetween f r a e
+      bytes : map (byteAt f) (offsetsOf x a (basesTo a e)) ≡ basesBetween f r a e
       unfolding basesBetween
       bytes =
-          bases-part f (sequenceAt (groups (lines f)) r) (recordAt (groups (lines f)) r .seq) (here .inside) (here .lines)
+          bases-part f (sequenceAt (groups (lines f)) r) (recordAt (groups (lines f)) r .seq) (sequence-inside f r h) (sequence-here f r h)
           (offsetsOf x a (basesTo a e)) (a - 1) (basesTo a e) (omega (arith, q)) (length-places _ _ _ (a - 1) (basesTo a e))
           (λ k m. getD-places (x .position .0) (x .«line_bases») (x .«line_width») (a - 1) (basesTo a e) k m ∙ sym (match .places (a - 1 + k) (omega (arith, q))))
 
-      row-reads : exactOf (length f) (byteOf f) (held.Row x) (Given (record { 0 = a })) (Given (record { 0 = e })) out
+      row-reads : exactOf (length f) (byteAt f) (held.Row x) (Given (record { 0 = a })) (Given (record { 0 = e })) out
           ≡ leaves (Bytes (basesTo a e)) (basesBetween f r a e ++ drop (basesTo a e) out)
       unfolding startOf endOf
       row-reads =
           let l : e ≤ x .length = omega (arith, match .count, q .inside) in
-          exact-reads (length f) (byteOf f) x (Given (record { 0 = a })) (Given (record { 0 = e })) out
+          exact-reads (length f) (byteAt f) x (Given (record { 0 = a })) (Given (record { 0 = e })) out
           (readable-given (length f) x a e (length out) (q .from-one) (q .in-order) l (q .room) in-file)
           ∙ ap (λ (bs : List ℕ). leaves (Bytes (basesTo a e)) (bs ++ drop (basesTo a e) out)) bytes
-
--- the table that the whole-index call leaves, where it has a row for each line
-table-left : (i t t′ : List ℕ) (told : Filled) → length i ≤ 1099511627776 → length (indexAt i 1 0 .rows) ≤ rowCount t → FilledAs (indexIn i (rowCount t)) t t′ told
-    → (t′ ≡ withRows t 0 (indexAt i 1 0 .rows)) × (told .rows ≡ length (indexAt i 1 0 .rows))
-unfolding indexIn overLimit
-table-left i t t′ told l enough filled =
-    let s : indexIn i (rowCount t) ≡ indexAt i 1 0 =
-    rw (le-ltb 1099511627776 (length i) l) (held-all (rowCount t) (rowCount t) (indexAt i 1 0) enough) in
-    (rw s at (filled .table), rw s at (filled .rows))
 
 -- the theorem
 pub accepted-reads : (f i t t′ : List ℕ) (told : Filled) (r a e : ℕ) (out : List ℕ) → Accepts f i → FilledAs (indexIn i (rowCount t)) t t′ told → length (lines i) ≤ rowCount t
@@ -122,6 +110,13 @@ pub accepted-reads : (f i t t′ : List ℕ) (told : Filled) (r a e : ℕ) (out 
 unfolding exactRead overLimit
 accepted-reads f i t t′ told r a e out accepted filled enough q =
     let n : length (indexAt i 1 0 .rows) ≤ rowCount t = omega (arith, found f i accepted .count) in
-    let k = table-left i t t′ told (accepted .limits .index) n filled in
-    rw (le-ltb 1099511627776 (length f) (accepted .limits .fasta), k .0, k .1, row-held f i accepted r (q .record′) t enough)
+    let w = index-whole i (rowCount t) (accepted .limits .index) n in
+    rw (le-ltb 1099511627776 (length f) (accepted .limits .fasta), rw w at (filled .table), rw w at (filled .rows), row-held f i accepted r (q .record′) t enough)
     (row-reads f i accepted r (q .record′) a e out q)
+
+-- the same of a pair that the checker accepts
+pub checked-reads : (f i t t′ : List ℕ) (told : Filled) (r a e : ℕ) (out : List ℕ) → checkOf f i ≡ Accepted → FilledAs (indexIn i (rowCount t)) t t′ told → length (lines i) ≤ rowCount t
+    → Asked f r a e out
+    → exactRead f t′ (told .rows) r (Given (record { 0 = a })) (Given (record { 0 = e })) out
+    ≡ leaves (Bytes (basesTo a e)) (basesBetween f r a e ++ drop (basesTo a e) out)
+checked-reads f i t t′ told r a e out h = accepted-reads f i t t′ told r a e out (accepted-only-if f i h)

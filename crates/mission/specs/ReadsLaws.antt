@@ -1,18 +1,16 @@
--- Laws for Reads.antt: the rows of an index, the records of a file at their offsets, and the bytes of a record's bases.
+-- Laws for Reads.antt: the rows of an index whose lines all read, and the bytes of a record's bases.
 use Prim.Native.Nat.{ℕ, zero, suc, _+_, _-_, _≤_, _<_}
 use mathlib.Core.Path.{_≡_, refl, ap, sym, _∙_}
 use mathlib.Core.List.{List, [], _∷_, _++_, map}
-use lib.ListN.{length, take, drop, getD, length-take, length-drop, length-append, drop-of-length-le, List·getD-append}
-use lib.Seq.{ext-getD, getD-take, getD-drop, length-take-le, take-nil, drop-drop, getD-append-add}
-use lib.Dec.{leb, ltb}
+use lib.ListN.{length, take, drop, getD, length-drop, length-append, List·getD-append}
+use lib.Seq.{ext-getD, getD-take, getD-drop, length-take-le, take-nil, getD-append-add}
+use lib.Dec.{ltb}
 use mathlib.Core.Bool.{Bool, true, false}
-use borrow.Author.Tests.{leb-true, leb-false, ltb-true, ltb-false}
+use borrow.Author.Tests.{ltb-true, ltb-false}
 use native.Mathlib.Omega.{arith}
-use native.Mathlib.Nat.{zero-add, add-zero, add-assoc}
-use Rattle.lines.specs.Lines.{lines, lineLen, chop, basesOf, firstLine, tailOf, seqOf, seqAt, allBases, sumBases, sumWidths, upFrom, basesAt}
-use Rattle.lines.specs.Laws.{lines-cut, chop-le, seqAt-next, first-within}
-use Rattle.lines.specs.Groups.{Group, groups}
-use Rattle.lines.specs.GroupLaws.{afterSeq, groups-cut, lines-behind, lines-next}
+use native.Mathlib.Nat.{add-zero}
+use Rattle.lines.specs.Lines.{lines, chop, basesOf, seqAt, allBases, sumBases, sumWidths, upFrom, basesAt}
+use Rattle.lines.specs.Laws.{chop-le}
 use Rattle.record.specs.declared.Record.{Record}
 use Rattle.record.specs.EvenLines.{length-upFrom, getD-upFrom, length-basesAt}
 use Rattle.record.specs.Bases.{byteAt, bases-bytes}
@@ -22,7 +20,7 @@ use Rattle.index_line.specs.IndexLine.{lineSays}
 use Rattle.index_line.specs.declared.Entry.{Entry}
 use Rattle.index_line.specs.declared.LineRead.the-variants.{Row}
 use Rattle.index.specs.Index.{placedAt, linesSay}
-use Rattle.checker.specs.Accepts.{bytesOf, recordAt, sequenceAt}
+use Rattle.checker.specs.PlaceLaws.{widths-within}
 
 suc-shift : (n k : ℕ) → suc n + k ≡ n + suc k
 suc-shift n k = omega arith
@@ -73,70 +71,6 @@ rows-of (l ∷ ls) n at read =
     let e : lineSays n l ≡ Row (r .entry) = rw (add-zero n) at (r .reads) in
     rw e (more-rows n at l ls (r .entry) (linesSay (suc n) (at + length l) ls) e (rows-of ls (suc n) (at + length l) (behind n l ls read)))
 
--- ---- the records of a file at their offsets
-
--- record k of the groups from an offset on: where its sequence begins, and the lines of it
-pub record SequenceOf (f : List ℕ) (at : ℕ) (g : Group) : Type 0 where
-  pub inside : at ≤ length f
-  pub lines : seqAt f at ≡ g .seq
-
--- a first line is inside its bytes
-line-inside : (s l : List ℕ) (ls : List (List ℕ)) → lines s ≡ l ∷ ls → length l ≤ length s
-unfolding lines
-line-inside [] l ls h = let z : _≡_ {A = ℕ} 0 1 = cc in absurd (omega arith)
-line-inside (b ∷ s) l ls h =
-    let c : take (lineLen (b ∷ s)) (b ∷ s) ∷ lines (drop (lineLen (b ∷ s)) (b ∷ s)) ≡ l ∷ ls = sym (lines-cut (b ∷ s) (omega arith)) ∙ h in
-    let p : l ≡ take (lineLen (b ∷ s)) (b ∷ s) = cc in
-    omega (arith, ap length p, length-take (lineLen (b ∷ s)) (b ∷ s))
-
--- the first group, and one behind it
-first-of : (f : List ℕ) (at : ℕ) (l : List ℕ) (ls : List (List ℕ)) → lines (drop at f) ≡ l ∷ ls → at ≤ length f
-    → SequenceOf f (at + (0 + length l)) (record { def = l; seq = seqOf ls })
-unfolding seqAt
-first-of f at l ls h k =
-    record {
-      inside = omega (arith, line-inside (drop at f) l ls h, length-drop at f);
-      lines = rw (zero-add (length l), ← drop-drop (length l) at f, lines-behind (drop at f) l ls h);
-    }
-
-later-at : (at n w b d : ℕ) → at + n + w + (b + d) ≡ at + (n + w + b + d)
-later-at at n w b d = omega arith
-
-at-inside : (f : List ℕ) (at : ℕ) (l : List ℕ) (ls : List (List ℕ)) → lines (drop at f) ≡ l ∷ ls → at ≤ length f
-unfolding lines
-at-inside f at l ls h = go (leb at (length f)) refl
-  where
-    go : (t : Bool) → leb at (length f) ≡ t → at ≤ length f
-    go true e = leb-true _ _ e
-    go false e =
-        let w : length f ≤ at = omega (arith, leb-false at (length f) e) in
-        let d : drop at f ≡ [] = drop-of-length-le f w in
-        let c : [] ≡ l ∷ ls = sym (ap lines d) ∙ h in
-        let z : _≡_ {A = ℕ} 0 1 = cc in
-        absurd (omega arith)
-
--- record k of the lines from an offset on
-abbrev RecordAt : List ℕ → ℕ → Type 0
-RecordAt f k = (ls : List (List ℕ)) (at : ℕ) → lines (drop at f) ≡ ls → k < length (groups ls) → SequenceOf f (at + sequenceAt (groups ls) k) (recordAt (groups ls) k)
-
-record-first : (f : List ℕ) → RecordAt f 0
-unfolding bytesOf groups
-record-first f [] at h m = absurd (omega arith)
-record-first f (l ∷ ls) at h m = rw (groups-cut l ls) (first-of f at l ls h (at-inside f at l ls h))
-
-record-later : (f : List ℕ) (k : ℕ) → RecordAt f k → RecordAt f (suc k)
-unfolding bytesOf groups
-record-later f k r [] at h m = absurd (omega arith)
-record-later f k r (l ∷ ls) at h m =
-    let n : k < length (groups (afterSeq ls)) = omega (arith, ap length (groups-cut l ls)) in
-    rw (groups-cut l ls)
-    (rw (later-at at (length l) (sumWidths (seqOf ls)) (bytesOf (take k (groups (afterSeq ls)))) (length (recordAt (groups (afterSeq ls)) k .def))) at
-    (r (afterSeq ls) (at + length l + sumWidths (seqOf ls)) (lines-next f at l ls h) n))
-
-pub sequence-of : (f : List ℕ) (k : ℕ) → RecordAt f k
-sequence-of f zero = record-first f
-sequence-of f (suc k) = record-later f k (sequence-of f k)
-
 -- ---- the bytes of a record's bases
 
 -- a list by its elements, from a place on
@@ -184,20 +118,10 @@ bases-below (l ∷ ls) at j h = go (ltb j n) refl (bases-below ls (at + length l
         ∙ getD-append-add (upFrom at (length (basesOf l))) (basesAt (at + length l) ls) (j - length (basesOf l)) 0 in
         rw q (omega (arith, r (omega (arith, whole, h))))
 
--- a sequence ends in its file
-pub widths-inside : (s : List ℕ) (ls : List (List ℕ)) (at : ℕ) → at ≤ length s → seqAt s at ≡ ls → at + sumWidths ls ≤ length s
-unfolding sumWidths
-widths-inside s [] at h e = omega arith
-widths-inside s (l ∷ ls) at h e =
-    let w : firstLine (seqAt s at) .width ≡ length l = ap (λ (k : List (List ℕ)). firstLine k .width) e in
-    let n : seqAt s (at + length l) ≡ ls = rw w at (seqAt-next s at h) ∙ ap tailOf e in
-    let i : at + length l ≤ length s = omega (arith, w, first-within s at h) in
-    omega (arith, widths-inside s ls (at + length l) i n)
-
 -- the bytes at some offsets that are those of bases in a row
 module _ (f : List ℕ) (at : ℕ) (ls : List (List ℕ)) (h : at ≤ length f) (q : seqAt f at ≡ ls) where
   pub base-inside : (j : ℕ) → j < sumBases ls → getD (basesAt at ls) j 0 < length f
-  base-inside j m = omega (arith, bases-below ls at j (omega (arith, length-basesAt at ls)), widths-inside f ls at h q)
+  base-inside j m = omega (arith, bases-below ls at j (omega (arith, length-basesAt at ls)), rw q at (widths-within f at h))
 
   pub bases-part : (os : List ℕ) (i n : ℕ) → i + n ≤ sumBases ls → length os ≡ n → ((k : ℕ) → k < n → getD os k 0 ≡ getD (basesAt at ls) (i + k) 0)
       → map (byteAt f) os ≡ take n (drop i (allBases ls))

@@ -2,13 +2,11 @@
 use Prim.Native.Nat.{ℕ, zero, suc, _+_, _-_, _≤_}
 use mathlib.Core.Path.{_≡_, refl, ap, sym, _∙_}
 use mathlib.Core.List.{List, [], _∷_, _++_, map, map-append}
-use mathlib.Core.Bool.{Bool, true, false, cond}
 use lib.ListN.{length, take, drop, getD}
 use lib.Seq.{drop-cons, take-take}
-use lib.Dec.{eqb}
 use native.Mathlib.Omega.{arith}
 use Rattle.lines.specs.Lines.{part, lineEnd, chop, basesOf, seqAt, none, allBases, upFrom, basesAt}
-use Rattle.lines.specs.Laws.{chop-le, part-length, lineEnd-le, some-line}
+use Rattle.lines.specs.Laws.{chop-le, bases-front, part-length, lineEnd-le, some-line}
 
 -- the byte at an offset
 abbrev pub byteAt : List ℕ → ℕ → ℕ
@@ -19,23 +17,6 @@ pub bytes-row : (s : List ℕ) (n o : ℕ) → o + n ≤ length s → map (byteA
 unfolding upFrom
 bytes-row s zero o h = refl
 bytes-row s (suc n) o h = rw (drop-cons s o 0 (omega arith)) (ap (λ (k : List ℕ). byteAt s o ∷ k) (bytes-row s n (suc o) (omega arith)))
-
--- a line's bases are at its front
-chop-front : (b : ℕ) (l : List ℕ) → take (length (chop b l)) l ≡ chop b l
-unfolding chop
-chop-front b [] = refl
-chop-front b (x ∷ []) = go (eqb x b)
-  where
-    go : (t : Bool) → take (length (cond t [] (x ∷ []))) (x ∷ []) ≡ cond t [] (x ∷ [])
-    go true = refl
-    go false = refl
-chop-front b (x ∷ y ∷ l) = ap (λ (k : List ℕ). x ∷ k) (chop-front b (y ∷ l))
-
-pub bases-front : (l : List ℕ) → take (length (basesOf l)) l ≡ basesOf l
-bases-front l =
-    sym (take-take (length (basesOf l)) (length (chop 10 l)) l (chop-le 13 (chop 10 l)))
-    ∙ ap (take (length (basesOf l))) (chop-front 10 l)
-    ∙ chop-front 13 (chop 10 l)
 
 -- the bytes at the offsets of the bases
 pub bases-bytes : (s : List ℕ) (ls : List (List ℕ)) (at : ℕ) → at ≤ length s → seqAt s at ≡ ls → map (byteAt s) (basesAt at ls) ≡ allBases ls
