@@ -4,7 +4,8 @@
  * a number, low byte first; a row is six numbers (name start, name length, length, position, line bases, line width), and what is
  * left of a last part of a row is ignored and stays. Rows and offsets count from 0, base positions, lines and records from 1.
  * Every answer begins with the refusal's number, 0 for none, and its two numbers. A refusal leaves outputs as they were; rows that
- * were indexed or read before it stay, and are counted. Every call takes any bytes and any numbers.
+ * were indexed or read before it stay, and are counted. Every call takes any bytes and any numbers. An output or a table that a call
+ * changes may not overlap other bytes that are lent to the same call.
  */
 #ifndef WAKELURI_H
 #define WAKELURI_H

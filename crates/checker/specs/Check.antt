@@ -5,7 +5,6 @@ use mathlib.Core.Bool.{cond}
 use lib.ListN.{length, take, drop}
 use lib.Dec.{eqb}
 use Rattle.refusal.specs.Numbers.{overLimit}
-use Rattle.refusal.specs.declared.Refusal.{Refusal}
 use Rattle.refusal.specs.declared.Refusal.the-variants as refusal
 use Rattle.lines.specs.Lines.{lines, tailOf, sumBases, sumWidths, basesAt}
 use Rattle.lines.specs.Groups.{Group, groups}

@@ -1,7 +1,7 @@
 -- What must come out: marked examples of document 01 and the cases of its open points, as one table with a single proof.
 use Prim.Native.Nat.{ℕ}
 use mathlib.Core.Path.{_≡_, refl}
-use mathlib.Core.List.{List, [], _∷_, _++_, map}
+use mathlib.Core.List.{List, [], _∷_, map}
 use Rattle.refusal.specs.Numbers.{overLimit}
 use Rattle.refusal.specs.declared.Refusal.the-variants as refusal
 use Rattle.lines.specs.Lines.{lines, chop, ends, contentOf, sumBases, sumWidths, upFrom, basesAt}

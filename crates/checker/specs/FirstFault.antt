@@ -1,6 +1,6 @@
 -- What each refusal of the checker means: the first fault in document 01's order, record by record. That the checker refuses exactly
 -- so is in Faults.antt.
-use Prim.Native.Nat.{ℕ, suc, _+_, _≤_, _<_}
+use Prim.Native.Nat.{ℕ, suc, _≤_, _<_}
 use mathlib.Core.Path.{_≡_}
 use mathlib.Core.List.{List, [], _∷_}
 use lib.ListN.{length, drop}

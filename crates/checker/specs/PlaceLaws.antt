@@ -106,37 +106,3 @@ elsewhere-same f g i (o ∷ os) h = rw (first, elsewhere-same f g (suc i) os (λ
 pub walked-same : (f g : ℕ → ℕ) (at : ℕ) (ls : List (List ℕ)) → ((i : ℕ) → i < sumBases ls → f i ≡ g i) → walkedAs f at ls ≡ walkedAs g at ls
 unfolding walkedAs
 walked-same f g at ls h = rw (elsewhere-same f g 0 (basesAt at ls) (λ j m. rw zero-add (h j (rw length-basesAt at m))))
-
--- ---- bases and bytes of some lines
-
-pub sum-le : (ls : List (List ℕ)) → sumBases ls ≤ sumWidths ls
-unfolding sumBases sumWidths
-sum-le [] = omega arith
-sum-le (l ∷ ls) = omega (arith, sum-le ls, chop-le 13 (chop 10 l), chop-le 10 l)
-
-pub widths-seq : (ls : List (List ℕ)) → sumWidths (seqOf ls) ≤ sumWidths ls
-unfolding sumWidths seqOf
-widths-seq [] = omega arith
-widths-seq (l ∷ ls) = go (begins l) (widths-seq ls)
-  where
-    go : (t : Bool) → sumWidths (seqOf ls) ≤ sumWidths ls → sumWidths (cond t [] (l ∷ seqOf ls)) ≤ length l + sumWidths ls
-    go true h = omega arith
-    go false h = omega arith
-
-pub widths-lines : (s : List ℕ) → sumWidths (lines s) ≡ length s
-unfolding sumWidths lines
-widths-lines [] = refl
-widths-lines (b ∷ s) = go (eqb b 10) (lines s) (widths-lines s)
-  where
-    go : (t : Bool) (ls : List (List ℕ)) → sumWidths ls ≡ length s → sumWidths (cond t ((b ∷ []) ∷ ls) (onto b ls)) ≡ suc (length s)
-    go true ls h = omega arith
-    go false [] h = omega arith
-    go false (l ∷ ls) h = omega arith
-
-pub widths-within : (s : List ℕ) (at : ℕ) → at ≤ length s → at + sumWidths (seqAt s at) ≤ length s
-unfolding seqAt
-widths-within s at h = omega (arith, widths-seq (lines (drop at s)), widths-lines (drop at s), length-drop at s)
-
-pub bases-within : (s : List ℕ) (at : ℕ) → sumBases (seqAt s at) ≤ length s
-unfolding seqAt
-bases-within s at = omega (arith, sum-le (seqOf (lines (drop at s))), widths-seq (lines (drop at s)), widths-lines (drop at s), length-drop at s)

@@ -4,7 +4,6 @@ use mathlib.Core.List.{List, [], _∷_}
 use mathlib.Core.Bool.{cond}
 use lib.Dec.{eqb}
 use Rattle.lines.specs.Lines.{sumBases, sumWidths, basesAt}
-use Rattle.record.specs.declared.Position.{Position}
 use Rattle.checker.specs.declared.walk.Placed.{Placed}
 use Rattle.checker.specs.declared.walk.Placed.the-variants.{There, Elsewhere}
 use Rattle.checker.specs.declared.walk.Walked.{Walked}

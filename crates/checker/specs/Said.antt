@@ -1,16 +1,16 @@
 -- Every verdict of the checker is what Accepts.antt and FirstFault.antt say, and nothing else is.
-use Prim.Native.Nat.{ℕ, zero, suc, _+_, _≤_, _<_}
+use Prim.Native.Nat.{ℕ, zero, suc, _+_, _<_}
 use mathlib.Core.Path.{_≡_, refl, ap, sym, _∙_}
 use mathlib.Core.List.{List, [], _∷_}
 use mathlib.Core.Bool.{Bool, true, false, cond, true≢false}
-use lib.ListN.{length, take, drop, getD}
+use lib.ListN.{length, drop, getD}
 use lib.Dec.{eqb, ltb}
 use borrow.Author.Tests.{eq-eqb, ne-eqb, eqb-true, eqb-false, ltb-true, ltb-false, lt-ltb, le-ltb}
 use native.Mathlib.Omega.{arith}
-use native.Mathlib.Nat.{add-zero, zero-add}
+use native.Mathlib.Nat.{zero-add}
 use Rattle.refusal.specs.Numbers.{overLimit}
 use Rattle.refusal.specs.declared.Refusal.{Refusal}
-use Rattle.refusal.specs.declared.Refusal.the-variants.{TooLong, BytesLeft, NameDiffers, LengthDiffers, BaseElsewhere}
+use Rattle.refusal.specs.declared.Refusal.the-variants.{TooLong, BytesLeft, NameDiffers, LengthDiffers}
 use Rattle.lines.specs.Lines.{lines, ends, contentOf, tailOf, sumBases, sumWidths, basesAt}
 use Rattle.lines.specs.Groups.{Group, groups}
 use Rattle.lines.specs.Same.{sameBytes, same-refl, same-true, same-is}
@@ -20,7 +20,6 @@ use Rattle.definition.specs.declared.Parsed.{Parsed}
 use Rattle.definition.specs.declared.Parsed.the-variants.{Named, Bad}
 use Rattle.record.specs.Place.{placeIn}
 use Rattle.record.specs.EvenLines.{length-basesAt}
-use Rattle.record.specs.declared.Record.{Record}
 use Rattle.index_line.specs.IndexLine.{fieldsOf, nameOf}
 use Rattle.index_line.specs.IndexLine as index
 use Rattle.index_line.specs.declared.LineRead.{LineRead}
@@ -29,7 +28,7 @@ use Rattle.checker.specs.Places.{firstElsewhere}
 use Rattle.checker.specs.PlaceLaws.{PlacesSaid, places-said, places-only}
 use Rattle.checker.specs.PlaceLaws.PlacesSaid.{all, one}
 use Rattle.checker.specs.Check.{spanOf, placesSay, sequenceSays, entrySays, lineSays, againstLines, definedSays, recordSays, andThen, recordsSay, checkOf}
-use Rattle.checker.specs.Accepts.{bytesOf, recordAt, sequenceAt, BothRead, SameName, SameLength, InPlace, Matches, limit, Fit, MatchesAt, Accepts}
+use Rattle.checker.specs.Accepts.{bytesOf, recordAt, sequenceAt, BothRead, SameName, SameLength, Matches, limit, Fit, MatchesAt, Accepts}
 use Rattle.checker.specs.FirstFault.{LineFault, RecordFault, FirstFault}
 use Rattle.checker.specs.FirstFault.LineFault.{bad-line, other-name, other-length, other-place}
 use Rattle.checker.specs.FirstFault.RecordFault.{bad-definition, no-line, wrong-line}

@@ -4,7 +4,7 @@ use Prim.Native.Nat.{ℕ, zero, suc, _+_, _≤_, _<_}
 use mathlib.Core.Path.{_≡_, refl, ap, sym, _∙_}
 use mathlib.Core.List.{List, [], _∷_, map}
 use mathlib.Core.Bool.{Bool, true, false, cond}
-use lib.ListN.{length, take, drop, getD}
+use lib.ListN.{length, drop, getD}
 use lib.Seq.{drop-drop}
 use native.Mathlib.Omega.{arith}
 use native.Mathlib.Nat.{zero-add}
@@ -14,7 +14,7 @@ use Rattle.lines.specs.GroupLaws.{afterSeq, groups-cut, lines-behind, lines-nex
 use Rattle.record.specs.Place.{placeIn}
 use Rattle.record.specs.EvenLines.{length-basesAt}
 use Rattle.record.specs.Bases.{byteAt, bases-bytes}
-use Rattle.checker.specs.PlaceLaws.{widths-lines}
+use Rattle.lines.specs.Sums.{widths-lines}
 use Rattle.checker.specs.Accepts.{bytesOf, recordAt, sequenceAt, Matches}
 
 -- record k of some groups, which are those of the lines from an offset on

@@ -1,10 +1,10 @@
 -- The checker's steps from record to record, by places in the file and in the index.
-use Prim.Native.Nat.{ℕ, suc, _+_, _-_, _≤_, _<_}
+use Prim.Native.Nat.{ℕ, _+_, _-_, _≤_, _<_}
 use mathlib.Core.Path.{_≡_, refl, ap, sym, _∙_}
 use mathlib.Core.List.{List, [], _∷_}
-use mathlib.Core.Bool.{Bool, true, false, cond}
-use lib.ListN.{length, take, drop, drop-of-length-le}
-use lib.Dec.{eqb, ltb}
+use mathlib.Core.Bool.{Bool, true, false}
+use lib.ListN.{length, drop, drop-of-length-le}
+use lib.Dec.{ltb}
 use borrow.Author.Tests.{eq-eqb, ne-eqb, ltb-true, ltb-false}
 use native.Mathlib.Omega.{arith}
 use native.Mathlib.Numerals.{add-one}
@@ -13,10 +13,10 @@ use lib.Seq.{take-nil}
 use Rattle.refusal.specs.declared.Refusal.{Refusal}
 use Rattle.refusal.specs.declared.Refusal.the-variants.{TooLong, LineAbsent, BytesLeft, LengthDiffers, NameDiffers, BaseElsewhere}
 use Rattle.refusal.specs.Numbers.{overLimit}
-use Rattle.lines.specs.Lines.{part, lineLen, lineEnd, lines, seqOf, seqAt, tailOf, sumBases, sumWidths, basesAt}
+use Rattle.lines.specs.Lines.{part, lineLen, lineEnd, lines, seqAt, tailOf, sumBases, sumWidths, basesAt}
 use Rattle.lines.specs.Laws.{linesAt-cut, part-length, lineEnd-le, lineEnd-gt}
 use Rattle.lines.specs.Groups.{Group, groups}
-use Rattle.lines.specs.GroupLaws.{afterSeq, groups-cut, lines-next}
+use Rattle.lines.specs.GroupLaws.{groups-cut, lines-next}
 use Rattle.lines.specs.Same.{sameBytes}
 use Rattle.lines.specs.declared.Span.{Span}
 use Rattle.definition.specs.Definition.{refusalOf}
@@ -34,9 +34,8 @@ use Rattle.index_line.specs.Laws.{line-sound}
 use Rattle.index_line.specs.declared.Entry.{Entry}
 use Rattle.index_line.specs.declared.LineRead.the-variants as read
 use Rattle.checker.specs.Places.{firstElsewhere, walkedAs}
-use Rattle.checker.specs.PlaceLaws.{widths-within}
+use Rattle.lines.specs.Sums.{widths-within}
 use Rattle.checker.specs.Check.{spanOf, sequenceSays, entrySays, lineSays, againstLines, definedSays, recordSays, andThen, recordsSay, checkOf}
-use Rattle.checker.specs.declared.walk.Placed.{Placed}
 use Rattle.checker.specs.declared.walk.Placed.the-variants.{There, Elsewhere}
 use Rattle.checker.specs.declared.walk.Walked.{Walked}
 use Rattle.checker.specs.declared.Verdict.{Verdict}
@@ -56,6 +55,10 @@ unfoldable pub onlyLine : List ℕ → List (List ℕ)
 onlyLine [] = []
 onlyLine (b ∷ l) = (b ∷ l) ∷ []
 
+-- the offset behind a sequence
+abbrev pub behindAt : List ℕ → ℕ → ℕ
+behindAt f start = start + sumWidths (seqAt f start)
+
 -- the offset behind a record that is accepted
 unfoldable pub judgedAs : Verdict → ℕ → Judged
 judgedAs Accepted next = judged.Behind next
@@ -69,7 +72,7 @@ steppedAs (Refused x) next = step.Refused x
 -- the place behind the record at a place and behind its line
 abbrev pub placeBehind : List ℕ → List ℕ → Place → Place
 placeBehind f i w = record {
-  fasta = lineEnd f (w .fasta) + sumWidths (seqAt f (lineEnd f (w .fasta)));
+  fasta = behindAt f (lineEnd f (w .fasta));
   index = lineEnd i (w .index);
   records = w .records + 1;
 }
@@ -285,11 +288,10 @@ pub check-long-index : (f i : List ℕ) → overLimit (length f) ≡ false → o
 unfolding checkOf
 check-long-index f i h k = rw (h, k)
 
--- ---- a span as the code cuts it
+-- ---- names as the code cuts them from their lines
 
-pub span-cut : (l : List ℕ) (s : Span) → part l (s .start) (s .start + s .length) ≡ spanOf l s
-span-cut l s = rw (add-sub-cancel-left (s .start) (s .length))
-
-pub name-cut : (l : List ℕ) (x : Record) → part l (x .«name_start») (x .«name_start» + x .«name_length») ≡ nameIn l x
+pub same-cut : (def : List ℕ) (name : Span) (l : List ℕ) (x : Record)
+    → sameBytes (part def (name .start) (name .start + name .length)) (part l (x .«name_start») (x .«name_start» + x .«name_length»))
+    ≡ sameBytes (spanOf def name) (nameIn l x)
 unfolding nameIn
-name-cut l x = rw (add-sub-cancel-left (x .«name_start») (x .«name_length»))
+same-cut def name l x = rw (add-sub-cancel-left (name .start) (name .length), add-sub-cancel-left (x .«name_start») (x .«name_length»))

@@ -1,5 +1,5 @@
 -- The walk over a sequence beside the rows of an index line, and its laws.
-use Prim.Native.Nat.{ℕ, zero, suc, _+_, _-_, _*_, _/_, _%_, _^_, _≤_, _<_, min}
+use Prim.Native.Nat.{ℕ, suc, _+_, _-_, _*_, _/_, _%_, _^_, _≤_, _<_, min}
 use mathlib.Core.Path.{_≡_, refl, ap, sym, _∙_}
 use mathlib.Core.List.{List, [], _∷_, _++_, append-nil, append-assoc}
 use mathlib.Core.Bool.{Bool, true, false}
@@ -18,7 +18,8 @@ use Rattle.record.specs.EvenLines.{length-upFrom, getD-upFrom, length-basesAt}
 use Rattle.record.specs.declared.Position.{Position}
 use Rattle.record.specs.declared.Offset.{Offset}
 use Rattle.checker.specs.Places.{firstElsewhere, walkedAs}
-use Rattle.checker.specs.PlaceLaws.{firstOf, all-there, first-elsewhere, elsewhere-append, walked-same, bases-within}
+use Rattle.lines.specs.Sums.{bases-within}
+use Rattle.checker.specs.PlaceLaws.{all-there, first-elsewhere, elsewhere-append, walked-same}
 use Rattle.checker.specs.declared.walk.Placed.{Placed}
 use Rattle.checker.specs.declared.walk.Placed.the-variants.{There, Elsewhere}
 use Rattle.checker.specs.declared.walk.Row.{Row}

@@ -13,11 +13,11 @@ use walk::Placed;
 ghost use mathlib.Core.Path.{_≡_};
 ghost use Prim.Native.Nat.{_+_, _≤_, _<_};
 ghost use lib.ListN.{length};
-ghost use Rattle.lines.specs.Lines.{seqAt, sumWidths};
+ghost use Rattle.lines.specs.Lines.{seqAt};
 ghost use Rattle.lines.specs.Same.{sameBytes};
 ghost use Rattle.index_line.specs.IndexLine.{nameIn};
 ghost use Rattle.checker.specs.Check.{spanOf, sequenceSays, entrySays, againstLines, recordSays, checkOf};
-ghost use Rattle.checker.specs.Steps.{groupOf, onlyLine, judgedAs, stepOf};
+ghost use Rattle.checker.specs.Steps.{groupOf, onlyLine, behindAt, judgedAs, stepOf};
 
 // Does an index describe its file, or why not.
 pub enum Verdict {
@@ -59,7 +59,7 @@ fn same_name(def: &[u8], name: Span, line: &[u8], x: Record) -> bool
 // The sequence from `start` on against a record: 22, 23.
 fn judge_sequence(fasta: &[u8], start: usize, x: Record, record: u64) -> Judged
     requires { ⌜ 0 < x .«line_bases» ⌝ }
-    ensures { λ r. ⌜ r ≡ judgedAs (sequenceSays «record» start (seqAt (now (fasta .entry)) start) x) (start + sumWidths (seqAt (now (fasta .entry)) start)) ⌝ }
+    ensures { λ r. ⌜ r ≡ judgedAs (sequenceSays «record» start (seqAt (now (fasta .entry)) start) x) (behindAt (now (fasta .entry)) start) ⌝ }
 {
     let found = walk::walk_sequence(fasta, start, x);
     if found.bases != x.length {
@@ -83,7 +83,7 @@ fn judge_entry(
     record: u64,
 ) -> Judged
     requires { ⌜ (name .start + name .length ≤ length (now def)) × (x .«name_start» + x .«name_length» ≤ length (now line)) × (0 < x .«line_bases») ⌝ }
-    ensures { λ r. ⌜ r ≡ judgedAs (entrySays «record» start (spanOf (now (def .entry)) name) (seqAt (now (fasta .entry)) start) (nameIn (now (line .entry)) x) x) (start + sumWidths (seqAt (now (fasta .entry)) start)) ⌝ }
+    ensures { λ r. ⌜ r ≡ judgedAs (entrySays «record» start (spanOf (now (def .entry)) name) (seqAt (now (fasta .entry)) start) (nameIn (now (line .entry)) x) x) (behindAt (now (fasta .entry)) start) ⌝ }
 {
     if same_name(def, name, line, x) {
         return judge_sequence(fasta, start, x, record);
@@ -101,7 +101,7 @@ fn judge_named(
     record: u64,
 ) -> Judged
     requires { ⌜ name .start + name .length ≤ length (now def) ⌝ }
-    ensures { λ r. ⌜ r ≡ judgedAs (againstLines «record» start (spanOf (now (def .entry)) name) (seqAt (now (fasta .entry)) start) (onlyLine (now (line .entry)))) (start + sumWidths (seqAt (now (fasta .entry)) start)) ⌝ }
+    ensures { λ r. ⌜ r ≡ judgedAs (againstLines «record» start (spanOf (now (def .entry)) name) (seqAt (now (fasta .entry)) start) (onlyLine (now (line .entry)))) (behindAt (now (fasta .entry)) start) ⌝ }
 {
     if line.len() == 0 {
         return Judged::Refused(Refusal::LineAbsent { record });
@@ -117,7 +117,7 @@ fn judge_named(
 
 // A record, whose sequence begins at `start`, against its index line: 2 to 4, then the line.
 fn judge_record(fasta: &[u8], start: usize, def: &[u8], line: &[u8], record: u64) -> Judged
-    ensures { λ r. ⌜ r ≡ judgedAs (recordSays «record» start (groupOf (now (def .entry)) (now (fasta .entry)) start) (onlyLine (now (line .entry)))) (start + sumWidths (seqAt (now (fasta .entry)) start)) ⌝ }
+    ensures { λ r. ⌜ r ≡ judgedAs (recordSays «record» start (groupOf (now (def .entry)) (now (fasta .entry)) start) (onlyLine (now (line .entry)))) (behindAt (now (fasta .entry)) start) ⌝ }
 {
     match definition::parse_line(def) {
         Parsed::Bad(f) => Judged::Refused(f.refusal(record)),
@@ -128,29 +128,31 @@ fn judge_record(fasta: &[u8], start: usize, def: &[u8], line: &[u8], record: u64
     }
 }
 
-// Checks the record at a place.
-fn check_record(fasta: &[u8], index: &[u8], w: Place) -> Step
-    requires { ⌜ (w .records ≤ w .fasta) × (w .fasta < length (now fasta)) × (w .index ≤ length (now index)) ⌝ }
-    ensures { λ r. ⌜ r ≡ stepOf (now (fasta .entry)) (now (index .entry)) w ⌝ }
-{
-    let at = w.fasta;
-    let start = lines::line_end(fasta, at);
-    let line = w.index;
-    let behind = lines::line_end(index, line);
-    let record = w.records + 1;
-    match judge_record(
-        fasta,
-        start,
-        &fasta[at..start],
-        &index[line..behind],
-        record,
-    ) {
-        Judged::Refused(r) => Step::Refused(r),
-        Judged::Behind(next) => Step::Next(Place {
-            fasta: next,
-            index: behind,
-            records: record,
-        }),
+impl Place {
+    // Checks the record at the place, and hands back the place behind it.
+    fn check_record(self, fasta: &[u8], index: &[u8]) -> Step
+        requires { ⌜ (self .records ≤ self .fasta) × (self .fasta < length (now fasta)) × (self .index ≤ length (now index)) ⌝ }
+        ensures { λ r. ⌜ r ≡ stepOf (now (fasta .entry)) (now (index .entry)) self ⌝ }
+    {
+        let at = self.fasta;
+        let start = lines::line_end(fasta, at);
+        let line = self.index;
+        let behind = lines::line_end(index, line);
+        let record = self.records + 1;
+        match judge_record(
+            fasta,
+            start,
+            &fasta[at..start],
+            &index[line..behind],
+            record,
+        ) {
+            Judged::Refused(r) => Step::Refused(r),
+            Judged::Behind(next) => Step::Next(Place {
+                fasta: next,
+                index: behind,
+                records: record,
+            }),
+        }
     }
 }
 
@@ -170,7 +172,7 @@ pub fn check(fasta: &[u8], index: &[u8]) -> Verdict
         records: 0,
     };
     while w.fasta < fasta.len() {
-        match check_record(fasta, index, w) {
+        match w.check_record(fasta, index) {
             Step::Refused(r) => {
                 return Verdict::Refused(r);
             }

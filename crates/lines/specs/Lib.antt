@@ -3,3 +3,4 @@ pub mod Groups
 pub mod Laws
 pub mod GroupLaws
 pub mod Same
+pub mod Sums

@@ -42,7 +42,7 @@ use Rattle.indexer.specs.Index.{judge, good, rowOf}
 use Rattle.indexer.specs.File.{fileAt, fileIn}
 use Rattle.index.specs.Index.{linesSay, indexAt, indexIn}
 use Rattle.checker.specs.Check.{spanOf, checkOf}
-use Rattle.checker.specs.PlaceLaws.{sum-le}
+use Rattle.lines.specs.Sums.{sum-le}
 use Rattle.checker.specs.Accepts.{recordAt, sequenceAt, Matches, limit, Accepts}
 use Rattle.checker.specs.Exactly.{accepted-if}
 use Rattle.checker.specs.declared.Verdict.the-variants.{Accepted}

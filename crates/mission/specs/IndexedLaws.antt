@@ -50,7 +50,7 @@ use Rattle.indexer.specs.File.{groupSays, stepped, fileOf, fileAt, fileIn}
 use Rattle.index.specs.Index.{indexAt, indexIn}
 use Rattle.checker.specs.Check.{spanOf}
 use Rattle.checker.specs.Accepts.{bytesOf, recordAt, sequenceAt, limit}
-use Rattle.checker.specs.PlaceLaws.{widths-seq, widths-lines}
+use Rattle.lines.specs.Sums.{widths-seq, widths-lines}
 
 -- ---- the name in a definition line
 

@@ -20,7 +20,7 @@ use Rattle.index_line.specs.IndexLine.{lineSays}
 use Rattle.index_line.specs.declared.Entry.{Entry}
 use Rattle.index_line.specs.declared.LineRead.the-variants.{Row}
 use Rattle.index.specs.Index.{placedAt, linesSay}
-use Rattle.checker.specs.PlaceLaws.{widths-within}
+use Rattle.lines.specs.Sums.{widths-within}
 
 suc-shift : (n k : ℕ) → suc n + k ≡ n + suc k
 suc-shift n k = omega arith

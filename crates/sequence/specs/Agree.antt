@@ -12,7 +12,8 @@ use native.Mathlib.Nat.{add-zero, add-assoc}
 use Rattle.lines.specs.Lines.{lines, onto, chop, basesOf, begins, seqOf, seqAt, allBases, sumWidths}
 use Rattle.lines.specs.Laws.{chop-le}
 use Rattle.sequence.specs.Scan.{endsLine, skipped, bare, scanFrom, scanAt, scanAll}
-use Rattle.sequence.specs.Laws.{chop-first, upTo-all, widths-lines}
+use Rattle.lines.specs.Sums.{widths-seq, widths-lines}
+use Rattle.sequence.specs.Laws.{chop-first, upTo-all}
 
 -- does a byte stand among some bytes
 unfoldable pub has : ℕ → List ℕ → Bool
@@ -110,15 +111,6 @@ unfolding skipped endsLine
 prefix-first [] e = refl
 prefix-first (b ∷ k) e = rw (eqb-true b 62 e)
 
-seq-widths : (ls : List (List ℕ)) → sumWidths (seqOf ls) ≤ sumWidths ls
-unfolding sumWidths seqOf
-seq-widths [] = omega arith
-seq-widths (l ∷ ls) = go (begins l) (seq-widths ls)
-  where
-    go : (t : Bool) → sumWidths (seqOf ls) ≤ sumWidths ls → sumWidths (cond t [] (l ∷ seqOf ls)) ≤ length l + sumWidths ls
-    go true h = omega arith
-    go false h = omega arith
-
 agree : (ls : List (List ℕ)) (m at : ℕ) → Lined ls → Clean (seqOf ls) → sumWidths (seqOf ls) < m → scanFrom ls m at ≡ record { bases = allBases (seqOf ls); place = at + sumWidths (seqOf ls) }
 unfolding scanFrom seqOf sumWidths allBases Clean
 agree [] m at lined clean h = rw (add-zero at)
@@ -137,4 +129,4 @@ agree (l ∷ ls) (suc n) at lined clean h = go (begins l) refl clean h (agree ls
 -- from the start of a sequence whose lines are clean, a scan without a limit gives its bases by the line rule, and leaves its end
 pub rules-agree : (s : List ℕ) (at : ℕ) → Clean (seqAt s at) → scanAll s at ≡ record { bases = allBases (seqAt s at); place = at + sumWidths (seqAt s at) }
 unfolding scanAll scanAt seqAt
-rules-agree s at clean = agree (lines (drop at s)) (length s + 1) at (lined (drop at s)) clean (omega (arith, seq-widths (lines (drop at s)), widths-lines (drop at s), length-drop at s))
+rules-agree s at clean = agree (lines (drop at s)) (length s + 1) at (lined (drop at s)) clean (omega (arith, widths-seq (lines (drop at s)), widths-lines (drop at s), length-drop at s))

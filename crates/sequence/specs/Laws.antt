@@ -12,6 +12,7 @@ use native.Mathlib.Numerals.{add-one}
 use native.Mathlib.Nat.{zero-add, add-zero, add-assoc, add-suc, suc-add, sub-zero, sub-self}
 use Rattle.lines.specs.declared.Span.{Span}
 use Rattle.lines.specs.Lines.{lines, lineLen, onto, chop, basesOf, begins, seqOf, seqAt, firstLine, sumWidths}
+use Rattle.lines.specs.Sums.{widths-lines}
 use Rattle.lines.specs.Laws.{chop-front, chop-le, bases-front, lines-cut, bases-le, first-within, seqAt-end}
 use Rattle.sequence.specs.Scan.{endsLine, skipped, skipTo, runAt, Scan, nothing, joined, bare, upTo, scanFrom, scanAt, scanAll}
 use Rattle.sequence.specs.Read.{Left, leaves, written}
@@ -361,20 +362,6 @@ unfolding scanAt
 scan-most s limit at = scanFrom-most (lines (drop at s)) limit at
 
 -- a limit above the number of bytes is none
-widths-onto : (b : ℕ) (ls : List (List ℕ)) → sumWidths (onto b ls) ≡ suc (sumWidths ls)
-unfolding sumWidths
-widths-onto b [] = refl
-widths-onto b (l ∷ ls) = suc-add (length l) (sumWidths ls)
-
-pub widths-lines : (s : List ℕ) → sumWidths (lines s) ≡ length s
-unfolding lines sumWidths
-widths-lines [] = refl
-widths-lines (b ∷ s) = go (eqb b 10) (widths-lines s)
-  where
-    go : (t : Bool) → sumWidths (lines s) ≡ length s → sumWidths (cond t ((b ∷ []) ∷ lines s) (onto b (lines s))) ≡ suc (length s)
-    go true h = omega arith
-    go false h = widths-onto b (lines s) ∙ ap suc h
-
 bare-le : (l : List ℕ) → length (basesOf (bare l)) ≤ length l
 bare-le l = omega (arith, chop-le 13 (chop 10 (bare l)), chop-le 10 (bare l), length-drop (skipped l) l)
 

@@ -3,7 +3,7 @@
 use borrow.Author.Needs.{needs}
 use mathlib.Core.Path.{_∙_}
 use Rattle.lines.specs.Same.{same-is}
-use Rattle.checker.specs.Steps.{span-cut, name-cut}
+use Rattle.checker.specs.Steps.{same-cut}
 use Rattle.checker.proofs.same_name.Statement.{statement}
 use Rattle.checker.proofs.same_name.Tie as tie
 
@@ -37,7 +37,7 @@ same-requires c κs = search needs
 returns : tie.Need-returns
 returns c =
     let a = c .before .before .before .before .before .before .args in
-    same-is _ _ _ (c .same .ensures .0) (c .same .ensures .1) ∙ rw (span-cut (a .def .now) (a .name), name-cut (a .line .now) (a .x))
+    same-is _ _ _ (c .same .ensures .0) (c .same .ensures .1) ∙ same-cut (a .def .now) (a .name) (a .line .now) (a .x)
 
 pub same-name-spec : {M : Type 1} → statement M
 same-name-spec =

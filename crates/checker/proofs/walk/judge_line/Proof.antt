@@ -1,6 +1,5 @@
 -- `checker::walk::judge_line` meets its contract: by the law of each of its four cases.
 -- Assumes nothing.
-use native.Mathlib.Omega.{arith}
 use borrow.Author.Needs.{needs}
 use Rattle.checker.specs.Walk.{judged-none, judged-there, judged-crosses, judged-elsewhere}
 use Rattle.checker.proofs.walk.judge_line.Statement.{statement}

@@ -1,12 +1,12 @@
--- `checker::check_record` meets its contract: the record at the place is its definition line and the sequence lines behind it, and
+-- `checker::Place::check_record` meets its contract: the record at the place is its definition line and the sequence lines behind it, and
 -- the line at the place is the first that is left.
 -- Assumes nothing.
 use borrow.Author.Needs.{needs}
 use native.Mathlib.Omega.{arith}
 use Rattle.lines.specs.Laws.{lineEnd-le}
 use Rattle.checker.specs.Steps.{stepped-refused, stepped-next}
-use Rattle.checker.proofs.check_record.Statement.{statement}
-use Rattle.checker.proofs.check_record.Tie as tie
+use Rattle.checker.proofs.Place.check_record.Statement.{statement}
+use Rattle.checker.proofs.Place.check_record.Tie as tie
 
 line-end-requires : tie.Need-line-end-requires
 line-end-requires c κs = search needs
@@ -26,7 +26,7 @@ part-judge-record-start c = search needs
 part-judge-record-end : tie.Need-part-judge-record-end
 part-judge-record-end c =
     let a = c .before .before .before .before .before in
-    omega (arith, c .before .before .line-end .ensures, lineEnd-le (a .args .fasta .now) (a .args .w .fasta) (omega arith))
+    omega (arith, c .before .before .line-end .ensures, lineEnd-le (a .args .fasta .now) (a .args .self .fasta) (omega arith))
 
 sub-judge-record-2 : tie.Need-sub-judge-record-2
 sub-judge-record-2 c = search needs
@@ -37,7 +37,7 @@ part-judge-record-start-2 c = search needs
 part-judge-record-end-2 : tie.Need-part-judge-record-end-2
 part-judge-record-end-2 c =
     let a = c .before .before .before .before .before .before in
-    omega (arith, c .before .before .line-end2 .ensures, lineEnd-le (a .args .index .now) (a .args .w .index) (omega arith))
+    omega (arith, c .before .before .line-end2 .ensures, lineEnd-le (a .args .index .now) (a .args .self .index) (omega arith))
 
 judge-record-requires : tie.Need-judge-record-requires
 judge-record-requires c κs = search needs
