@@ -1,6 +1,8 @@
 // The lines of a file: where a line ends, what it holds, and a place in a file that moves on by a line. All that knows of LF and
 // CR is here. Every function takes any bytes and any place, and refuses nothing: where there is no line, the answer says so.
 ghost use mathlib.Core.Path.{_≡_};
+ghost use mathlib.Core.Bool.{false};
+ghost use Prim.Native.Nat.{_+_, _≤_};
 ghost use lib.ListN.{length};
 ghost use Rattle.lines.specs.Lines.{lineEnd, chop, basesOf, contentOf, firstLine, seqAt, none, readLine};
 
@@ -27,8 +29,22 @@ pub enum Step {
     End,
 }
 
-// The offset just past the line that begins at `at`; `at` itself at or past the end.
-pub fn line_end(s: &[u8], at: usize) -> usize
+// Is one of the 16 bytes from `i` on an LF. All are looked at, which the compiler does at once; if none is, the line goes on behind them.
+fn ends_within(s: &[u8], i: usize) -> bool
+    requires { ⌜ i + 16 ≤ length (now s) ⌝ }
+    ensures { λ r. ⌜ (r ≡ false → lineEnd (now (s .entry)) (i + 16) ≡ lineEnd (now (s .entry)) i) ⌝ }
+{
+    let mut any = false;
+    for k in 0..16 {
+        if s[i + k] == 10 {
+            any = true;
+        }
+    }
+    any
+}
+
+// The offset just past the line that begins at `at`, byte by byte.
+fn line_end_near(s: &[u8], at: usize) -> usize
     ensures { λ r. ⌜ r ≡ lineEnd (now (s .entry)) at ⌝ }
 {
     let mut i = at;
@@ -37,6 +53,23 @@ pub fn line_end(s: &[u8], at: usize) -> usize
             return i + 1;
         }
         i += 1;
+    }
+    i
+}
+
+// The offset just past the line that begins at `at`; `at` itself at or past the end. Goes by blocks of 16 bytes.
+pub fn line_end(s: &[u8], at: usize) -> usize
+    ensures { λ r. ⌜ r ≡ lineEnd (now (s .entry)) at ⌝ }
+{
+    let mut i = at;
+    while i < s.len() {
+        if s.len() - i < 16 {
+            return line_end_near(s, i);
+        }
+        if ends_within(s, i) {
+            return line_end_near(s, i);
+        }
+        i += 16;
     }
     i
 }

@@ -1,13 +1,12 @@
--- `lines::line_end` meets its contract: the end of the line at `i` stays the end of the line at `at`.
+-- `lines::line_end` meets its contract: a block without an LF leaves the end where it is, and the rest is gone through byte by byte.
 -- Assumes nothing.
 use Prim.Native.Nat.{_-_}
-use mathlib.Core.Path.{_≡_}
-use borrow.Author.Needs.{needs}
+use mathlib.Core.Path.{_≡_, sym, _∙_}
 use native.Mathlib.Omega.{arith}
-use native.Mathlib.Numerals.{add-one}
+use borrow.Author.Needs.{needs}
 use lib.ListN.{length}
 use Rattle.lines.specs.Lines.{lineEnd}
-use Rattle.lines.specs.Laws.{lineLen-hit, lineLen-miss, lineLen-end}
+use Rattle.lines.specs.Laws.{lineLen-end}
 use Rattle.lines.proofs.line_end.Statement.{statement}
 use Rattle.lines.proofs.line_end.Tie as tie
 
@@ -20,32 +19,35 @@ abbrev μ-loop : tie.MeasureT-loop
 loop-holds : tie.Need-loop-holds Inv-loop μ-loop
 loop-holds c = search needs
 
-shared-slice-read-if1 : tie.Need-shared-slice-read-if1 Inv-loop μ-loop
-shared-slice-read-if1 c = search needs
+sub-if1 : tie.Need-sub-if1 Inv-loop μ-loop
+sub-if1 c = search needs
 
-add-result : tie.Need-add-result Inv-loop μ-loop
-add-result c = search needs
+line-end-near-requires : tie.Need-line-end-near-requires Inv-loop μ-loop
+line-end-near-requires c κs = search needs
 
 returns : tie.Need-returns Inv-loop μ-loop
-returns c =
-    let l = c .before .before .before in
-    omega (arith, lineLen-hit (l .before .args .s .now) (l .loop .i) (c .before .before .loop-test .taken) (c .if1 .taken))
+returns c = c .line-end-near .ensures ∙ c .before .before .before .loop .inv
 
-add-i : tie.Need-add-i Inv-loop μ-loop
-add-i c = search needs
+ends-within-requires : tie.Need-ends-within-requires Inv-loop μ-loop
+ends-within-requires c κs = omega arith
 
-loop-less : tie.Need-loop-less Inv-loop μ-loop
-loop-less c = search needs
-
-loop-again : tie.Need-loop-again Inv-loop μ-loop
-loop-again c =
-    let l = c .before .before .before in
-    rw add-one (omega (arith, lineLen-miss (l .before .args .s .now) (l .loop .i) (c .before .before .loop-test .taken) (c .if1 .left)))
+line-end-near-requires-2 : tie.Need-line-end-near-requires-2 Inv-loop μ-loop
+line-end-near-requires-2 c κs = search needs
 
 returns-2 : tie.Need-returns-2 Inv-loop μ-loop
-returns-2 c =
-    let l = c .before in
-    omega (arith, lineLen-end (l .before .args .s .now) (l .loop .i) (c .loop-test .left))
+returns-2 c = c .line-end-near2 .ensures ∙ c .before .before .before .before .before .loop .inv
+
+add-i : tie.Need-add-i Inv-loop μ-loop
+add-i c = omega arith
+
+loop-less : tie.Need-loop-less Inv-loop μ-loop
+loop-less c = omega arith
+
+loop-again : tie.Need-loop-again Inv-loop μ-loop
+loop-again c = c .before .ends-within .ensures (c .if2 .left) ∙ c .before .before .before .before .loop .inv
+
+returns-3 : tie.Need-returns-3 Inv-loop μ-loop
+returns-3 c = omega (arith, lineLen-end (c .before .before .before .args .s .now) (c .before .loop .i) (c .loop-test .left), c .before .loop .inv)
 
 pub line-end-spec : {M : Type 1} → statement M
 line-end-spec =
@@ -54,10 +56,13 @@ line-end-spec =
     Inv-loop
     μ-loop
     loop-holds
-    shared-slice-read-if1
-    add-result
+    sub-if1
+    line-end-near-requires
     returns
+    ends-within-requires
+    line-end-near-requires-2
+    returns-2
     add-i
     loop-less
     loop-again
-    returns-2)
+    returns-3)

@@ -1,0 +1,182 @@
+//! The words of the command.
+
+use clap::builder::PossibleValuesParser;
+use clap::{Arg, ArgAction, Command, ValueHint, value_parser};
+use std::ffi::OsString;
+use std::path::PathBuf;
+
+const EXAMPLES: &str = "\
+Examples:
+  wakeluri index ref.fa                     writes ref.fa.fai
+  wakeluri check ref.fa                     is ref.fa.fai right for ref.fa?
+  wakeluri read ref.fa chr1:101-200         exactly those hundred bases
+  wakeluri read ref.fa --regions sheet.txt  all regions of a sheet, or none
+  wakeluri revcomp ref.fa chr1:101-200      their reverse complement
+
+Status: 0 answered, 1 refused, 2 the command makes no sense, 3 a file can't be read or written.
+After a refusal the last line on standard error is for a program: refused 17 (length 6)";
+
+const INDEX_EXAMPLES: &str = "\
+Examples:
+  wakeluri index ref.fa               writes ref.fa.fai, as samtools would
+  wakeluri index ref.fa -o other.fai  writes it elsewhere
+  zcat ref.fa.gz | wakeluri index -   of standard input, to standard output
+
+The index is written beside its place and put there in one step: a stop in the middle leaves the old one whole.";
+
+const CHECK_EXAMPLES: &str = "\
+Examples:
+  wakeluri check ref.fa                       with ref.fa.fai
+  wakeluri check ref.fa old.fai               with another index, of any program
+  wakeluri check ref.fa && sheet-maker ..     only if every base is where the index says
+  zcat ref.fa.gz | wakeluri check - ref.fai   a file on standard input";
+
+const READ_EXAMPLES: &str = "\
+Regions, counted from 1, both ends included, with commas or without:
+  chr1              the whole record
+  chr1:101-200      bases 101 to 200
+  chr1:101          from base 101 to the end (as samtools has it), as chr1:101-
+  chr1:-200         bases 1 to 200
+  {chr1:alt}:5-9    a name in braces; without them the longest name that exists is meant
+
+Examples:
+  wakeluri read ref.fa chr1:1,000,001-1,000,100
+  wakeluri read ref.fa --regions sheet.txt    a region to a line; all of them, or nothing
+  zcat ref.fa.gz | wakeluri read - chr1:5-9
+
+With an index (ref.fa.fai, or --index) it is first checked with the whole file; without one, one is made in memory.
+Nothing is written before all regions are known to be good.";
+
+const COMPLEMENT_EXAMPLES: &str = "\
+Examples:
+  wakeluri complement ref.fa chr1:101-200  of a read
+  wakeluri complement ref.fa               of every record
+  echo ACGT | wakeluri complement          of bases on standard input, here: TGCA
+
+Bases without a '>' line: one line, or --each-line, or --joined.";
+
+const REVCOMP_EXAMPLES: &str = "\
+Examples:
+  wakeluri revcomp ref.fa chr1:101-200  of a read
+  wakeluri revcomp ref.fa               of every record
+  echo AACG | wakeluri revcomp          of bases on standard input, here: CGTT
+
+Bases without a '>' line: one line, or --each-line, or --joined.";
+
+fn file() -> Arg {
+    Arg::new("file")
+        .value_name("FILE")
+        .help("the FASTA file; - is standard input")
+        .value_parser(value_parser!(PathBuf))
+        .value_hint(ValueHint::FilePath)
+}
+
+fn index_file() -> Arg {
+    Arg::new("index")
+        .value_name("INDEX")
+        .help("the index, if it isn't FILE.fai")
+        .value_parser(value_parser!(PathBuf))
+        .value_hint(ValueHint::FilePath)
+}
+
+fn flag(name: &'static str) -> Arg {
+    Arg::new(name).long(name).action(ArgAction::SetTrue)
+}
+
+fn regions() -> Arg {
+    Arg::new("region")
+        .value_name("REGION")
+        .help("name, name:5, name:5-, name:-9, name:5-9")
+        .num_args(0..)
+        .value_parser(value_parser!(OsString))
+}
+
+fn reading(command: Command) -> Command {
+    command
+        .arg(
+            Arg::new("regions")
+                .long("regions")
+                .short('r')
+                .value_name("SHEET")
+                .help("a file with a region to a line; - is standard input")
+                .value_parser(value_parser!(PathBuf))
+                .value_hint(ValueHint::FilePath),
+        )
+        .arg(index_file().long("index").short('i'))
+        .arg(flag("unchecked").help("use the index as it is, without checking it with the file"))
+        .arg(
+            Arg::new("width")
+                .long("width")
+                .short('w')
+                .value_name("BASES")
+                .help("bases to a line; 0 is all in one")
+                .value_parser(value_parser!(usize))
+                .default_value("60"),
+        )
+}
+
+fn turning(command: Command) -> Command {
+    reading(command.arg(file().default_value("-")).arg(regions()))
+        .arg(flag("each-line").help("of plain bases: each line is a sequence of its own").conflicts_with("joined"))
+        .arg(flag("joined").help("of plain bases: all lines together are one sequence"))
+}
+
+/// All of them.
+pub fn command() -> Command {
+    let version = env!("CARGO_PKG_VERSION");
+    let proved: &'static str = Box::leak(format!("{version}\nproved with {}", wakeluri::PROVED_WITH).into_boxed_str());
+    Command::new("wakeluri")
+        .about("Index, check and read FASTA files: exactly what was asked for, or a refusal that says why")
+        .version(proved)
+        .after_help(EXAMPLES)
+        .subcommand_required(true)
+        .arg_required_else_help(true)
+        .arg(flag("json").global(true).help("a JSON object for each answer; a refusal is one too, on standard error"))
+        .arg(
+            Arg::new("input")
+                .long("input")
+                .global(true)
+                .value_name("HOW")
+                .help("map a regular file into memory, or read it; auto maps from 16 MiB on")
+                .value_parser(PossibleValuesParser::new(["auto", "map", "read"]))
+                .default_value("auto"),
+        )
+        .subcommand(
+            Command::new("index")
+                .about("Write the index of a file, in samtools' form, or say what is wrong and where")
+                .after_help(INDEX_EXAMPLES)
+                .arg(file().required(true))
+                .arg(
+                    Arg::new("output")
+                        .long("output")
+                        .short('o')
+                        .value_name("INDEX")
+                        .help("where to, if not to FILE.fai; - is standard output")
+                        .value_parser(value_parser!(PathBuf))
+                        .value_hint(ValueHint::FilePath),
+                ),
+        )
+        .subcommand(
+            Command::new("check")
+                .about("Accept an index of any program, exactly if it leads to every base of the file")
+                .after_help(CHECK_EXAMPLES)
+                .arg(file().required(true))
+                .arg(index_file()),
+        )
+        .subcommand(reading(
+            Command::new("read")
+                .about("Read exactly the bases of some regions, as FASTA; never fewer")
+                .after_help(READ_EXAMPLES)
+                .arg(file().required(true))
+                .arg(regions().required_unless_present("regions")),
+        ))
+        .subcommand(turning(
+            Command::new("complement").about("The complement, of reads or of bases").after_help(COMPLEMENT_EXAMPLES),
+        ))
+        .subcommand(turning(
+            Command::new("revcomp").about("The reverse complement, of reads or of bases").after_help(REVCOMP_EXAMPLES),
+        ))
+        .subcommand(Command::new("completions").hide(true).about("Write the completions of a shell").arg(
+            Arg::new("shell").value_name("SHELL").required(true).value_parser(value_parser!(clap_complete::Shell)),
+        ))
+}

@@ -1,0 +1,103 @@
+//! How the command ends where it can't answer: in words that say what to do next, then a line for a program, and a status.
+
+use crate::json::Object;
+use wakeluri::Refusal;
+
+/// Why there is no answer.
+#[derive(Debug)]
+pub enum Failure {
+    /// The proved code refused. Status 1.
+    Refused(Box<Refused>),
+    /// The words of the command make no sense together. Status 2.
+    Usage(String),
+    /// A file, a pipe or the disk. Status 3.
+    InputOutput {
+        /// What happened, with the file's name.
+        words: String,
+        /// What to do next.
+        next: String,
+    },
+    /// Whoever read the answer has gone: there is nobody to tell. Status 3.
+    Gone,
+}
+
+/// A refusal with all that a person wants to know of it.
+#[derive(Debug)]
+pub struct Refused {
+    /// What was asked and what is there, with the file, line and byte.
+    pub words: String,
+    /// What to do next.
+    pub next: String,
+    /// The number and its two numbers.
+    pub refusal: Refusal,
+    /// The file.
+    pub file: String,
+    /// The line of the file, counted from 1, and the byte, from 0, where one is at fault.
+    pub place: Option<(u64, u64)>,
+    /// The region that was asked for.
+    pub region: Option<String>,
+}
+
+impl Failure {
+    /// An input or output error of the system about a file.
+    pub fn system(doing: &str, file: &str, error: &std::io::Error, next: &str) -> Self {
+        if error.kind() == std::io::ErrorKind::BrokenPipe {
+            return Self::Gone;
+        }
+        // the system's words without "(os error 28)"
+        let said = error.to_string();
+        let said = said.split(" (os error").next().unwrap_or_default();
+        Self::InputOutput { words: format!("{file}: {doing} ({said})"), next: next.to_string() }
+    }
+
+    /// The status that the command ends with.
+    pub fn status(&self) -> u8 {
+        match self {
+            Self::Refused(_) => 1,
+            Self::Usage(_) => 2,
+            Self::InputOutput { .. } | Self::Gone => 3,
+        }
+    }
+
+    /// What stands on standard error.
+    pub fn told(&self, json: bool) -> String {
+        let status = u64::from(self.status());
+        match self {
+            Self::Gone => String::new(),
+            Self::Refused(refused) if json => {
+                let Refused { words, next, refusal, file, place, region } = &**refused;
+                let mut object = Object::new();
+                object.number("status", status).text("file", file);
+                if let Some(region) = region {
+                    object.text("region", region);
+                }
+                object
+                    .number("refused", refusal.number)
+                    .number("first", refusal.first)
+                    .number("second", refusal.second);
+                if let Some((line, byte)) = place {
+                    object.number("line", *line).number("byte", *byte);
+                }
+                object.text("words", words).text("next", next).text("code", &refusal.code());
+                object.line()
+            }
+            Self::Refused(refused) => {
+                format!("wakeluri: {}\n{}{}\n", refused.words, indented(&refused.next), refused.refusal.code())
+            }
+            Self::Usage(words) | Self::InputOutput { words, .. } if json => {
+                let mut object = Object::new();
+                object.number("status", status).text("words", words);
+                if let Self::InputOutput { next, .. } = self {
+                    object.text("next", next);
+                }
+                object.line()
+            }
+            Self::Usage(words) => format!("wakeluri: {words}\n  `wakeluri --help` has examples\n"),
+            Self::InputOutput { words, next } => format!("wakeluri: {words}\n{}", indented(next)),
+        }
+    }
+}
+
+fn indented(next: &str) -> String {
+    next.lines().map(|line| format!("  {line}\n")).collect()
+}

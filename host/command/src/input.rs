@@ -1,0 +1,181 @@
+//! The bytes of a file or of standard input.
+//!
+//! A regular file of 16 MiB or more is mapped into memory; a smaller one, and what is no regular file (a pipe, standard input), is
+//! read plainly. Both end clearly if the file changes meanwhile: a mapped file that gets shorter raises a signal, which is caught,
+//! and before anything is answered the file's size and times are held against those it was opened with.
+
+use crate::failure::Failure;
+use crate::progress::Progress;
+use memmap2::Mmap;
+use std::fs::{File, Metadata};
+use std::io::{self, ErrorKind, Read};
+use std::os::unix::fs::{FileTypeExt, MetadataExt};
+use std::path::Path;
+use std::sync::OnceLock;
+
+/// Files from this size on are mapped: below it a copy costs little, and nobody can change it.
+const MAPPED_FROM: u64 = 16 << 20;
+
+/// How much is read at a time.
+const PIECE: u64 = 4 << 20;
+
+/// How a regular file is to be read.
+#[derive(Clone, Copy, Debug, Eq, PartialEq)]
+pub enum How {
+    /// By its size.
+    Auto,
+    /// Mapped, if the file can be.
+    Map,
+    /// Plainly.
+    Read,
+}
+
+/// The bytes, and where they came from.
+#[derive(Debug)]
+pub struct Input {
+    /// The name for messages.
+    pub shown: String,
+    bytes: Bytes,
+    opened: Option<(File, Seen)>,
+}
+
+#[derive(Debug)]
+enum Bytes {
+    Held(Vec<u8>),
+    Mapped(Mmap),
+}
+
+/// What changes when a file is written to or cut.
+#[derive(Debug, Eq, PartialEq)]
+struct Seen(u64, [i64; 4]);
+
+impl Seen {
+    fn of(meta: &Metadata) -> Self {
+        Self(meta.size(), [meta.mtime(), meta.mtime_nsec(), meta.ctime(), meta.ctime_nsec()])
+    }
+}
+
+/// What is said if a mapped file gets shorter, made before it is mapped.
+static LAST_WORDS: OnceLock<String> = OnceLock::new();
+
+/// Whether a path stands for standard input.
+pub fn is_standard(path: &Path) -> bool {
+    path.as_os_str() == "-"
+}
+
+/// A path's name in messages.
+pub fn shown(path: &Path) -> String {
+    if is_standard(path) { "standard input".to_string() } else { path.display().to_string() }
+}
+
+fn changed(file: &str) -> Failure {
+    Failure::InputOutput {
+        words: format!(
+            "{file}: the file was changed while it was read, so there is no answer, and nothing was changed here"
+        ),
+        next: "wait until nobody writes to it, then run this again".to_string(),
+    }
+}
+
+impl Input {
+    /// Opens a file, or standard input for `-`.
+    pub fn open(path: &Path, how: How, json: bool) -> Result<Self, Failure> {
+        let shown = shown(path);
+        if is_standard(path) {
+            let bytes = read_plainly(&mut io::stdin().lock(), &shown, 0)?;
+            return Ok(Self { shown, bytes: Bytes::Held(bytes), opened: None });
+        }
+        let failed = |error: io::Error| {
+            let (what, next) = match error.kind() {
+                ErrorKind::NotFound => ("there is no such file", "look at the spelling, and at the folder you are in"),
+                ErrorKind::PermissionDenied => ("you may not read it", "ask who owns it, or `chmod u+r` it"),
+                _ => return Failure::system("it can't be opened", &shown, &error, ""),
+            };
+            Failure::InputOutput { words: format!("{shown}: {what}"), next: next.to_string() }
+        };
+        let mut file = File::open(path).map_err(failed)?;
+        let meta = file.metadata().map_err(failed)?;
+        if meta.is_dir() {
+            return Err(Failure::InputOutput {
+                words: format!("{shown}: this is a folder, and a file is needed"),
+                next: "name a file in it".to_string(),
+            });
+        }
+        let seen = Seen::of(&meta);
+        let map =
+            meta.is_file() && meta.size() > 0 && (how == How::Map || (how == How::Auto && meta.size() >= MAPPED_FROM));
+        if let Some(mapped) = map.then(|| mapped(&file, &shown, json)).flatten() {
+            return Ok(Self { shown, bytes: Bytes::Mapped(mapped), opened: Some((file, seen)) });
+        }
+        let bytes = read_plainly(&mut file, &shown, if meta.is_file() { meta.size() } else { 0 })?;
+        let kind = meta.file_type();
+        let opened = (!kind.is_fifo() && !kind.is_char_device() && !kind.is_socket()).then_some((file, seen));
+        let input = Self { shown, bytes: Bytes::Held(bytes), opened };
+        input.unchanged()?;
+        Ok(input)
+    }
+
+    /// The bytes.
+    pub fn bytes(&self) -> &[u8] {
+        match &self.bytes {
+            Bytes::Held(bytes) => bytes,
+            Bytes::Mapped(mapped) => mapped,
+        }
+    }
+
+    /// Whether the file is mapped.
+    pub fn is_mapped(&self) -> bool {
+        matches!(self.bytes, Bytes::Mapped(_))
+    }
+
+    /// Fails if the file isn't what it was when it was opened.
+    pub fn unchanged(&self) -> Result<(), Failure> {
+        let Some((file, seen)) = &self.opened else { return Ok(()) };
+        let now = file.metadata().map_err(|error| Failure::system("it can't be looked at", &self.shown, &error, ""))?;
+        if Seen::of(&now) == *seen { Ok(()) } else { Err(changed(&self.shown)) }
+    }
+}
+
+/// All that a reader has.
+fn read_plainly(reader: &mut impl Read, shown: &str, expected: u64) -> Result<Vec<u8>, Failure> {
+    let progress = Progress::reading(shown, expected);
+    let mut bytes = vec![];
+    let no_room = || Failure::InputOutput {
+        words: format!("{shown}: there is not enough memory to hold it"),
+        next: "give the name of a regular file, without `--input read`: it is then not held in memory".to_string(),
+    };
+    bytes.try_reserve_exact(usize::try_from(expected).unwrap_or(usize::MAX)).map_err(|_| no_room())?;
+    loop {
+        match reader.take(PIECE).read_to_end(&mut bytes) {
+            Ok(0) => return Ok(bytes),
+            Ok(_) => progress.at(bytes.len() as u64),
+            Err(error) if error.kind() == ErrorKind::OutOfMemory => return Err(no_room()),
+            Err(error) => return Err(Failure::system("it can't be read", shown, &error, "")),
+        }
+    }
+}
+
+/// A file's bytes where they are, if the system can do that.
+fn mapped(file: &File, shown: &str, json: bool) -> Option<Mmap> {
+    let _ = LAST_WORDS.set(changed(shown).told(json));
+    // SAFETY: the handler only writes to standard error and ends the process, with what is prepared.
+    unsafe {
+        let handler: extern "C" fn(libc::c_int) = shortened;
+        libc::signal(libc::SIGBUS, handler as libc::sighandler_t);
+    }
+    // SAFETY: the bytes are only read. If another program cuts the file, the signal above ends this one before a byte is made up;
+    // if it writes to it, the file's times tell, and nothing is answered.
+    let mapped = unsafe { Mmap::map(file) }.ok()?;
+    let _ = mapped.advise(memmap2::Advice::Sequential);
+    Some(mapped)
+}
+
+/// A mapped file got shorter: there is no byte to read.
+extern "C" fn shortened(_: libc::c_int) {
+    let words = LAST_WORDS.get().map_or("", String::as_str);
+    // SAFETY: both calls may be made in a handler; the text lives as long as the process.
+    unsafe {
+        libc::write(2, words.as_ptr().cast(), words.len());
+        libc::_exit(3);
+    }
+}

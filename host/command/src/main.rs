@@ -1,0 +1,287 @@
+//! `wakeluri`: index, check and read FASTA files. Every answer comes from the proved library; what is here opens files, reads
+//! regions as people write them, and says in words what was refused and where.
+
+mod arguments;
+mod failure;
+mod input;
+mod json;
+mod nearest;
+mod output;
+mod place;
+mod progress;
+mod read;
+mod region;
+mod work;
+
+use clap::ArgMatches;
+use failure::{Failure, Refused};
+use input::{How, Input, is_standard};
+use json::Object;
+use output::Answers;
+use place::count;
+use read::{Asked, Form, Source, Turn};
+use std::ffi::OsString;
+use std::io::Write;
+use std::os::unix::ffi::OsStrExt;
+use std::path::{Path, PathBuf};
+use std::process::ExitCode;
+
+/// The words that all commands have.
+#[derive(Clone, Copy)]
+struct Common {
+    how: How,
+    json: bool,
+}
+
+fn main() -> ExitCode {
+    // a file that may not grow on is an error of its write, told in words, and no sudden end
+    // SAFETY: a signal is told to be ignored.
+    unsafe {
+        libc::signal(libc::SIGXFSZ, libc::SIG_IGN);
+    }
+    let matches = arguments::command().get_matches();
+    let how = match matches.get_one::<String>("input").map(String::as_str) {
+        Some("map") => How::Map,
+        Some("read") => How::Read,
+        _ => How::Auto,
+    };
+    let common = Common { how, json: matches.get_flag("json") };
+    let answered = match matches.subcommand() {
+        Some(("index", words)) => index(words, common),
+        Some(("check", words)) => check(words, common),
+        Some(("read", words)) => read(words, Turn::AsIs, common),
+        Some(("complement", words)) => complement(words, Turn::Complement, common),
+        Some(("revcomp", words)) => complement(words, Turn::Reverse, common),
+        Some(("completions", words)) => completions(words),
+        _ => Err(Failure::Usage("there is no such command".to_string())),
+    };
+    match answered {
+        Ok(()) => ExitCode::SUCCESS,
+        Err(failure) => {
+            let _ = std::io::stderr().write_all(failure.told(common.json).as_bytes());
+            ExitCode::from(failure.status())
+        }
+    }
+}
+
+fn path<'m>(words: &'m ArgMatches, name: &str) -> Option<&'m Path> {
+    words.get_one::<PathBuf>(name).map(PathBuf::as_path)
+}
+
+/// FILE.fai.
+fn index_of(file: &Path) -> PathBuf {
+    let mut name = file.as_os_str().to_os_string();
+    name.push(".fai");
+    name.into()
+}
+
+fn index(words: &ArgMatches, common: Common) -> Result<(), Failure> {
+    let file = path(words, "file").unwrap_or(Path::new("-"));
+    let output = match path(words, "output") {
+        Some(output) => output.to_path_buf(),
+        None if is_standard(file) => "-".into(),
+        None => index_of(file),
+    };
+    if common.json && is_standard(&output) {
+        return Err(Failure::Usage(
+            "the index itself is written to standard output: --json needs --output FILE".to_string(),
+        ));
+    }
+    let fasta = Input::open(file, common.how, common.json)?;
+    let rows = work::index(&fasta)?;
+    let text = rows.write_index().map_err(|refusal| {
+        let words = format!("{}: {}", fasta.shown, refusal.words());
+        Failure::Refused(Box::new(Refused {
+            words,
+            next: String::new(),
+            refusal,
+            file: fasta.shown.clone(),
+            place: None,
+            region: None,
+        }))
+    })?;
+    fasta.unchanged()?;
+    if is_standard(&output) {
+        return write(&text);
+    }
+    output::replace(&output, &text)?;
+    let (records, bases) = (rows.len() as u64, rows.records().map(|record| record.length).sum());
+    let shown = output.display().to_string();
+    if common.json {
+        let mut object = Object::new();
+        object.text("file", &fasta.shown).text("index", &shown).number("records", records).number("bases", bases);
+        return write(object.line().as_bytes());
+    }
+    write(format!("{shown}: {}, {}\n", count(records, "record"), count(bases, "base")).as_bytes())
+}
+
+fn check(words: &ArgMatches, common: Common) -> Result<(), Failure> {
+    let file = path(words, "file").unwrap_or(Path::new("-"));
+    let index = match path(words, "index") {
+        Some(index) => index.to_path_buf(),
+        None if is_standard(file) => {
+            return Err(Failure::Usage("name the index that standard input is to be checked with".to_string()));
+        }
+        None => index_of(file),
+    };
+    if is_standard(file) && is_standard(&index) {
+        return Err(Failure::Usage("the file and its index can't both come from standard input".to_string()));
+    }
+    let fasta = Input::open(file, common.how, common.json)?;
+    let index = open_index(&index, file, common)?;
+    work::check(&fasta, &index)?;
+    fasta.unchanged()?;
+    let rows = work::read_index(&index)?;
+    let (records, bases) = (rows.len() as u64, rows.records().map(|record| record.length).sum());
+    if common.json {
+        let mut object = Object::new();
+        object.truth("accepted", true).text("file", &fasta.shown).text("index", &index.shown);
+        object.number("records", records).number("bases", bases);
+        return write(object.line().as_bytes());
+    }
+    let (records, bases) = (count(records, "record"), count(bases, "base"));
+    write(format!("accepted: {} leads to every base of {} ({records}, {bases})\n", index.shown, fasta.shown).as_bytes())
+}
+
+/// The index, read plainly; where there is none, the message says how to make one.
+fn open_index(index: &Path, file: &Path, common: Common) -> Result<Input, Failure> {
+    match Input::open(index, How::Read, common.json) {
+        Err(Failure::InputOutput { words, .. }) if !is_standard(index) && !index.exists() => {
+            let next = format!("make the index with `wakeluri index {}`", file.display());
+            Err(Failure::InputOutput { words, next })
+        }
+        opened => opened,
+    }
+}
+
+fn read(words: &ArgMatches, turn: Turn, common: Common) -> Result<(), Failure> {
+    let file = path(words, "file").unwrap_or(Path::new("-"));
+    let sheet = path(words, "regions");
+    if is_standard(file) && sheet.is_some_and(is_standard) {
+        return Err(Failure::Usage("the file and the sheet can't both come from standard input".to_string()));
+    }
+    let asked = asked(words, sheet, common)?;
+    let fasta = Input::open(file, common.how, common.json)?;
+    answer(words, file, &fasta, asked, turn, common)
+}
+
+/// Reads regions of a file, or all its records where none is asked for.
+fn answer(
+    words: &ArgMatches,
+    file: &Path,
+    fasta: &Input,
+    asked: Vec<Asked>,
+    turn: Turn,
+    common: Common,
+) -> Result<(), Failure> {
+    let index = match path(words, "index") {
+        Some(index) => Some(open_index(index, file, common)?),
+        None if is_standard(file) || !index_of(file).exists() => None,
+        None => Some(open_index(&index_of(file), file, common)?),
+    };
+    let rows = match &index {
+        None => work::index(fasta)?,
+        Some(index) if words.get_flag("unchecked") => {
+            let _ = writeln!(
+                std::io::stderr(),
+                "wakeluri: warning: {} was not checked with {}: if it is wrong, so are the bases",
+                index.shown,
+                fasta.shown
+            );
+            work::read_index(index)?
+        }
+        Some(index) => {
+            work::check(fasta, index)?;
+            work::read_index(index)?
+        }
+    };
+    let asked = if asked.is_empty() {
+        let whole = |(row, name): (usize, &[u8])| Asked { text: name.to_vec(), sheet: None, row: Some(row) };
+        rows.records().map(|record| record.name).enumerate().map(whole).collect()
+    } else {
+        asked
+    };
+    let width = words.get_one::<usize>("width").copied().unwrap_or(60);
+    Source { fasta, rows: &rows }.answer(&asked, Form { turn, width, json: common.json })
+}
+
+/// The regions that are asked for, one by one and in a sheet.
+fn asked(words: &ArgMatches, sheet: Option<&Path>, common: Common) -> Result<Vec<Asked>, Failure> {
+    let regions = words.get_many::<OsString>("region").unwrap_or_default();
+    let mut asked: Vec<Asked> =
+        regions.map(|region| Asked { text: region.as_bytes().to_vec(), sheet: None, row: None }).collect();
+    if let Some(sheet) = sheet {
+        let sheet = Input::open(sheet, How::Read, common.json)?;
+        for (line, number) in sheet.bytes().split(|byte| *byte == b'\n').zip(1..) {
+            let text = line.trim_ascii();
+            if !text.is_empty() {
+                asked.push(Asked { text: text.to_vec(), sheet: Some((sheet.shown.clone(), number)), row: None });
+            }
+        }
+        if asked.is_empty() {
+            return Err(Failure::Usage(format!("{}: there is no region in it", sheet.shown)));
+        }
+    }
+    Ok(asked)
+}
+
+fn complement(words: &ArgMatches, turn: Turn, common: Common) -> Result<(), Failure> {
+    let file = path(words, "file").unwrap_or(Path::new("-"));
+    let sheet = path(words, "regions");
+    if is_standard(file) && sheet.is_some_and(is_standard) {
+        return Err(Failure::Usage("the file and the sheet can't both come from standard input".to_string()));
+    }
+    let asked = asked(words, sheet, common)?;
+    let fasta = Input::open(file, common.how, common.json)?;
+    if !asked.is_empty() || fasta.bytes().first() == Some(&b'>') {
+        return answer(words, file, &fasta, asked, turn, common);
+    }
+    // bases without a definition line
+    let text = fasta.bytes();
+    let lines: Vec<&[u8]> = text.strip_suffix(b"\n").unwrap_or(text).split(|byte| *byte == b'\n').collect();
+    let lines: Vec<&[u8]> = lines.into_iter().map(|line| line.strip_suffix(b"\r").unwrap_or(line)).collect();
+    let sequences = if words.get_flag("joined") {
+        vec![(1, lines.concat())]
+    } else if words.get_flag("each-line") || lines.len() == 1 {
+        (1..).zip(lines.into_iter().map(<[u8]>::to_vec)).collect()
+    } else {
+        let lines = count(lines.len() as u64, "line");
+        return Err(Failure::Usage(format!(
+            "{} has {lines} and no '>': say whether each line is a sequence (--each-line) or all are one (--joined)",
+            fasta.shown
+        )));
+    };
+    let mut answer = vec![];
+    for (line, bases) in sequences {
+        let turned = turn.turned(bases).map_err(|refusal| {
+            let words = format!("{}, line {line}: {}", fasta.shown, refusal.words());
+            let next = "the letters that have one are ACGTU and MRWSYKVHDBN, small ones too".to_string();
+            let place = None;
+            Failure::Refused(Box::new(Refused { words, next, refusal, file: fasta.shown.clone(), place, region: None }))
+        })?;
+        if common.json {
+            let mut object = Object::new();
+            object.number("line", line).bytes("bases", &turned);
+            answer.extend_from_slice(object.line().as_bytes());
+        } else {
+            answer.extend_from_slice(&turned);
+            answer.push(b'\n');
+        }
+    }
+    fasta.unchanged()?;
+    write(&answer)
+}
+
+fn completions(words: &ArgMatches) -> Result<(), Failure> {
+    let mut text = vec![];
+    if let Some(shell) = words.get_one::<clap_complete::Shell>("shell") {
+        clap_complete::generate(*shell, &mut arguments::command(), "wakeluri", &mut text);
+    }
+    write(&text)
+}
+
+fn write(text: &[u8]) -> Result<(), Failure> {
+    let mut answers = Answers::new();
+    answers.write(text)?;
+    answers.done()
+}

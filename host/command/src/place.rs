@@ -1,0 +1,141 @@
+//! Where in a file a fault lies, for messages. It judges nothing: the proved code has refused by then.
+
+use wakeluri::{Record, Table};
+
+/// A line of a file.
+#[derive(Clone, Copy, Debug, Eq, PartialEq)]
+pub struct Line {
+    /// Its number, from 1.
+    pub number: u64,
+    /// The offset of its first byte.
+    pub start: usize,
+    /// How many bytes it has, with its end.
+    pub width: usize,
+    /// How many bases it has, by the line rule.
+    pub bases: usize,
+}
+
+/// The lines from an offset on, which is the start of a line that has a number.
+pub fn lines(file: &[u8], start: usize, number: u64) -> impl Iterator<Item = Line> + '_ {
+    let mut at = start;
+    file.get(start..).unwrap_or_default().split_inclusive(|byte| *byte == b'\n').zip(number..).map(
+        move |(line, number)| {
+            let start = at;
+            at += line.len();
+            let content = line.strip_suffix(b"\n").unwrap_or(line);
+            let content = content.strip_suffix(b"\r").unwrap_or(content);
+            Line { number, start, width: line.len(), bases: content.len() }
+        },
+    )
+}
+
+/// The number of the line that an offset lies in.
+pub fn line_number(file: &[u8], offset: usize) -> u64 {
+    let before = file.get(..offset).unwrap_or(file);
+    before.iter().filter(|byte| **byte == b'\n').count() as u64 + 1
+}
+
+/// The bytes of a line.
+pub fn text(file: &[u8], line: Line) -> &[u8] {
+    file.get(line.start..).and_then(|rest| rest.get(..line.width)).unwrap_or_default()
+}
+
+/// The definition line of a record, counted from 1.
+pub fn definition(file: &[u8], record: u64) -> Option<Line> {
+    let record = usize::try_from(record).ok()?.checked_sub(1)?;
+    let is_definition = |line: &Line| line.start == 0 || file.get(line.start) == Some(&b'>');
+    lines(file, 0, 1).filter(is_definition).nth(record)
+}
+
+/// The lines of a record's sequence, after its definition line.
+pub fn sequence(file: &[u8], definition: Line) -> impl Iterator<Item = Line> + '_ {
+    lines(file, definition.start + definition.width, definition.number + 1)
+        .take_while(|line| file.get(line.start) != Some(&b'>'))
+}
+
+/// The definition line of the record that an indexer refused, after the rows that it had made.
+pub fn refused_definition(file: &[u8], rows: &Table<'_>) -> Option<Line> {
+    let start = match rows.len().checked_sub(1) {
+        None => 0,
+        Some(last) => {
+            let name_start = rows.as_bytes().get(last * 48..)?.first_chunk().map(|bytes| u64::from_le_bytes(*bytes))?;
+            let (_, next) = wakeluri::index_record(file, name_start.checked_sub(1)?).ok()??;
+            usize::try_from(next).ok()?
+        }
+    };
+    lines(file, start, line_number(file, start)).next()
+}
+
+/// The first line of a record whose bases or width are not those of its first line.
+pub fn uneven(file: &[u8], definition: Line) -> Option<Line> {
+    let mut lines = sequence(file, definition);
+    let first = lines.next()?;
+    lines.find(|line| (line.bases, line.width) != (first.bases, first.width))
+}
+
+/// The line and the offset of a base of a record, counted from 1.
+pub fn base(file: &[u8], definition: Line, base: u64) -> Option<(Line, usize)> {
+    let mut left = usize::try_from(base).ok()?.checked_sub(1)?;
+    for line in sequence(file, definition) {
+        if left < line.bases {
+            return Some((line, line.start + left));
+        }
+        left -= line.bases;
+    }
+    None
+}
+
+/// The offset at which an index line says that a base lies, if 64 bits hold it.
+pub fn said(record: &Record<'_>, base: u64) -> Option<u64> {
+    let before = base.checked_sub(1)?;
+    let lines = before.checked_div(record.line_bases)?.checked_mul(record.line_width)?;
+    record.position.checked_add(lines)?.checked_add(before.checked_rem(record.line_bases)?)
+}
+
+/// A name or some bytes in a message: letters as they are, all else escaped.
+pub fn quoted(bytes: &[u8]) -> String {
+    match std::str::from_utf8(bytes) {
+        Ok(text) if !text.chars().any(char::is_control) => text.to_string(),
+        _ => bytes.escape_ascii().to_string(),
+    }
+}
+
+/// A number with commas.
+pub fn commas(number: u64) -> String {
+    let digits = number.to_string();
+    let mut told = String::new();
+    for (place, digit) in digits.chars().enumerate() {
+        if place > 0 && (digits.len() - place) % 3 == 0 {
+            told.push(',');
+        }
+        told.push(digit);
+    }
+    told
+}
+
+/// So many of a thing: "1 base", "2 bases".
+pub fn count(number: u64, thing: &str) -> String {
+    format!("{} {thing}{}", commas(number), if number == 1 { "" } else { "s" })
+}
+
+#[cfg(test)]
+mod tests {
+    use super::*;
+
+    #[test]
+    fn places() {
+        let file = b">s\nACGT\nAC\n>t x\r\nGG\r\nG";
+        assert_eq!(definition(file, 2), Some(Line { number: 4, start: 11, width: 6, bases: 4 }));
+        let record = definition(file, 2).unwrap();
+        assert_eq!(base(file, record, 3).map(|(line, at)| (line.number, at)), Some((6, 21)));
+        assert_eq!(base(file, record, 4), None);
+        assert_eq!(
+            uneven(b">s\nACGT\n\nAC\n", definition(b">s\nACGT\n\nAC\n", 1).unwrap()).map(|line| line.number),
+            Some(3)
+        );
+        let (rows, refusal) = wakeluri::index_until_refused(b">s\nAC\n>t\n\nAC\n");
+        assert!(refusal.is_some());
+        assert_eq!(refused_definition(b">s\nAC\n>t\n\nAC\n", &rows).map(|line| line.number), Some(3));
+        assert_eq!((commas(0), commas(999), commas(1234567)), ("0".into(), "999".into(), "1,234,567".into()));
+    }
+}

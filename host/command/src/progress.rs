@@ -1,0 +1,95 @@
+//! A progress bar on a terminal, for work that takes over a second; nothing elsewhere.
+
+use indicatif::{ProgressBar, ProgressStyle};
+use std::io::IsTerminal;
+use std::sync::Arc;
+use std::sync::atomic::{AtomicBool, AtomicU64, Ordering};
+use std::thread::{self, JoinHandle};
+use std::time::Duration;
+
+/// Nothing is shown for work that is done by then.
+const QUIET: Duration = Duration::from_secs(1);
+
+/// How often the bar moves.
+const TICK: Duration = Duration::from_millis(100);
+
+/// Shows how far some work is, until it is dropped.
+#[derive(Debug)]
+pub struct Progress {
+    at: Arc<AtomicU64>,
+    over: Arc<AtomicBool>,
+    shower: Option<JoinHandle<()>>,
+}
+
+impl Progress {
+    /// Reading so many bytes; 0 where that isn't known.
+    pub fn reading(file: &str, bytes: u64) -> Self {
+        Self::new(format!("reading {file}"), bytes, false)
+    }
+
+    /// Work on so many bytes; where they are mapped, the system tells how many were looked at.
+    pub fn working(doing: &str, file: &str, bytes: u64, mapped: bool) -> Self {
+        Self::new(format!("{doing} {file}"), if mapped { bytes } else { 0 }, mapped)
+    }
+
+    fn new(doing: String, bytes: u64, mapped: bool) -> Self {
+        let at = Arc::new(AtomicU64::new(0));
+        let over = Arc::new(AtomicBool::new(false));
+        let shower = std::io::stderr().is_terminal().then(|| {
+            let (at, over) = (Arc::clone(&at), Arc::clone(&over));
+            thread::spawn(move || show(&doing, bytes, mapped, &at, &over))
+        });
+        Self { at, over, shower }
+    }
+
+    /// So many bytes are done.
+    pub fn at(&self, bytes: u64) {
+        self.at.store(bytes, Ordering::Relaxed);
+    }
+}
+
+impl Drop for Progress {
+    fn drop(&mut self) {
+        self.over.store(true, Ordering::Relaxed);
+        if let Some(shower) = self.shower.take() {
+            shower.thread().unpark();
+            let _ = shower.join();
+        }
+    }
+}
+
+fn show(doing: &str, bytes: u64, mapped: bool, at: &AtomicU64, over: &AtomicBool) {
+    let before = if mapped { looked_at() } else { 0 };
+    thread::park_timeout(QUIET);
+    if over.load(Ordering::Relaxed) {
+        return;
+    }
+    let bar = if bytes == 0 { ProgressBar::new_spinner() } else { ProgressBar::new(bytes) };
+    let form =
+        if bytes == 0 { "{spinner} {msg} {elapsed}" } else { "{msg} [{bar:30}] {bytes} of {total_bytes}, {elapsed}" };
+    if let Ok(style) = ProgressStyle::with_template(form) {
+        bar.set_style(style.progress_chars("=> "));
+    }
+    bar.set_message(doing.to_string());
+    let mut most = 0;
+    while !over.load(Ordering::Relaxed) {
+        let now = if mapped { looked_at().saturating_sub(before) } else { at.load(Ordering::Relaxed) };
+        most = now.max(most);
+        if bytes == 0 {
+            bar.tick()
+        } else {
+            bar.set_position(most.min(bytes))
+        }
+        thread::park_timeout(TICK);
+    }
+    bar.finish_and_clear();
+}
+
+/// The bytes of mapped files that this process has looked at and the system still holds.
+fn looked_at() -> u64 {
+    let told = std::fs::read_to_string("/proc/self/statm").unwrap_or_default();
+    let pages: u64 = told.split(' ').nth(2).and_then(|pages| pages.parse().ok()).unwrap_or(0);
+    // SAFETY: it only asks for a number.
+    let page = unsafe { libc::sysconf(libc::_SC_PAGESIZE) };
+    pages.saturating_mul(u64::try_from(page).unwrap_or(4096))
+}
