@@ -29,7 +29,7 @@ inFile bytes (o ∷ os) = cond (ltb o bytes) (suc (inFile bytes os)) 0
 unfoldable pub pastLength : ℕ → ℕ → ℕ → Bool
 pastLength bases a e = ltb bases a || ltb bases e
 
--- the n bytes at some offsets: 18 with the first base that is not in the file, where base a has the first of the offsets
+-- the bytes at some offsets: 18 with the first base that is not in the file, where base a has the first of the offsets
 unfoldable pub bytesAt : ℕ → (ℕ → ℕ) → ℕ → List ℕ → List ℕ → Outcome
 bytesAt bytes byte a os out =
     cond (ltb (inFile bytes os) (length os)) (refuses (NotInFile (a + inFile bytes os)) out) (gives (map byte os) out)

@@ -1,4 +1,4 @@
--- Laws of the reads: what the bounds say, and what each test says of the outcome.
+-- Laws of the reads: what the bounds say, and what each test says of the outcome. The code goes by these.
 use Prim.Native.Nat.{ℕ, _+_, _≤_, _<_}
 use mathlib.Core.Path.{_≡_, refl, ap, _∙_}
 use mathlib.Core.List.{List, _++_, map}
@@ -114,6 +114,11 @@ module _ (s t : List ℕ) (u r : ℕ) (a e : Bound) (out : List ℕ) where
   exact-long h = rw h
 
   module _ (h : overLimit (length s) ≡ false) where
+    -- of a file within the limit it is the function of the record, the bounds, the output and the bytes
+    pub exact-within : exactRead s t u r a e out ≡ exactOf (length s) (byteAt s) (heldAt t u r) a e out
+    unfolding exactRead
+    exact-within = rw h
+
     pub exact-refused : (f : Refusal) → boundedRow a e (heldAt t u r) ≡ held.Refused f → leaves (Refused f) out ≡ exactRead s t u r a e out
     unfolding exactRead exactOf exactIn refuses
     exact-refused f q = rw (h, q)

@@ -166,7 +166,10 @@ fn mapped(file: &File, shown: &str, json: bool) -> Option<Mmap> {
     // SAFETY: the bytes are only read. If another program cuts the file, the signal above ends this one before a byte is made up;
     // if it writes to it, the file's times tell, and nothing is answered.
     let mapped = unsafe { Mmap::map(file) }.ok()?;
-    let _ = mapped.advise(memmap2::Advice::Sequential);
+    // SAFETY: it only tells the system that these bytes will be read in order.
+    unsafe {
+        libc::madvise(mapped.as_ptr().cast_mut().cast(), mapped.len(), libc::MADV_SEQUENTIAL);
+    }
     Some(mapped)
 }
 

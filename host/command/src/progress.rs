@@ -65,6 +65,7 @@ fn show(doing: &str, bytes: u64, mapped: bool, at: &AtomicU64, over: &AtomicBool
         return;
     }
     let bar = if bytes == 0 { ProgressBar::new_spinner() } else { ProgressBar::new(bytes) };
+    let bar = bar.with_elapsed(QUIET);
     let form =
         if bytes == 0 { "{spinner} {msg} {elapsed}" } else { "{msg} [{bar:30}] {bytes} of {total_bytes}, {elapsed}" };
     if let Ok(style) = ProgressStyle::with_template(form) {

@@ -258,6 +258,32 @@ fn a_reader_that_goes_away() {
     assert_eq!((answer.status, answer.err.as_str()), (Some(3), ""));
 }
 
+/// A bar for work over a second on a terminal, and none elsewhere.
+#[test]
+fn progress_on_a_terminal() {
+    let folder = Folder::new("progress");
+    folder.write("f.fa", ">s\nACGT\n");
+    let slow = format!("(sleep 1.7; cat f.fa) | {WAKELURI} index -");
+    let quiet = Answer::from(Command::new("sh").args(["-c", &slow]).current_dir(folder.path()).output().unwrap());
+    quiet.gave("s\t4\t3\t4\t5\n");
+    let in_terminal = |line: &str| -> Option<String> {
+        let output =
+            Command::new("script").args(["-qec", line, "/dev/null"]).current_dir(folder.path()).output().ok()?;
+        Some(String::from_utf8_lossy(&output.stdout).into_owned())
+    };
+    let Some(shown) = in_terminal(&slow) else {
+        eprintln!("skipped: there is no `script` here, which makes a terminal");
+        return;
+    };
+    assert!(shown.contains("reading standard input"), "{shown:?}");
+    assert!(shown.ends_with("s\t4\t3\t4\t5\r\n"), "{shown:?}");
+    assert_eq!(
+        in_terminal(&format!("{WAKELURI} index -o - f.fa")).unwrap(),
+        "s\t4\t3\t4\t5\r\n",
+        "quick work shows none"
+    );
+}
+
 #[test]
 fn an_index_behind_a_link_is_replaced_where_it_is() {
     let folder = Folder::new("link");

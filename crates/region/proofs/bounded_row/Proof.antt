@@ -1,7 +1,7 @@
 -- `region::bounded_row` meets its contract: bad bounds are refused before the table is looked at.
 -- Assumes nothing.
-use borrow.Author.Needs.{needs}
 use mathlib.Core.Path.{sym, _∙_}
+use borrow.Author.Needs.{needs}
 use Rattle.region.specs.Region.{boundedRow}
 use Rattle.region.proofs.bounded_row.Statement.{statement}
 use Rattle.region.proofs.bounded_row.Tie as tie

@@ -1,7 +1,7 @@
 -- `region::find_row` meets its contract: the size of the file is judged first, and the rest is `index::find`.
 -- Assumes nothing.
-use borrow.Author.Needs.{needs}
 use mathlib.Core.Path.{sym, _∙_}
+use borrow.Author.Needs.{needs}
 use Rattle.region.specs.Named.{rowFor}
 use Rattle.region.proofs.find_row.Statement.{statement}
 use Rattle.region.proofs.find_row.Tie as tie

@@ -1,9 +1,10 @@
--- `region::read_raw` meets its contract: the size is judged first, then bounds and row, and of a row `scan_region` reads the region.
+-- `region::read_raw` meets its contract: the size is judged first, then bounds and row, and of a row `scan_region` reads the
+-- region.
 -- Assumes nothing.
-use borrow.Author.Needs.{needs}
 use mathlib.Core.Path.{_≡_, sym, _∙_}
 use mathlib.Core.Bool.{false}
 use lib.ListN.{length}
+use borrow.Author.Needs.{needs}
 use Rattle.refusal.specs.Numbers.{overLimit}
 use Rattle.region.specs.Laws.{bounded-known, raw-long, raw-refused, raw-row}
 use Rattle.region.proofs.read_raw.Statement.{statement}
@@ -24,6 +25,7 @@ enum-known-held c = search needs
 enum-known-held-2 : tie.Need-enum-known-held-2
 enum-known-held-2 c = search needs
 
+-- the file is within the limit
 short : (c : tie.After-bounded-row) → overLimit (length (c .before .before .before .before .before .before .args .file .now)) ≡ false
 short c = sym (c .before .before .over-limit .ensures) ∙ c .before .if1 .left
 

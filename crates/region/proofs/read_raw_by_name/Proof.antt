@@ -1,7 +1,7 @@
 -- `region::read_raw_by_name` meets its contract: a row that is found is read by `read_raw`, and else the refusal is the answer.
 -- Assumes nothing.
-use borrow.Author.Needs.{needs}
 use mathlib.Core.Path.{sym, _∙_}
+use borrow.Author.Needs.{needs}
 use Rattle.region.specs.Named.{rawNamed}
 use Rattle.region.specs.Laws.{found-refused, found-row}
 use Rattle.region.proofs.read_raw_by_name.Statement.{statement}

@@ -1,7 +1,7 @@
 -- `region::bounds::are_crossed` meets its contract: each arm is a case of the definition.
 -- Assumes nothing.
-use Rattle.region.specs.Region.{crossed}
 use borrow.Author.Needs.{needs}
+use Rattle.region.specs.Region.{crossed}
 use Rattle.region.proofs.bounds.are_crossed.Statement.{statement}
 use Rattle.region.proofs.bounds.are_crossed.Tie as tie
 

@@ -1,8 +1,8 @@
 -- `region::bounds::bad_bounds` meets its contract: the three tests are the definition's, in its order.
 -- Assumes nothing.
 use mathlib.Core.Path.{sym, _∙_}
-use Rattle.region.specs.Region.{badBounds}
 use borrow.Author.Needs.{needs}
+use Rattle.region.specs.Region.{badBounds}
 use Rattle.region.proofs.bounds.bad_bounds.Statement.{statement}
 use Rattle.region.proofs.bounds.bad_bounds.Tie as tie
 

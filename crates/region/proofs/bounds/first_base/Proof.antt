@@ -1,8 +1,8 @@
 -- `region::bounds::first_base` meets its contract: each arm is a case of the definition.
 -- Assumes nothing.
 use mathlib.Core.Path.{_∙_}
-use Rattle.region.specs.Region.{startOf}
 use borrow.Author.Needs.{needs}
+use Rattle.region.specs.Region.{startOf}
 use Rattle.region.proofs.bounds.first_base.Statement.{statement}
 use Rattle.region.proofs.bounds.first_base.Tie as tie
 

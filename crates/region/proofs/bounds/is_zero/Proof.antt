@@ -1,7 +1,7 @@
 -- `region::bounds::is_zero` meets its contract: each arm is a case of the definition.
 -- Assumes nothing.
-use Rattle.region.specs.Region.{isZero}
 use borrow.Author.Needs.{needs}
+use Rattle.region.specs.Region.{isZero}
 use Rattle.region.proofs.bounds.is_zero.Statement.{statement}
 use Rattle.region.proofs.bounds.is_zero.Tie as tie
 

@@ -1,7 +1,7 @@
 -- `region::bounds::last_base` meets its contract: each arm is a case of the definition.
 -- Assumes nothing.
-use Rattle.region.specs.Region.{endOf}
 use borrow.Author.Needs.{needs}
+use Rattle.region.specs.Region.{endOf}
 use Rattle.region.proofs.bounds.last_base.Statement.{statement}
 use Rattle.region.proofs.bounds.last_base.Tie as tie
 

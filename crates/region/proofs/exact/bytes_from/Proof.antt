@@ -1,8 +1,8 @@
 -- `region::exact::bytes_from` meets its contract: a base that has no offset of 64 bits is past the end of any file.
 -- Assumes nothing.
+use mathlib.Core.Path.{sym, _∙_}
 use borrow.Author.Needs.{needs}
 use native.Mathlib.Omega.{arith}
-use mathlib.Core.Path.{sym, _∙_}
 use Rattle.record.specs.Laws.{Addressed, address-none, address-known}
 use Rattle.region.proofs.exact.bytes_from.Statement.{statement}
 use Rattle.region.proofs.exact.bytes_from.Tie as tie

@@ -1,14 +1,14 @@
--- `region::exact::copy_bases` meets its contract: line by line, the output with the bases that are still to be copied is the one that was
--- promised, and the next line begins where the rule says. The loop does not hold the first base, so its invariant is for every
--- base with which a copy can begin there.
+-- `region::exact::copy_bases` meets its contract: line by line, the output with the bases that are still to be copied is the one
+-- that was promised, and the next line begins where the rule says. The loop does not hold the first base, so its invariant is for
+-- every base with which a copy can begin there.
 -- Assumes nothing.
 use Prim.Native.Nat.{ℕ, _+_, _-_, _≤_}
-use Rattle.region.specs.Inside.{turn-less}
-use Rattle.region.specs.Copy.{Starts, Lined, starts-fits, lined-start, lined-inside, lined-next, lined-fits, lined-end}
-use borrow.Author.Needs.{needs}
-use native.Mathlib.Omega.{arith}
 use mathlib.Core.Path.{_∙_}
 use lib.ListN.{length}
+use borrow.Author.Needs.{needs}
+use native.Mathlib.Omega.{arith}
+use Rattle.region.specs.Inside.{turn-less}
+use Rattle.region.specs.Copy.{Starts, Lined, starts-fits, lined-start, lined-inside, lined-next, lined-fits, lined-end}
 use Rattle.region.proofs.exact.copy_bases.Statement.{statement}
 use Rattle.region.proofs.exact.copy_bases.Tie as tie
 
@@ -27,9 +27,11 @@ in-line-requires c κs = search needs
 loop-holds : tie.Need-loop-holds Inv-loop μ-loop
 loop-holds c = λ a t. lined-start _ _ _ _ _ _ _ t
 
+-- how the copy begins
 starts : (c : tie.After-in-line Inv-loop μ-loop) → let s = c .before .before .before .before in Starts (s .args .file .now) (s .args .x) (s .args .a .0) (s .args .n) (c .before .offset-in .result) (c .in-line .result)
 starts c = let s = c .before .before .before .before in record { bases = s .pre .0; inside = s .pre .1 .0; place = c .before .offset-in .ensures; column = c .in-line .ensures }
 
+-- where it is
 here : (c : tie.At-loop Inv-loop μ-loop) → let s = c .before .before .before .before .before in Lined (s .args .file .now) (s .args .x) (s .args .a .0) (s .args .n) (s .args .out .now) (c .loop .k) (c .loop .at) (c .loop .run) (c .loop .out)
 here c = c .loop .inv _ (starts (c .before))
 

@@ -1,12 +1,12 @@
 -- `region::exact::copy_run` meets its contract: after `k` turns `k` bytes are pasted.
 -- Assumes nothing.
-use borrow.Author.Needs.{needs}
-use native.Mathlib.Omega.{arith}
 use Prim.Native.Nat.{_-_, _≤_}
 use mathlib.Core.Path.{_≡_, _∙_, ap}
-use native.Mathlib.Numerals.{add-one}
 use lib.ListN.{length, drop, length-drop}
 use lib.Seq.{paste, paste-zero, paste-suc, length-paste, getD-drop}
+use borrow.Author.Needs.{needs}
+use native.Mathlib.Omega.{arith}
+use native.Mathlib.Numerals.{add-one}
 use Rattle.region.proofs.exact.copy_run.Statement.{statement}
 use Rattle.region.proofs.exact.copy_run.Tie as tie
 

@@ -1,7 +1,8 @@
--- `region::exact::count_inside` meets its contract: where offsets do not go back, and the last is in the file, all are; else `count_lines` counts.
+-- `region::exact::count_inside` meets its contract: where offsets do not go back, and the last is in the file, all are; else
+-- `count_lines` counts.
 -- Assumes nothing.
-use borrow.Author.Needs.{needs}
 use mathlib.Core.Path.{sym, _∙_, refl}
+use borrow.Author.Needs.{needs}
 use Rattle.region.specs.Inside.{last-known, last-all}
 use Rattle.region.proofs.exact.count_inside.Statement.{statement}
 use Rattle.region.proofs.exact.count_inside.Tie as tie

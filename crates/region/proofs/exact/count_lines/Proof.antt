@@ -1,9 +1,10 @@
--- `region::exact::count_lines` meets its contract: what is done and what is still to be counted are together all that is to be counted.
+-- `region::exact::count_lines` meets its contract: what is done and what is still to be counted are together all that is to be
+-- counted.
 -- Assumes nothing.
-use borrow.Author.Needs.{needs}
-use native.Mathlib.Omega.{arith}
 use Prim.Native.Nat.{_+_, _-_, _≤_}
 use mathlib.Core.Path.{_≡_, ap}
+use borrow.Author.Needs.{needs}
+use native.Mathlib.Omega.{arith}
 use Rattle.region.specs.Exact.{offsetsOf, inFile}
 use Rattle.region.specs.Inside.{Turn, turn, turn-stops, turn-goes, bases-start, bases-end}
 use Rattle.region.proofs.exact.count_lines.Statement.{statement}
@@ -38,7 +39,7 @@ add-result : tie.Need-add-result Inv-loop μ-loop
 add-result c = let h = next (c .before .before) in omega arith
 
 returns : tie.Need-returns Inv-loop μ-loop
-returns c = let l = c .before .before .before .before .before in omega (arith, turn-stops _ _ _ _ _ (next (c .before .before)) _ _ (c .before .bytes-from .ensures) (c .if1 .taken))
+returns c = omega (arith, turn-stops _ _ _ _ _ (next (c .before .before)) _ _ (c .before .bytes-from .ensures) (c .if1 .taken))
 
 add-k : tie.Need-add-k Inv-loop μ-loop
 add-k c = let h = next (c .before .before) in omega arith

@@ -1,9 +1,9 @@
 -- `region::exact::in_line` meets its contract: the base's column is inside its line, so what is left of the line is a difference.
 -- Assumes nothing.
+use Prim.Native.Nat.{_-_}
 use borrow.Author.Needs.{needs}
 use native.Mathlib.Omega.{arith}
 use native.Mathlib.Nat.{mod-lt}
-use Prim.Native.Nat.{_-_}
 use Rattle.region.proofs.exact.in_line.Statement.{statement}
 use Rattle.region.proofs.exact.in_line.Tie as tie
 

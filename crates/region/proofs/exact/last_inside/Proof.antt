@@ -1,7 +1,7 @@
 -- `region::exact::last_inside` meets its contract: the file has bytes from a base on exactly if the base is in it.
 -- Assumes nothing.
-use borrow.Author.Needs.{needs}
 use Prim.Native.Nat.{_-_}
+use borrow.Author.Needs.{needs}
 use borrow.Author.Tests.{lt-leb, le-leb}
 use Rattle.record.specs.Place.{placeIn}
 use Rattle.region.specs.Inside.{some-left}

@@ -1,7 +1,8 @@
--- `region::exact::read_bases` meets its contract: room and then place are judged as the definition judges them, and only then bytes are copied.
+-- `region::exact::read_bases` meets its contract: room and then place are judged as the definition judges them, and only then
+-- bytes are copied.
 -- Assumes nothing.
-use borrow.Author.Needs.{needs}
 use lib.ListN.{length}
+use borrow.Author.Needs.{needs}
 use Rattle.region.specs.Inside.{inside-all}
 use Rattle.region.specs.Laws.{bases-no-room, bases-outside, bases-read}
 use Rattle.region.proofs.exact.read_bases.Statement.{statement}

@@ -1,10 +1,9 @@
 -- `region::exact::read_region` meets its contract: past the test for the length the bounds are in order, from 1 on.
 -- Assumes nothing.
-use mathlib.Core.Path.{_≡_}
+use mathlib.Core.Path.{_≡_, _∙_, sym}
+use borrow.Author.Needs.{needs}
 use Rattle.region.specs.Region.{startOf, endOf}
 use Rattle.region.specs.Exact.{pastLength}
-use borrow.Author.Needs.{needs}
-use mathlib.Core.Path.{_∙_, sym}
 use Rattle.region.specs.Laws.{good-bounds, within-length, region-past, region-within}
 use Rattle.region.proofs.exact.read_region.Statement.{statement}
 use Rattle.region.proofs.exact.read_region.Tie as tie

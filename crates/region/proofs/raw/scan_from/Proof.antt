@@ -1,11 +1,10 @@
 -- `region::raw::scan_from` meets its contract: what the scan leaves is what a raw read leaves, without the place.
 -- Assumes nothing.
-use borrow.Author.Needs.{needs}
 use mathlib.Core.Path.{_≡_}
+use borrow.Author.Needs.{needs}
 use Rattle.region.specs.Region.{leaves}
 use Rattle.region.specs.Raw.{scanTo, pours}
 use Rattle.region.specs.Laws.{regionRead, scan-read}
-use Rattle.region.specs.Laws.{scan-read}
 use Rattle.region.proofs.raw.scan_from.Statement.{statement}
 use Rattle.region.proofs.raw.scan_from.Tie as tie
 

@@ -1,8 +1,8 @@
 -- `region::raw::scan_limit` meets its contract: a given end is not before the first base, so the count is a difference and 1.
 -- Assumes nothing.
+use Prim.Native.Nat.{_≤_}
 use borrow.Author.Needs.{needs}
 use native.Mathlib.Omega.{arith}
-use Prim.Native.Nat.{_≤_}
 use Rattle.region.specs.Region.{endOf}
 use Rattle.region.specs.Laws.{limitOf}
 use Rattle.region.proofs.raw.scan_limit.Statement.{statement}

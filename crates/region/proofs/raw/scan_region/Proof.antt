@@ -1,10 +1,10 @@
 -- `region::raw::scan_region` meets its contract: a first base with no offset is refused, and from any other the scan begins.
 -- Assumes nothing.
-use borrow.Author.Needs.{needs}
 use mathlib.Core.Path.{sym, _∙_}
+use borrow.Author.Needs.{needs}
+use native.Mathlib.Omega.{arith}
 use Rattle.region.specs.Region.{startOf}
 use Rattle.region.specs.Laws.{good-bounds, raw-nowhere, raw-at}
-use native.Mathlib.Omega.{arith}
 use Rattle.region.proofs.raw.scan_region.Statement.{statement}
 use Rattle.region.proofs.raw.scan_region.Tie as tie
 
