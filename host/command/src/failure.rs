@@ -36,6 +36,8 @@ pub struct Refused {
     pub place: Option<(u64, u64)>,
     /// The region that was asked for.
     pub region: Option<String>,
+    /// The sheet that it stands in, and its line.
+    pub sheet: Option<(String, u64)>,
 }
 
 impl Failure {
@@ -65,11 +67,14 @@ impl Failure {
         match self {
             Self::Gone => String::new(),
             Self::Refused(refused) if json => {
-                let Refused { words, next, refusal, file, place, region } = &**refused;
+                let Refused { words, next, refusal, file, place, region, sheet } = &**refused;
                 let mut object = Object::new();
                 object.number("status", status).text("file", file);
                 if let Some(region) = region {
                     object.text("region", region);
+                }
+                if let Some((sheet, line)) = sheet {
+                    object.text("sheet", sheet).number("sheet_line", *line);
                 }
                 object
                     .number("refused", refusal.number)

@@ -98,6 +98,7 @@ fn index(words: &ArgMatches, common: Common) -> Result<(), Failure> {
             file: fasta.shown.clone(),
             place: None,
             region: None,
+            sheet: None,
         }))
     })?;
     fasta.unchanged()?;
@@ -257,7 +258,15 @@ fn complement(words: &ArgMatches, turn: Turn, common: Common) -> Result<(), Fail
             let words = format!("{}, line {line}: {}", fasta.shown, refusal.words());
             let next = "the letters that have one are ACGTU and MRWSYKVHDBN, small ones too".to_string();
             let place = None;
-            Failure::Refused(Box::new(Refused { words, next, refusal, file: fasta.shown.clone(), place, region: None }))
+            Failure::Refused(Box::new(Refused {
+                words,
+                next,
+                refusal,
+                file: fasta.shown.clone(),
+                place,
+                region: None,
+                sheet: None,
+            }))
         })?;
         if common.json {
             let mut object = Object::new();

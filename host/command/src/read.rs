@@ -100,7 +100,15 @@ impl Source<'_> {
         let words = format!("{whence}{}: {} was asked for, and {what}", self.fasta.shown, quoted(&asked.text));
         let file = self.fasta.shown.clone();
         let region = Some(quoted(&asked.text));
-        Failure::Refused(Box::new(Refused { words, next, refusal, file, place: None, region }))
+        Failure::Refused(Box::new(Refused {
+            words,
+            next,
+            refusal,
+            file,
+            place: None,
+            region,
+            sheet: asked.sheet.clone(),
+        }))
     }
 
     /// A region's row and bounds, or why it isn't good. Names that were looked up are known.

@@ -68,7 +68,15 @@ fn not_indexed(fasta: &Input, rows: &Table<'_>, refusal: Refusal) -> Failure {
         None => format!("{}: {what}", fasta.shown),
     };
     let place = at.map(|line| (line.number, line.start as u64));
-    Failure::Refused(Box::new(Refused { words, next, refusal, file: fasta.shown.clone(), place, region: None }))
+    Failure::Refused(Box::new(Refused {
+        words,
+        next,
+        refusal,
+        file: fasta.shown.clone(),
+        place,
+        region: None,
+        sheet: None,
+    }))
 }
 
 fn uneven(name: &str, refusal: Refusal) -> (String, String) {
@@ -225,15 +233,19 @@ fn not_accepted(fasta: &Input, index: &Input, refusal: Refusal) -> Failure {
         Some((line, byte)) => format!("{at}, line {} (byte {}): {what}", commas(line), commas(byte)),
         None => format!("{at}: {what}"),
     };
-    Failure::Refused(Box::new(Refused { words, next, refusal, file: at.clone(), place, region: None }))
+    Failure::Refused(Box::new(Refused { words, next, refusal, file: at.clone(), place, region: None, sheet: None }))
 }
 
 /// An index text that is used unchecked, or why it can't be read.
 pub fn read_index(index: &Input) -> Result<Table<'_>, Failure> {
     wakeluri::read_index(index.bytes()).map_err(|refusal| {
-        let words = format!("{}: {}", index.shown, refusal.words());
+        let line = refusal.first.checked_sub(1).and_then(|line| usize::try_from(line).ok());
+        let line = line.filter(|_| refusal.number != 1).and_then(|line| place::lines(index.bytes(), 0, 1).nth(line));
+        let place = line.map(|line| (line.number, line.start as u64));
+        let at = place.map_or(String::new(), |(_, byte)| format!(" (byte {})", commas(byte)));
+        let words = format!("{}{at}: {}", index.shown, refusal.words());
         let next = "make the index again with `wakeluri index`".to_string();
-        let place = None;
-        Failure::Refused(Box::new(Refused { words, next, refusal, file: index.shown.clone(), place, region: None }))
+        let file = index.shown.clone();
+        Failure::Refused(Box::new(Refused { words, next, refusal, file, place, region: None, sheet: None }))
     })
 }

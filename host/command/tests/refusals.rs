@@ -263,7 +263,7 @@ fn of_read_unchecked() {
             "refused 18 (base 18446744073709551610)",
             "make it again",
         ),
-        ("s\t6\t3\t4\n", "s", "refused 10 (line 1, field 5)", "f.fa.fai: line 1 ends before field 5"),
+        ("s\t6\t3\t4\n", "s", "refused 10 (line 1, field 5)", "f.fa.fai (byte 0): line 1 ends before field 5"),
         ("s\t6\t3\tx\t5\n", "s", "refused 11 (line 1, field 4)", "line 1 has no number"),
         ("s\t6\t3\t4\t0\n", "s", "refused 12 (line 1, field 5)", "line 1 has 0 in field 5"),
         ("s\t6\t3\t4\t5\n\n", "s", "refused 9 (line 2)", "line 2 is empty"),
