@@ -35,6 +35,7 @@ pub enum How {
 pub struct Input {
     /// The name for messages.
     pub shown: String,
+    standard: bool,
     bytes: Bytes,
     opened: Option<(File, Seen)>,
 }
@@ -83,7 +84,7 @@ impl Input {
         let shown = shown(path);
         if is_standard(path) {
             let bytes = read_plainly(&mut io::stdin().lock(), &shown, 0)?;
-            return Ok(Self { shown, bytes: Bytes::Held(bytes), opened: None });
+            return Ok(Self { shown, standard: true, bytes: Bytes::Held(bytes), opened: None });
         }
         let failed = |error: io::Error| {
             let (what, next) = match error.kind() {
@@ -105,12 +106,12 @@ impl Input {
         let map =
             meta.is_file() && meta.size() > 0 && (how == How::Map || (how == How::Auto && meta.size() >= MAPPED_FROM));
         if let Some(mapped) = map.then(|| mapped(&file, &shown, json)).flatten() {
-            return Ok(Self { shown, bytes: Bytes::Mapped(mapped), opened: Some((file, seen)) });
+            return Ok(Self { shown, standard: false, bytes: Bytes::Mapped(mapped), opened: Some((file, seen)) });
         }
         let bytes = read_plainly(&mut file, &shown, if meta.is_file() { meta.size() } else { 0 })?;
         let kind = meta.file_type();
         let opened = (!kind.is_fifo() && !kind.is_char_device() && !kind.is_socket()).then_some((file, seen));
-        let input = Self { shown, bytes: Bytes::Held(bytes), opened };
+        let input = Self { shown, standard: false, bytes: Bytes::Held(bytes), opened };
         input.unchanged()?;
         Ok(input)
     }
@@ -121,6 +122,11 @@ impl Input {
             Bytes::Held(bytes) => bytes,
             Bytes::Mapped(mapped) => mapped,
         }
+    }
+
+    /// The file as a word of a command.
+    pub fn given(&self) -> &str {
+        if self.standard { "-" } else { &self.shown }
     }
 
     /// Whether the file is mapped.

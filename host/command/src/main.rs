@@ -3,6 +3,7 @@
 
 mod arguments;
 mod failure;
+mod faults;
 mod input;
 mod json;
 mod nearest;

@@ -164,6 +164,9 @@ fn accepted() {
     let folder = Folder::new("accepted");
     folder.write("f.fa", ">s\nACGT\n");
     folder.run(&["check", "f.fa", "/dev/null"]).refused("refused 19 (record 1)", &[]);
+    folder
+        .piped(&["check", "-", "/dev/null"], b">s\nACGT\n", 9)
+        .refused("refused 19 (record 1)", &["`wakeluri index -`"]);
     folder.write("other.fai", "s\t04\t3\t60\t61");
     folder
         .run(&["check", "f.fa", "other.fai"])
@@ -263,7 +266,7 @@ fn of_read_unchecked() {
             "refused 18 (base 18446744073709551610)",
             "make it again",
         ),
-        ("s\t6\t3\t4\n", "s", "refused 10 (line 1, field 5)", "f.fa.fai (byte 0): line 1 ends before field 5"),
+        ("s\t6\t3\t4\n", "s", "refused 10 (line 1, field 5)", "f.fa.fai, line 1 (byte 0): line 1 ends before field 5"),
         ("s\t6\t3\tx\t5\n", "s", "refused 11 (line 1, field 4)", "line 1 has no number"),
         ("s\t6\t3\t4\t0\n", "s", "refused 12 (line 1, field 5)", "line 1 has 0 in field 5"),
         ("s\t6\t3\t4\t5\n\n", "s", "refused 9 (line 2)", "line 2 is empty"),

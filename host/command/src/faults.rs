@@ -1,0 +1,235 @@
+//! What is wrong with a file or an index, in words, with its line and byte. The proved code has refused by then.
+
+use crate::failure::{Failure, Refused};
+use crate::input::Input;
+use crate::place::{self, Line, commas, count, quoted};
+use wakeluri::{Record, Refusal, Table};
+
+/// A refusal about a line of a file, or about all of it.
+fn refused(input: &Input, line: Option<Line>, what: &str, next: String, refusal: Refusal) -> Failure {
+    let file = input.shown.clone();
+    let place = line.map(|line| (line.number, line.start as u64));
+    let words = match place {
+        Some((line, byte)) => format!("{file}, line {} (byte {}): {what}", commas(line), commas(byte)),
+        None => format!("{file}: {what}"),
+    };
+    Failure::Refused(Box::new(Refused { words, next, refusal, file, place, region: None, sheet: None }))
+}
+
+/// A refusal of the indexer, in words.
+pub fn not_indexed(fasta: &Input, rows: &Table<'_>, refusal: Refusal) -> Failure {
+    let file = fasta.bytes();
+    let definition = if refusal.number == 1 { None } else { place::refused_definition(file, rows) };
+    let mut at = definition;
+    let (what, next) = match (refusal.number, definition) {
+        (2..=4, Some(line)) => bad_definition(file, line, refusal.number),
+        (5, Some(definition)) => {
+            let name = name_of(file, definition);
+            at = place::sequence(file, definition).next().or(definition.into());
+            let content = place::text(file, definition).trim_ascii_end();
+            match place::sequence(file, definition).nth(1) {
+                None if content.contains(&b'\r') => (
+                    format!(
+                        "{name} has no bases: the lines of the file end in CR alone, so that all of it is one line"
+                    ),
+                    "save it with LF at the ends of its lines, or with CR and LF".to_string(),
+                ),
+                Some(_) => (
+                    format!("the first line of {name} is blank, and the bases begin after it"),
+                    "take the blank line out".to_string(),
+                ),
+                None => (
+                    format!("{name} has no bases"),
+                    "take the record out, or put its bases in: samtools' index has no form for it".to_string(),
+                ),
+            }
+        }
+        (6 | 7, Some(definition)) => {
+            let name = name_of(file, definition);
+            at = place::uneven(file, definition).or(definition.into());
+            uneven(&name, refusal)
+        }
+        (1, _) => (
+            format!(
+                "it has {} bytes, and 1,099,511,627,776 are the most that can be worked on",
+                commas(file.len() as u64)
+            ),
+            "part the file".to_string(),
+        ),
+        _ => (refusal.words(), String::new()),
+    };
+    refused(fasta, at, &what, next, refusal)
+}
+
+/// A line that is not like those before it.
+fn uneven(name: &str, refusal: Refusal) -> (String, String) {
+    let (found, expected) = (refusal.first, refusal.second);
+    match (refusal.number, found) {
+        (6, 0) => (
+            format!("this line of {name} is blank, and more of the record follows"),
+            "take the blank line out".to_string(),
+        ),
+        (6, _) => (
+            format!(
+                "this line of {name} has {}, and the lines before it have {}; only the last may have fewer, and none more",
+                count(found, "base"),
+                commas(expected)
+            ),
+            "wrap the bases of the file anew, all lines alike".to_string(),
+        ),
+        _ => (
+            format!(
+                "this line of {name} has as many bases as those before it and another end: {} with it, and not {}",
+                count(found, "byte"),
+                commas(expected)
+            ),
+            "give all lines the same ends: LF alone, or CR and LF".to_string(),
+        ),
+    }
+}
+
+/// A line that should be a definition line.
+fn bad_definition(file: &[u8], line: Line, number: u64) -> (String, String) {
+    match (number, place::text(file, line)) {
+        (3, [0x1f, 0x8b, ..]) => (
+            "this is a compressed file, and FASTA text is needed".to_string(),
+            "unpack it first: `gzip -dc FILE | wakeluri .. -`".to_string(),
+        ),
+        (3, [0xef, 0xbb, 0xbf, ..]) => (
+            "three bytes that some editors put before a text (EF BB BF) stand before the first '>'".to_string(),
+            "save the file as UTF-8 without a byte order mark".to_string(),
+        ),
+        (3, [0xff, 0xfe, ..] | [0xfe, 0xff, ..]) => (
+            "this is text of two bytes to a letter (UTF-16), and FASTA has one".to_string(),
+            "save the file as plain text, or as UTF-8 without a byte order mark".to_string(),
+        ),
+        (3, text) => {
+            let shown = text.get(..text.len().min(20)).unwrap_or_default().trim_ascii_end();
+            (
+                format!("a record begins with a line such as '>name', and here stands '{}'", quoted(shown)),
+                "is it a FASTA file?".to_string(),
+            )
+        }
+        (4, _) => (
+            "the definition line has no name right after its '>'".to_string(),
+            "write the name there, without a space before it".to_string(),
+        ),
+        _ => (
+            "a record begins with a line such as '>name', and this line is empty".to_string(),
+            "take it out".to_string(),
+        ),
+    }
+}
+
+/// A record's name for messages.
+fn name_of(file: &[u8], definition: Line) -> String {
+    match wakeluri::definition_line(place::text(file, definition)) {
+        Ok(definition) => quoted(definition.name),
+        Err(_) => "the record".to_string(),
+    }
+}
+
+/// A record of a file and its line of the index, as far as they are there.
+struct Pair<'p> {
+    fasta: &'p Input,
+    /// The record's number, from 1.
+    number: u64,
+    definition: Option<Line>,
+    name: String,
+    line: Option<Line>,
+    said: Option<Record<'p>>,
+}
+
+impl<'p> Pair<'p> {
+    fn of(fasta: &'p Input, index: &'p Input, number: u64) -> Self {
+        let definition = place::definition(fasta.bytes(), number);
+        let name = definition.map_or("the record".to_string(), |definition| name_of(fasta.bytes(), definition));
+        let line = nth_line(index, number);
+        let said = line.and_then(|line| wakeluri::index_line(place::text(index.bytes(), line)).ok());
+        Self { fasta, number, definition, name, line, said: said.map(|(record, _)| record) }
+    }
+
+    /// The record has another name.
+    fn other_name(&self) -> String {
+        let said = self.said.map_or(String::new(), |said| quoted(said.name));
+        let (number, file, name) = (commas(self.number), &self.fasta.shown, &self.name);
+        format!("this line is about '{said}', and record {number} of {file} is '{name}'")
+    }
+
+    /// The record has another length.
+    fn other_length(&self) -> String {
+        let lines = self.definition.into_iter().flat_map(|definition| place::sequence(self.fasta.bytes(), definition));
+        let bases = count(lines.map(|line| line.bases as u64).sum(), "base");
+        let said = commas(self.said.map_or(0, |said| said.length));
+        format!("{} has {bases} in {}, and this line says {said}", self.name, self.fasta.shown)
+    }
+
+    /// A base is not where the line says.
+    fn other_place(&self, base: u64) -> String {
+        let said = match self.said.and_then(|said| place::said(&said, base)) {
+            Some(byte) => format!("at byte {}", commas(byte)),
+            None => "farther than a file can be long".to_string(),
+        };
+        let is = self.definition.and_then(|definition| place::base(self.fasta.bytes(), definition, base));
+        let is = is.map_or(String::new(), |(line, byte)| {
+            let (byte, line) = (commas(byte as u64), commas(line.number));
+            format!(", and it is at byte {byte} (line {line}) of {}", self.fasta.shown)
+        });
+        format!("by this line base {} of {} is {said}{is}{}", commas(base), self.name, self.other_ends())
+    }
+
+    /// What people meet most: the file has other line ends than it had when its index was made.
+    fn other_ends(&self) -> &'static str {
+        let first = self.definition.and_then(|definition| place::sequence(self.fasta.bytes(), definition).next());
+        let (Some(first), Some(said)) = (first, self.said) else { return "" };
+        match (first.width - first.bases, said.line_width.checked_sub(said.line_bases)) {
+            (2, Some(1)) => "; its lines end in CR and LF, and the index is of lines that end in LF alone",
+            (1, Some(2)) => "; its lines end in LF alone, and the index is of lines that end in CR and LF",
+            _ => "",
+        }
+    }
+}
+
+/// A line of an index, counted from 1.
+fn nth_line(index: &Input, number: u64) -> Option<Line> {
+    let before = usize::try_from(number.checked_sub(1)?).ok()?;
+    place::lines(index.bytes(), 0, 1).nth(before)
+}
+
+/// A refusal of the checker, in words.
+pub fn not_accepted(fasta: &Input, index: &Input, refusal: Refusal) -> Failure {
+    let of_size = |input, next: &str| refused(input, None, &refusal.words(), next.to_string(), refusal);
+    match refusal.number {
+        1 if fasta.bytes().len() as u64 > 1 << 40 => return of_size(fasta, "part the file"),
+        1 => return of_size(index, "is it an index?"),
+        _ => {}
+    }
+    let pair = Pair::of(fasta, index, refusal.first);
+    if let (2..=4, Some(line)) = (refusal.number, pair.definition) {
+        let (what, next) = bad_definition(fasta.bytes(), line, refusal.number);
+        return refused(fasta, Some(line), &what, next, refusal);
+    }
+    let (line, what) = match refusal.number {
+        19 => {
+            let lines = count(place::lines(index.bytes(), 0, 1).count() as u64, "line");
+            let number = commas(pair.number);
+            (None, format!("it ends after {lines}, and record {number} of {} is {}", fasta.shown, pair.name))
+        }
+        20 => {
+            let records = count(refusal.first, "record");
+            let line = nth_line(index, refusal.first.saturating_add(1));
+            (line, format!("it goes on here, and {} has {records}", fasta.shown))
+        }
+        21 => (pair.line, pair.other_name()),
+        22 => (pair.line, pair.other_length()),
+        23 => (pair.line, pair.other_place(refusal.second)),
+        _ => (pair.line, refusal.words()),
+    };
+    refused(index, line, &what, format!("make the index again: `wakeluri index {}`", fasta.given()), refusal)
+}
+
+/// A refusal of an index text, in words.
+pub fn not_read(index: &Input, refusal: Refusal) -> Failure {
+    let line = nth_line(index, refusal.first).filter(|_| refusal.number != 1);
+    refused(index, line, &refusal.words(), "make the index again with `wakeluri index`".to_string(), refusal)
+}
