@@ -1,0 +1,114 @@
+-- `byte_table::fill::read_rows` meets its contract: the rows in the table, with those that the text from `at` on still gives, are those of the whole text.
+-- Assumes nothing.
+use Prim.Native.Nat.{_≤_, _<_, _-_, _+_}
+use mathlib.Core.Path.{_≡_, refl, _∙_}
+use native.Mathlib.Omega.{arith}
+use lib.ListN.{length}
+use borrow.Author.Needs.{needs}
+use Rattle.record.specs.Row.{rowCount}
+use Rattle.table.specs.Fill.{withFirst}
+use Rattle.index.specs.Index.{indexAt}
+use Rattle.index.specs.Laws.{index-row, index-ended, index-refused}
+use Rattle.byte_table.specs.Laws.{length-numbers}
+use Rattle.byte_table.specs.FillLaws.{OnwardIn, in-start, in-count, in-last, in-full, in-kept}
+use Rattle.byte_table.proofs.fill.read_rows.Statement.{statement}
+use Rattle.byte_table.proofs.fill.read_rows.Tie as tie
+
+abbrev Inv-loop : tie.InvT-loop
+Inv-loop text table₀ at₀ n₀ table at n = (length table ≡ length table₀) × OnwardIn table₀ (indexAt text 1 0) n (indexAt text (n + 1) at) table
+
+abbrev μ-loop : tie.MeasureT-loop
+μ-loop text table₀ at₀ n₀ table at n = length text - at
+
+loop-holds : tie.Need-loop-holds Inv-loop μ-loop
+loop-holds c = (refl, in-start _ _)
+
+add-read-row : tie.Need-add-read-row Inv-loop μ-loop
+unfolding rowCount
+add-read-row c = omega (arith, in-count _ _ _ _ _ (c .loop .inv .1), length-numbers (c .before .before .before .args .table .now))
+
+read-row-requires : tie.Need-read-row-requires Inv-loop μ-loop
+read-row-requires c κs = search needs
+
+enum-known-row : tie.Need-enum-known-row Inv-loop μ-loop
+enum-known-row c = search needs
+
+store-requires : tie.Need-store-requires Inv-loop μ-loop
+store-requires c κs = search needs
+
+enum-told : tie.Need-enum-told Inv-loop μ-loop
+enum-told c = search needs
+
+-- a line that has a row: the text from it on is that row and the text behind it
+row : (c : tie.After-row Inv-loop μ-loop) → let l = c .before .before .before in let s = l .before .before .before .args .text .now in
+    (indexAt s (l .loop .n + 1) (l .loop .at) ≡ withFirst (c .row .given .0 .0) (indexAt s (l .loop .n + 1 + 1) (c .row .given .0 .1 .0 .at))) × (l .loop .at < length s) × (l .loop .at < c .row .given .0 .1 .0 .at)
+row c = index-row _ _ _ _ (c .before .before .read-row .ensures) _ _ (c .row .given .1)
+
+add-n : tie.Need-add-n Inv-loop μ-loop
+unfolding rowCount
+add-n c = omega (arith, in-count _ _ _ _ _ (c .before .before .before .before .before .before .before .before .before .before .loop .inv .1), length-numbers (c .before .before .before .before .before .before .before .before .before .before .before .before .before .args .table .now))
+
+loop-less : tie.Need-loop-less Inv-loop μ-loop
+loop-less c = omega (arith, row (c .before .before .before .before .before .before .before))
+
+loop-again : tie.Need-loop-again Inv-loop μ-loop
+loop-again c =
+    let s = c .before .before .before .before in
+    let p = s .before .before .before in
+    let l = p .before .before .before in
+    (s .store .kept .0 ∙ l .loop .inv .0, in-kept _ _ _ _ _ (l .loop .inv .1) _ _ (row p .0) _ _ (s .store .ensures) (c .enum-told .given .1))
+
+enum-known-stored : tie.Need-enum-known-stored Inv-loop μ-loop
+enum-known-stored c = search needs
+
+same-length : tie.Need-same-length Inv-loop μ-loop
+same-length c = let s = c .before .before .before .before .before in s .store .kept .0 ∙ s .before .before .before .before .before .before .loop .inv .0
+
+returns : tie.Need-returns Inv-loop μ-loop
+returns c =
+    let s = c .before .before .before .before .before in
+    let p = s .before .before .before in
+    in-full _ _ _ _ _ (p .before .before .before .loop .inv .1) _ _ (row p .0) _ _ (s .store .ensures) _ (c .before .stored .given .1)
+
+enum-told-2 : tie.Need-enum-told-2 Inv-loop μ-loop
+enum-told-2 c = search needs
+
+same-length-2 : tie.Need-same-length-2 Inv-loop μ-loop
+same-length-2 c = search needs
+
+returns-2 : tie.Need-returns-2 Inv-loop μ-loop
+returns-2 c = in-last _ _ _ _ _ (c .before .before .before .loop .inv .1) _ (index-ended _ _ _ _ (c .before .before .read-row .ensures) (c .enum-told2 .given .1))
+
+enum-known-row-2 : tie.Need-enum-known-row-2 Inv-loop μ-loop
+enum-known-row-2 c = search needs
+
+same-length-3 : tie.Need-same-length-3 Inv-loop μ-loop
+same-length-3 c = search needs
+
+returns-3 : tie.Need-returns-3 Inv-loop μ-loop
+returns-3 c = in-last _ _ _ _ _ (c .before .before .before .before .loop .inv .1) _ (index-refused _ _ _ _ (c .before .before .before .read-row .ensures) _ (c .before .row2 .given .1))
+
+pub read-rows-spec : {M : Type 1} → statement M
+read-rows-spec =
+    tie.close
+    (tie.spec
+    Inv-loop
+    μ-loop
+    loop-holds
+    add-read-row
+    read-row-requires
+    enum-known-row
+    store-requires
+    enum-told
+    add-n
+    loop-less
+    loop-again
+    enum-known-stored
+    same-length
+    returns
+    enum-told-2
+    same-length-2
+    returns-2
+    enum-known-row-2
+    same-length-3
+    returns-3)

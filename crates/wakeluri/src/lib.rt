@@ -1,0 +1,9 @@
+// The entry points for a host, as include/wakeluri.h declares them: on numbers and lent bytes. Nothing is judged here: each calls one
+// proved function, and tells its answer as numbers. A table is bytes, eight to a number, low byte first. An answer begins with the
+// refusal's number, 0 for none, and its two numbers; what else it tells is 0 after a refusal, but for the rows that stand.
+pub mod answer;
+pub mod bases;
+pub mod files;
+pub mod rows;
+pub mod scan;
+pub mod text;
