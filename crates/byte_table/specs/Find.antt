@@ -1,4 +1,4 @@
--- A name looked for in one row.
+-- A name compared with that of one row, as the inner calls have it.
 use Prim.Native.Nat.{ℕ}
 use mathlib.Core.List.{List}
 use mathlib.Core.Bool.{cond}

@@ -1,5 +1,5 @@
 -- Laws of looking a name up, row by row.
-use Prim.Native.Nat.{ℕ, suc, _+_, _-_, _*_, _≤_, _<_}
+use Prim.Native.Nat.{ℕ, _+_, _-_, _*_, _≤_, _<_}
 use mathlib.Core.Path.{_≡_, refl, ap, sym, _∙_}
 use mathlib.Core.List.{List}
 use mathlib.Core.Bool.{Bool, true, false, cond}
@@ -15,14 +15,14 @@ use Rattle.record.specs.Row.{rowWords, rowCount, namedAt}
 use Rattle.record.specs.Laws.{held-lacking, named-refused}
 use Rattle.index.specs.declared.Found.{Found}
 use Rattle.index.specs.declared.Found.the-variants as found
-use Rattle.index.specs.Find.{named, judged, rowFrom, rowOf}
+use Rattle.index.specs.Find.{named, rowFrom, rowOf}
 use Rattle.index.specs.Laws.{from-refused, from-found, from-next}
 use Rattle.byte_table.specs.declared.rows.Names.the-variants.{Within}
 use Rattle.byte_table.specs.declared.search.Compared.{Compared}
 use Rattle.byte_table.specs.declared.search.Compared.the-variants.{Named, Other, Bad}
-use Rattle.byte_table.specs.Rows.{rowBy, toldAs}
+use Rattle.byte_table.specs.Rows.{rowBy}
 use Rattle.byte_table.specs.Find.{comparedOf}
-use Rattle.byte_table.specs.RowLaws.{row-alone}
+use Rattle.byte_table.specs.RowLaws.{toldAs, row-alone}
 
 -- ---- in a table of one row
 

@@ -4,9 +4,9 @@ use mathlib.Core.Path.{_≡_, refl, ap, sym, _∙_}
 use mathlib.Core.List.{List, [], _∷_, _++_, append-assoc, append-nil}
 use native.Mathlib.Omega.{arith}
 use native.Mathlib.Numerals.{add-one}
-use native.Mathlib.Nat.{pow-suc, one-le-pow, div-lt-iff-lt-mul, sub-zero}
-use lib.ListN.{length, drop-of-length-le, List·getD-eq-default, getD, take, drop, set, length-append, length-take, length-drop, take-append-drop}
-use lib.Seq.{length-take-le, take-suc, drop-length, set-out, take-all, take-suc-set, sets, drop-cons, drop-drop, take-add, getD-take, getD-drop, take-at, drop-at, take-append-le, drop-append-le, drop-append-add}
+use native.Mathlib.Nat.{pow-suc, one-le-pow, div-lt-iff-lt-mul}
+use lib.ListN.{length, drop-of-length-le, List·getD-eq-default, getD, take, drop, set, length-append, length-drop, take-append-drop}
+use lib.Seq.{length-take-le, take-suc, drop-length, set-out, take-all, take-suc-set, sets, drop-cons, drop-drop, take-add, getD-take, getD-drop, take-at, drop-at}
 use lib.Dec.{lit<}
 use Rattle.byte_table.specs.Numbers.{fromBytes, toBytes, numbersOf, numbersIn, restOf, bytesOf, withNumbers}
 

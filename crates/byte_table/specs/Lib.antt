@@ -7,3 +7,4 @@ pub mod RowLaws
 pub mod ReadLaws
 pub mod FindLaws
 pub mod FillLaws
+pub mod Examples

@@ -1,9 +1,8 @@
 -- The calls by row know of a table only what its row says.
 use Prim.Native.Nat.{ℕ}
-use mathlib.Core.Path.{_≡_, refl}
+use mathlib.Core.Path.{_≡_}
 use mathlib.Core.List.{List}
 use lib.ListN.{length}
-use Rattle.index_line.specs.Fields.{Wrote}
 use Rattle.index_line.specs.IndexLine.{writtenAs}
 use Rattle.region.specs.declared.Bound.{Bound}
 use Rattle.region.specs.Exact.{exactRead}

@@ -1,7 +1,7 @@
 -- Laws of one row: the table of just that row stands for it.
-use Prim.Native.Nat.{ℕ, _+_, _*_, _≤_, _<_}
+use Prim.Native.Nat.{ℕ, _+_, _*_, _/_, _≤_, _<_}
 use mathlib.Core.Path.{_≡_, refl, ap, sym, _∙_}
-use mathlib.Core.List.{List, [], _++_, append-nil}
+use mathlib.Core.List.{List, _++_, append-nil}
 use mathlib.Core.Bool.{Bool, true, false, cond}
 use native.Mathlib.Omega.{arith}
 use native.Mathlib.Nat.{add-zero}
@@ -19,8 +19,16 @@ use Rattle.record.specs.Laws.{row-within, held-lacking, held-unused, held-numbe
 use Rattle.byte_table.specs.declared.rows.Names.{Names}
 use Rattle.byte_table.specs.declared.rows.Names.the-variants.{Unread, Within}
 use Rattle.byte_table.specs.Numbers.{numbersIn}
-use Rattle.byte_table.specs.Rows.{rowBy, toldAs, StoredIn}
-use Rattle.byte_table.specs.Laws.{Became}
+use Rattle.byte_table.specs.Rows.{rowBy, StoredIn}
+use Rattle.byte_table.specs.Laws.{length-numbers, Became}
+
+-- a row that a table of bytes has is inside its numbers
+pub record Inside (t : List ℕ) (r : ℕ) : Type 0 where
+  pub row : r * rowWords + rowWords ≤ length (numbersIn t)
+  pub numbers : length (numbersIn t) ≡ length t / 8
+
+pub row-inside : (t : List ℕ) (r m : ℕ) → m ≡ rowCount (numbersIn t) → r < m → Inside t r
+row-inside t r m e h = record { row = row-within (numbersIn t) r (rw e at h); numbers = length-numbers t }
 
 -- ---- a row that is not there
 
@@ -42,6 +50,11 @@ module _ (names : Names) (one t : List ℕ) (n r : ℕ) where
   place-unused m e h k = nowhere names one r ∙ sym (by-refused names t n r r (held-unused t n r (rw e at h) k))
 
 -- ---- a row that is there
+
+-- a row that stands alone, told as row r
+unfoldable pub toldAs : ℕ → Held → Held
+toldAs r (held.Row x) = held.Row x
+toldAs r (held.Refused f) = badRow r
 
 told-sound : (r : ℕ) (x : Record) → soundRow r x ≡ toldAs r (soundRow 0 x)
 unfolding soundRow toldAs

@@ -1,12 +1,11 @@
--- The rows of a table that is lent as bytes: one row is read by a table of one row that stands for it.
+-- The rows of a table that is lent as bytes, as the inner calls have them: one is read by a table of one row that stands for it.
 use Prim.Native.Nat.{ℕ}
 use mathlib.Core.Path.{_≡_}
 use mathlib.Core.List.{List}
 use Rattle.record.specs.declared.Record.{Record}
 use Rattle.record.specs.declared.Held.{Held}
-use Rattle.record.specs.declared.Held.the-variants as held
 use Rattle.record.specs.declared.Stored.{Stored}
-use Rattle.record.specs.Row.{heldAt, namedAt, badRow, StoredAt}
+use Rattle.record.specs.Row.{heldAt, namedAt, StoredAt}
 use Rattle.byte_table.specs.declared.rows.Names.{Names}
 use Rattle.byte_table.specs.declared.rows.Names.the-variants.{Unread, Within}
 use Rattle.byte_table.specs.Numbers.{numbersIn, restOf}
@@ -15,11 +14,6 @@ use Rattle.byte_table.specs.Numbers.{numbersIn, restOf}
 unfoldable pub rowBy : Names → List ℕ → ℕ → ℕ → Held
 rowBy Unread t n r = heldAt t n r
 rowBy (Within bytes) t n r = namedAt t n r bytes
-
--- a row that stands alone, told as row r
-unfoldable pub toldAs : ℕ → Held → Held
-toldAs r (held.Row x) = held.Row x
-toldAs r (held.Refused f) = badRow r
 
 -- what storing a record in row r of a table of bytes tells, and the table afterwards
 pub record StoredIn (before : List ℕ) (r : ℕ) (x : Record) (told : Stored) (after : List ℕ) : Type 0 where

@@ -24,7 +24,7 @@ pub(crate) struct Place {
 }
 
 // How many whole rows a table has.
-pub(crate) fn rows(table: &[u8]) -> usize
+pub(crate) fn count(table: &[u8]) -> usize
     ensures { λ r. ⌜ r ≡ rowCount (numbersIn (now (table .entry))) ⌝ }
 {
     numbers::count(table) / Record::WORDS
@@ -51,7 +51,7 @@ pub(crate) fn stand_in(
     requires { ⌜ length (now one) ≡ rowWords ⌝ }
     ensures { λ p. ⌜ rowBy names (now (one .exit)) (p .«in_use») (p .row) ≡ rowBy names (numbersIn (now (table .entry))) «in_use» row ⌝ }
 {
-    let all = rows(table);
+    let all = count(table);
     if all < in_use {
         return Place {
             in_use: 0,
@@ -72,7 +72,7 @@ pub(crate) fn stand_in(
 pub(crate) fn store(table: &mut [u8], row: usize, x: Record) -> Stored
     ensures { λ r. ⌜ StoredIn (now (table .entry)) row x r (now (table .exit)) ⌝ }
 {
-    let all = rows(table);
+    let all = count(table);
     if all <= row {
         return Stored::Refused(Refusal::TableFull { rows: all as u64 });
     }

@@ -48,7 +48,7 @@ fn compare(names: &[u8], table: &[u8], in_use: usize, row: usize, name: &[u8]) -
 fn find_row(names: &[u8], table: &[u8], in_use: usize, name: &[u8]) -> Found
     ensures { λ r. ⌜ r ≡ rowOf (now (names .entry)) (numbersIn (now (table .entry))) «in_use» (now (name .entry)) ⌝ }
 {
-    let all = rows::rows(table);
+    let all = rows::count(table);
     if all < in_use {
         return Found::Refused(Refusal::BadRow { row: all as u64 });
     }

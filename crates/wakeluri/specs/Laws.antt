@@ -1,7 +1,7 @@
 -- Laws of the answers: what a host is told of a call, by what the call answers and leaves.
-use Prim.Native.Nat.{ℕ, _+_, _^_, _≤_, _<_}
+use Prim.Native.Nat.{ℕ, _+_, _^_, _<_}
 use mathlib.Core.Path.{_≡_, refl, ap, sym, _∙_}
-use mathlib.Core.List.{List, []}
+use mathlib.Core.List.{List}
 use mathlib.Core.Bool.{Bool, true, false, cond}
 use native.Mathlib.Omega.{arith}
 use lib.ListN.{length}
@@ -16,7 +16,7 @@ use Rattle.lines.specs.Laws.{bases-le, first-within, seqAt-end}
 use Rattle.sequence.specs.declared.SequenceRead.{SequenceRead}
 use Rattle.sequence.specs.declared.RunRead.{RunRead}
 use Rattle.sequence.specs.declared.RunRead.the-variants as run
-use Rattle.sequence.specs.Scan.{skipTo, runAt}
+use Rattle.sequence.specs.Scan.{runAt}
 use Rattle.sequence.specs.Read as sequence
 use Rattle.table.specs.Fill.{Found}
 use Rattle.table.specs.declared.Filled.{Filled}

@@ -1,11 +1,11 @@
 -- `byte_table::fill::index_rows` meets its contract: the rows in the table, with those that the file from `at` on still gives, are those of the whole file.
 -- Assumes nothing.
-use Prim.Native.Nat.{_≤_, _<_, _-_}
+use Prim.Native.Nat.{_≤_, _<_, _/_, _-_}
 use mathlib.Core.Path.{_≡_, refl, _∙_}
 use native.Mathlib.Omega.{arith}
 use lib.ListN.{length}
 use borrow.Author.Needs.{needs}
-use Rattle.record.specs.Row.{rowCount}
+use Rattle.record.specs.Row.{rowWords, rowCount}
 use Rattle.table.specs.Fill.{withFirst}
 use Rattle.indexer.specs.Index.{recordAt}
 use Rattle.indexer.specs.File.{fileAt}
@@ -20,6 +20,11 @@ Inv-loop file table₀ at₀ n₀ table at n = (length table ≡ length table₀
 
 abbrev μ-loop : tie.MeasureT-loop
 μ-loop file table₀ at₀ n₀ table at n = length file - at
+
+-- so many rows are in, of those that the table has
+counted : (c : tie.At-loop Inv-loop μ-loop) → c .loop .n ≤ length (c .before .before .before .args .table .now) / 8 / rowWords
+unfolding rowCount
+counted c = omega (arith, in-count _ _ _ _ _ (c .loop .inv .1), length-numbers (c .before .before .before .args .table .now))
 
 loop-holds : tie.Need-loop-holds Inv-loop μ-loop
 loop-holds c = (refl, in-start _ _)
@@ -41,13 +46,13 @@ here : (c : tie.After-index-record Inv-loop μ-loop) → c .index-record .result
 here c = c .index-record .ensures ∙ record-within _ _ (c .before .before .before .before .pre)
 
 -- a turn that finds a record: the file from its place on is that record and the file behind it
-row : (c : tie.After-answer Inv-loop μ-loop) → let l = c .before .before .before in let s = l .before .before .before .args .file .now in let x = c .before .before .index-record .result in
+row : (c : tie.After-answer Inv-loop μ-loop) → let l = c .before .before .before in
+    let s = l .before .before .before .args .file .now in let x = c .before .before .index-record .result in
     (fileAt s (l .loop .at) ≡ withFirst (c .answer .given .0 .0) (fileAt s (x .next .at))) × (l .loop .at < length s) × (l .loop .at < x .next .at)
 row c = file-row _ _ _ (here (c .before .before)) _ (c .answer .given .1)
 
 add-n : tie.Need-add-n Inv-loop μ-loop
-unfolding rowCount
-add-n c = omega (arith, in-count _ _ _ _ _ (c .before .before .before .before .before .before .before .before .before .before .loop .inv .1), length-numbers (c .before .before .before .before .before .before .before .before .before .before .before .before .before .args .table .now))
+add-n c = omega (arith, counted (c .before .before .before .before .before .before .before .before .before .before))
 
 loop-less : tie.Need-loop-less Inv-loop μ-loop
 loop-less c = omega (arith, row (c .before .before .before .before .before .before .before))

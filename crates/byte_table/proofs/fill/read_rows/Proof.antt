@@ -1,11 +1,11 @@
 -- `byte_table::fill::read_rows` meets its contract: the rows in the table, with those that the text from `at` on still gives, are those of the whole text.
 -- Assumes nothing.
-use Prim.Native.Nat.{_≤_, _<_, _-_, _+_}
+use Prim.Native.Nat.{_≤_, _<_, _/_, _-_, _+_}
 use mathlib.Core.Path.{_≡_, refl, _∙_}
 use native.Mathlib.Omega.{arith}
 use lib.ListN.{length}
 use borrow.Author.Needs.{needs}
-use Rattle.record.specs.Row.{rowCount}
+use Rattle.record.specs.Row.{rowWords, rowCount}
 use Rattle.table.specs.Fill.{withFirst}
 use Rattle.index.specs.Index.{indexAt}
 use Rattle.index.specs.Laws.{index-row, index-ended, index-refused}
@@ -20,12 +20,16 @@ Inv-loop text table₀ at₀ n₀ table at n = (length table ≡ length table₀
 abbrev μ-loop : tie.MeasureT-loop
 μ-loop text table₀ at₀ n₀ table at n = length text - at
 
+-- so many rows are in, of those that the table has
+counted : (c : tie.At-loop Inv-loop μ-loop) → c .loop .n ≤ length (c .before .before .before .args .table .now) / 8 / rowWords
+unfolding rowCount
+counted c = omega (arith, in-count _ _ _ _ _ (c .loop .inv .1), length-numbers (c .before .before .before .args .table .now))
+
 loop-holds : tie.Need-loop-holds Inv-loop μ-loop
 loop-holds c = (refl, in-start _ _)
 
 add-read-row : tie.Need-add-read-row Inv-loop μ-loop
-unfolding rowCount
-add-read-row c = omega (arith, in-count _ _ _ _ _ (c .loop .inv .1), length-numbers (c .before .before .before .args .table .now))
+add-read-row c = omega (arith, counted c)
 
 read-row-requires : tie.Need-read-row-requires Inv-loop μ-loop
 read-row-requires c κs = search needs
@@ -45,8 +49,7 @@ row : (c : tie.After-row Inv-loop μ-loop) → let l = c .before .before .before
 row c = index-row _ _ _ _ (c .before .before .read-row .ensures) _ _ (c .row .given .1)
 
 add-n : tie.Need-add-n Inv-loop μ-loop
-unfolding rowCount
-add-n c = omega (arith, in-count _ _ _ _ _ (c .before .before .before .before .before .before .before .before .before .before .loop .inv .1), length-numbers (c .before .before .before .before .before .before .before .before .before .before .before .before .before .args .table .now))
+add-n c = omega (arith, counted (c .before .before .before .before .before .before .before .before .before .before))
 
 loop-less : tie.Need-loop-less Inv-loop μ-loop
 loop-less c = omega (arith, row (c .before .before .before .before .before .before .before))

@@ -1,7 +1,6 @@
 -- `byte_table::numbers::put` meets its contract: the eight bytes of the number are written, and no others.
 -- Assumes nothing.
 use Prim.Native.Nat.{_≤_, _*_, _+_}
-use mathlib.Core.Path.{sym, _∙_}
 use native.Mathlib.Omega.{arith}
 use lib.ListN.{length}
 use Rattle.byte_table.specs.Laws.{became-same, became-put, number-inside}

@@ -4,8 +4,6 @@ use Rattle.byte_table.specs.Rows.{rowBy}
 use borrow.Author.Needs.{needs}
 use Rattle.byte_table.proofs.rows.alone.Statement.{statement}
 use Rattle.byte_table.proofs.rows.alone.Tie as tie
-use Rattle.record.proofs.Record.from_row.Reads as from-row-reads
-use Rattle.record.proofs.Record.named_row.Reads as named-row-reads
 
 enum-told : tie.Need-enum-told
 enum-told c = search needs

@@ -1,27 +1,20 @@
 -- `byte_table::rows::store` meets its contract: the row's numbers are the words of the record, as a table of one row holds them.
 -- Assumes nothing.
-use Prim.Native.Nat.{_*_, _+_, _/_, _≤_}
-use mathlib.Core.Path.{_≡_, refl}
+use mathlib.Core.Path.{refl}
 use native.Mathlib.Omega.{arith}
-use lib.ListN.{length, take, drop}
-use Rattle.record.specs.Row.{rowWords, rowCount}
-use Rattle.record.specs.Laws.{row-within}
-use Rattle.byte_table.specs.Numbers.{numbersIn}
-use Rattle.byte_table.specs.Laws.{length-numbers}
-use Rattle.byte_table.specs.RowLaws.{stored-in-full, stored-in-kept}
+use Rattle.byte_table.specs.RowLaws.{Inside, row-inside, stored-in-full, stored-in-kept}
 use borrow.Author.Needs.{needs}
 use Rattle.byte_table.proofs.rows.store.Statement.{statement}
 use Rattle.byte_table.proofs.rows.store.Tie as tie
-use Rattle.record.proofs.Record.store.Reads as store-reads
 
-rows-requires : tie.Need-rows-requires
-rows-requires c κs = search needs
+count-requires : tie.Need-count-requires
+count-requires c κs = search needs
 
 same-length : tie.Need-same-length
 same-length c = search needs
 
 returns : tie.Need-returns
-returns c = stored-in-full _ _ _ _ (c .before .rows .ensures) (c .if1 .taken)
+returns c = stored-in-full _ _ _ _ (c .before .count .ensures) (c .if1 .taken)
 
 slice-aggregate-store : tie.Need-slice-aggregate-store
 slice-aggregate-store c = search needs
@@ -30,10 +23,8 @@ store-requires : tie.Need-store-requires
 store-requires c κs = search needs
 
 -- the row is inside the table
-inside : (c : tie.Else1) → let a = c .before .before .before .before .args in (a .row * rowWords + rowWords ≤ length (numbersIn (a .table .now))) × (length (numbersIn (a .table .now)) ≡ length (a .table .now) / 8)
-inside c =
-    let s = c .before .before .before .before in
-    (row-within (numbersIn (s .args .table .now)) (s .args .row) (omega (arith, c .before .rows .ensures)), length-numbers _)
+inside : (c : tie.Else1) → let a = c .before .before .before .before .args in Inside (a .table .now) (a .row)
+inside c = row-inside _ _ _ (c .before .count .ensures) (c .if1 .left)
 
 mul-put-numbers : tie.Need-mul-put-numbers
 mul-put-numbers c = omega (arith, inside (c .before .before .before .before))
@@ -50,13 +41,13 @@ same-length-2 c = search needs
 returns-2 : tie.Need-returns-2
 returns-2 c =
     let s = c .before .before .before .before .before .before in
-    stored-in-kept _ _ _ _ (s .before .before .before .rows .ensures) (s .before .before .if1 .left) _ _ _ refl (s .store .ensures .table) (c .before .before .put-numbers .ensures)
+    stored-in-kept _ _ _ _ (s .before .before .before .count .ensures) (s .before .before .if1 .left) _ _ _ refl (s .store .ensures .table) (c .before .before .put-numbers .ensures)
 
 pub store-spec : {M : Type 1} → statement M
 store-spec =
     tie.close
     (tie.spec
-    rows-requires
+    count-requires
     same-length
     returns
     slice-aggregate-store

@@ -1,21 +1,16 @@
 -- `byte_table::search::compare` meets its contract: the row compares as it does alone.
 -- Assumes nothing.
-use Prim.Native.Nat.{_*_, _+_, _/_, _≤_}
-use mathlib.Core.Path.{_≡_, _∙_}
+use mathlib.Core.Path.{refl, _∙_}
 use native.Mathlib.Omega.{arith}
-use lib.ListN.{length}
-use Rattle.record.specs.Row.{rowWords}
-use Rattle.record.specs.Laws.{row-within}
-use Rattle.byte_table.specs.Numbers.{numbersIn}
-use Rattle.byte_table.specs.Laws.{length-numbers}
+use Rattle.byte_table.specs.RowLaws.{Inside, row-inside}
 use Rattle.byte_table.specs.FindLaws.{compared-alone}
 use borrow.Author.Needs.{needs}
 use Rattle.byte_table.proofs.search.compare.Statement.{statement}
 use Rattle.byte_table.proofs.search.compare.Tie as tie
 
 -- the row is inside the table
-inside : (c : tie.Start) → (c .args .row * rowWords + rowWords ≤ length (numbersIn (c .args .table .now))) × (length (numbersIn (c .args .table .now)) ≡ length (c .args .table .now) / 8)
-inside c = (row-within (numbersIn (c .args .table .now)) (c .args .row) (omega arith), length-numbers _)
+inside : (c : tie.Start) → Inside (c .args .table .now) (c .args .row)
+inside c = row-inside _ _ _ refl (omega arith)
 
 mul-copy-numbers : tie.Need-mul-copy-numbers
 mul-copy-numbers c = omega (arith, inside (c .before .before .before))

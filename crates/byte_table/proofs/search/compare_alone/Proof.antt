@@ -4,8 +4,6 @@ use Rattle.byte_table.specs.FindLaws.{compared-bad, compared-named, comp
 use borrow.Author.Needs.{needs}
 use Rattle.byte_table.proofs.search.compare_alone.Statement.{statement}
 use Rattle.byte_table.proofs.search.compare_alone.Tie as tie
-use Rattle.index.proofs.find_row.Reads as find-row-reads
-use Rattle.record.proofs.Record.named_row.Reads as named-row-reads
 
 named-row-requires : tie.Need-named-row-requires
 named-row-requires c κs = search needs

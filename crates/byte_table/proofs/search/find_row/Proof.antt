@@ -3,7 +3,6 @@
 use Prim.Native.Nat.{_≤_, _+_, _-_}
 use mathlib.Core.Path.{_≡_, sym, _∙_}
 use borrow.Author.Needs.{needs}
-use native.Mathlib.Omega.{arith}
 use native.Mathlib.Nat.{sub-zero}
 use Rattle.record.specs.Row.{rowCount}
 use Rattle.index.specs.Find.{rowFrom, rowOf}
@@ -21,15 +20,15 @@ Inv-loop names table in-use name all r₀ r = (in-use ≤ rowCount (numbersIn ta
 abbrev μ-loop : tie.MeasureT-loop
 μ-loop names table in-use name all r₀ r = in-use - r
 
-rows-requires : tie.Need-rows-requires Inv-loop μ-loop
-rows-requires c κs = search needs
+count-requires : tie.Need-count-requires Inv-loop μ-loop
+count-requires c κs = search needs
 
 returns : tie.Need-returns Inv-loop μ-loop
-returns c = find-lacking _ _ _ _ _ (c .before .rows .ensures) (c .if1 .taken)
+returns c = find-lacking _ _ _ _ _ (c .before .count .ensures) (c .if1 .taken)
 
 loop-holds : tie.Need-loop-holds Inv-loop μ-loop
 unfolding rowOf
-loop-holds c = (rw (c .before .rows .ensures) at (c .if1 .left), rw (sub-zero (c .before .before .before .before .before .args .in-use)))
+loop-holds c = (rw (c .before .count .ensures) at (c .if1 .left), rw (sub-zero (c .before .before .before .before .before .args .in-use)))
 
 compare-requires : tie.Need-compare-requires Inv-loop μ-loop
 compare-requires c κs = (c .loop-test .taken, c .before .loop .inv .0)
@@ -74,7 +73,7 @@ find-row-spec =
     (tie.spec
     Inv-loop
     μ-loop
-    rows-requires
+    count-requires
     returns
     loop-holds
     compare-requires
