@@ -29,7 +29,7 @@ struct wakeluri_definition {
     uint64_t name_start, name_length, description_start, description_length;
 };
 
-/* Some bytes of a file by their place: `found` is 0 where there is no line. `next` is the offset behind the line. */
+/* Some bytes of a file by their place: `found` is 0 where there is no line. `next` is the offset behind the line, or behind a run's bases. */
 struct wakeluri_span {
     uint64_t refusal, first, second;
     uint64_t found, start, length, next;
