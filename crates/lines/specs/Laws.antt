@@ -152,7 +152,7 @@ chop-front b (x ∷ []) = go (eqb x b)
     go false = refl
 chop-front b (x ∷ y ∷ l) = ap (λ (k : List ℕ). x ∷ k) (chop-front b (y ∷ l))
 
-ends-chop : (b : ℕ) (l : List ℕ) → ends b l ≡ ltb (length (chop b l)) (length l)
+pub ends-chop : (b : ℕ) (l : List ℕ) → ends b l ≡ ltb (length (chop b l)) (length l)
 unfolding ends chop
 ends-chop b [] = refl
 ends-chop b (x ∷ []) = go (eqb x b)

@@ -4,3 +4,5 @@ pub mod Laws
 pub mod GroupLaws
 pub mod Same
 pub mod Sums
+pub mod Alike
+pub mod Clear

@@ -2,9 +2,11 @@
 // CR is here. Every function takes any bytes and any place, and refuses nothing: where there is no line, the answer says so.
 ghost use mathlib.Core.Path.{_≡_};
 ghost use mathlib.Core.Bool.{false};
-ghost use Prim.Native.Nat.{_+_, _≤_};
-ghost use lib.ListN.{length};
+ghost use Prim.Native.Nat.{_+_, _≤_, _<_};
+ghost use lib.ListN.{length, take, drop};
 ghost use Rattle.lines.specs.Lines.{lineEnd, chop, basesOf, contentOf, firstLine, seqAt, none, readLine};
+ghost use Rattle.lines.specs.Alike.{firstLike, alike};
+ghost use Rattle.lines.specs.Clear.{hasLf};
 
 // A line: all its bytes, and its bases.
 pub struct Line {
@@ -128,6 +130,61 @@ pub fn sequence_line(s: &[u8], at: usize) -> Line
         width: e - at,
         bases,
     }
+}
+
+// Is one of the `n` bytes from `at` on an LF.
+fn lf_within(s: &[u8], at: usize, n: usize) -> bool
+    requires { ⌜ at + n ≤ length (now s) ⌝ }
+    ensures { λ r. ⌜ r ≡ hasLf (take n (drop at (now (s .entry)))) ⌝ }
+{
+    let mut k = 0;
+    while k < n {
+        if s[at + k] == 10 {
+            return true;
+        }
+        k += 1;
+    }
+    false
+}
+
+// Is the sequence line at `at` ended by an LF, with the width and the bases of `like`: it is looked for where its end should be.
+fn is_like(s: &[u8], at: usize, like: Line) -> bool
+    requires { ⌜ (at ≤ length (now s)) × (0 < like .width) ⌝ }
+    ensures { λ r. ⌜ r ≡ firstLike like (seqAt (now (s .entry)) at) ⌝ }
+{
+    if s.len() - at < like.width {
+        return false;
+    }
+    let last = at + (like.width - 1);
+    if lf_within(s, at, like.width - 1) {
+        return false;
+    }
+    if s[at] == 62 {
+        return false;
+    }
+    if s[last] != 10 {
+        return false;
+    }
+    chopped(&s[at..last], 13) == like.bases
+}
+
+// How many sequence lines from `at` on are ended by an LF, with the width and the bases of `like`, up to the first that is not.
+pub fn lines_like(s: &[u8], at: usize, like: Line) -> usize
+    ensures { λ r. ⌜ r ≡ alike like (seqAt (now (s .entry)) at) ⌝ }
+{
+    if s.len() < at {
+        return 0;
+    }
+    if like.width == 0 {
+        return 0;
+    }
+    let mut i = at;
+    let mut n = 0;
+    while is_like(s, i, like) {
+        i += like.width;
+        n += 1;
+    }
+    n
 }
 
 impl Cursor {

@@ -1,0 +1,126 @@
+-- Lines that are alike: how many of some lines, from the first on, have one width and one count of bases. What holds from line to line
+-- then holds behind all of them.
+use Prim.Native.Nat.{ℕ, suc, _+_, _*_, _≤_, _<_}
+use mathlib.Core.Path.{_≡_, refl, ap, sym, _∙_}
+use mathlib.Core.List.{List, [], _∷_}
+use mathlib.Core.Bool.{Bool, true, false, cond, _&&_, true≢false}
+use lib.ListN.{length}
+use lib.Dec.{eqb}
+use borrow.Author.Tests.{eqb-true}
+use native.Mathlib.Omega.{arith}
+use native.Mathlib.Numerals.{add-one}
+use native.Mathlib.Nat.{add-zero, zero-add, suc-add, add-suc, add-assoc, add-mul, one-mul, zero-mul}
+use Rattle.lines.specs.Lines.{ends, basesOf, seqAt, firstLine, tailOf}
+use Rattle.lines.specs.Laws.{first-within, seqAt-next}
+use Rattle.lines.specs.declared.Line.{Line}
+
+-- is a line ended by an LF, with the width and the bases of x
+unfoldable pub isLike : Line → List ℕ → Bool
+isLike x l = ends 10 l && eqb (length l) (x .width) && eqb (length (basesOf l)) (x .bases)
+
+-- is the first of some lines so; none is where there is no line
+unfoldable pub firstLike : Line → List (List ℕ) → Bool
+firstLike x [] = false
+firstLike x (l ∷ ls) = isLike x l
+
+-- how many of some lines are so, up to the first that is not
+unfoldable pub alike : Line → List (List ℕ) → ℕ
+alike x [] = 0
+alike x (l ∷ ls) = cond (isLike x l) (suc (alike x ls)) 0
+
+-- ---- a line that is so, and those behind it
+
+pub both-left : (a b : Bool) → (a && b) ≡ true → a ≡ true
+both-left true b e = refl
+both-left false b e = e
+
+both-right : (a b : Bool) → (a && b) ≡ true → b ≡ true
+both-right true b e = e
+both-right false b e = absurd (true≢false (sym e))
+
+pub like-width : (x : Line) (l : List ℕ) → isLike x l ≡ true → length l ≡ x .width
+unfolding isLike
+like-width x l e = eqb-true _ _ (both-right (ends 10 l) _ (both-left (ends 10 l && eqb (length l) (x .width)) _ e))
+
+pub like-bases : (x : Line) (l : List ℕ) → isLike x l ≡ true → length (basesOf l) ≡ x .bases
+unfolding isLike
+like-bases x l e = eqb-true _ _ (both-right (ends 10 l && eqb (length l) (x .width)) _ e)
+
+pub alike-stop : (x : Line) (ls : List (List ℕ)) → firstLike x ls ≡ false → alike x ls ≡ 0
+unfolding alike firstLike
+alike-stop x [] e = refl
+alike-stop x (l ∷ ls) e = rw e
+
+alike-on : (x : Line) (ls : List (List ℕ)) → firstLike x ls ≡ true → alike x ls ≡ suc (alike x (tailOf ls))
+unfolding alike firstLike
+alike-on x [] e = absurd (true≢false (sym e))
+alike-on x (l ∷ ls) e = rw e
+
+pub like-first : (x : Line) (ls : List (List ℕ)) → firstLike x ls ≡ true → (firstLine ls .width ≡ x .width) × (firstLine ls .bases ≡ x .bases)
+unfolding firstLike
+like-first x [] e = absurd (true≢false (sym e))
+like-first x (l ∷ ls) e = (like-width x l e, like-bases x l e)
+
+-- such a line has its LF, so a byte at least
+pub alike-flat : (x : Line) (ls : List (List ℕ)) → x .width ≡ 0 → 0 ≡ alike x ls
+unfolding alike isLike ends
+alike-flat x [] z = refl
+alike-flat x ([] ∷ ls) z = refl
+alike-flat x ((b ∷ l) ∷ ls) z = go (isLike x (b ∷ l)) (λ t. like-width x (b ∷ l) t)
+  where
+    go : (t : Bool) → (t ≡ true → length (b ∷ l) ≡ x .width) → 0 ≡ cond t (suc (alike x ls)) 0
+    go true w = absurd (omega (arith, w refl))
+    go false w = refl
+
+pub alike-none : (x : Line) → 0 ≡ alike x []
+unfolding alike
+alike-none x = refl
+
+pub alike-next : (s : List ℕ) (x : Line) (at : ℕ) → at ≤ length s → firstLike x (seqAt s at) ≡ true → alike x (seqAt s at) ≡ suc (alike x (seqAt s (at + x .width)))
+alike-next s x at h t = alike-on x (seqAt s at) t ∙ ap (λ (ls : List (List ℕ)). suc (alike x ls)) (sym (rw (like-first x (seqAt s at) t .0) at (seqAt-next s at h)))
+
+-- ---- from line to line
+
+-- a line of a file that is so: where it is, and that the others are behind it
+pub record LineLike (s : List ℕ) (x : Line) (i : ℕ) (l : List ℕ) : Type 0 where
+  pub here : seqAt s i ≡ l ∷ seqAt s (i + x .width)
+  pub width : length l ≡ x .width
+  pub bases : length (basesOf l) ≡ x .bases
+  pub within : i + x .width ≤ length s
+
+module _ (s : List ℕ) (x : Line) where
+  like-here : (i : ℕ) (l : List ℕ) (ls : List (List ℕ)) → i ≤ length s → seqAt s i ≡ l ∷ ls → isLike x l ≡ true → LineLike s x i l
+  like-here i l ls h e t =
+      let w : length l ≡ x .width = like-width x l t in
+      let n : seqAt s (i + length l) ≡ ls = rw e at (seqAt-next s i h) in
+      let f : i + length l ≤ length s = rw e at (first-within s i h) in
+      record {
+        here = rw (← w, n) e;
+        width = w;
+        bases = like-bases x l t;
+        within = rw w at f;
+      }
+
+  -- what holds of a place with no such line passed, and goes on over each of them, holds behind them all
+  module _ (P : ℕ → ℕ → Type 0) (on : (k i : ℕ) (l : List ℕ) → LineLike s x i l → P k i → P (suc k) (i + x .width)) where
+    go-on : (ls : List (List ℕ)) (k i : ℕ) → i ≤ length s → seqAt s i ≡ ls → P k i → P (k + alike x ls) (i + alike x ls * x .width)
+    unfolding alike
+    go-on [] k i h e p = rw (add-zero k, zero-mul (x .width), add-zero i) p
+    go-on (l ∷ ls) k i h e p = turn (isLike x l) refl (go-on ls (suc k) (i + x .width))
+      where
+        turn : (t : Bool) → isLike x l ≡ t → (i + x .width ≤ length s → seqAt s (i + x .width) ≡ ls → P (suc k) (i + x .width) → P (suc k + alike x ls) (i + x .width + alike x ls * x .width))
+            → P (k + cond t (suc (alike x ls)) 0) (i + cond t (suc (alike x ls)) 0 * x .width)
+        turn true t later =
+            let y = like-here i l ls h e t in
+            let n : seqAt s (i + x .width) ≡ ls = rw (e, y .width) at (seqAt-next s i h) in
+            let q : k + suc (alike x ls) ≡ suc k + alike x ls = omega arith in
+            let r : i + suc (alike x ls) * x .width ≡ i + x .width + alike x ls * x .width = rw (← add-one (alike x ls), add-mul (alike x ls) 1 (x .width), one-mul (x .width)) (omega arith) in
+            rw (q, r) (later (y .within) n (on k i l y p))
+        turn false t later = rw (add-zero k, zero-mul (x .width), add-zero i) p
+
+    pub alike-passes : (at : ℕ) → at ≤ length s → P 0 at → P (alike x (seqAt s at)) (at + alike x (seqAt s at) * x .width)
+    alike-passes at h p = rw (zero-add (alike x (seqAt s at))) at (go-on (seqAt s at) 0 at h refl p)
+
+-- such lines end in their file
+pub alike-within : (s : List ℕ) (x : Line) (at : ℕ) → at ≤ length s → at + alike x (seqAt s at) * x .width ≤ length s
+alike-within s x at h = alike-passes s x (λ k i. i ≤ length s) (λ k i l y p. y .within) at h h
