@@ -1,5 +1,5 @@
 -- Laws of one record: its lines after the first, turn by turn, and its definition.
-use Prim.Native.Nat.{ℕ, zero, suc, _+_, _-_, _≤_, _<_}
+use Prim.Native.Nat.{ℕ, zero, suc, _+_, _-_, _*_, _≤_, _<_}
 use mathlib.Core.Path.{_≡_, refl, ap, sym, _∙_}
 use mathlib.Core.List.{List, [], _∷_}
 use mathlib.Core.Bool.{Bool, true, false, cond, _&&_, true≢false}
@@ -7,13 +7,15 @@ use lib.ListN.{length, drop, drop-of-length-le}
 use lib.Dec.{eqb, leb, leb·zero}
 use borrow.Author.Tests.{eq-eqb, ne-eqb, le-leb, lt-leb}
 use native.Mathlib.Omega.{arith}
-use native.Mathlib.Nat.{add-zero, add-assoc}
+use native.Mathlib.Numerals.{add-one}
+use native.Mathlib.Nat.{add-zero, add-assoc, add-mul, one-mul, zero-mul, mul-le-mul-left}
 use Rattle.refusal.specs.declared.Refusal.{Refusal}
 use Rattle.refusal.specs.declared.Refusal.the-variants.{NoBases, LineBases, LineWidth}
 use Rattle.lines.specs.declared.Line.{Line}
 use Rattle.lines.specs.declared.Span.{Span}
 use Rattle.lines.specs.Lines.{part, lineEnd, lines, basesOf, seqOf, seqAt, firstLine, tailOf, none, sumBases, sumWidths}
 use Rattle.lines.specs.Laws.{seqAt-next, linesAt-cut, lineEnd-le, part-length}
+use Rattle.lines.specs.Alike.{LineLike, firstLike, alike, alike-passes, alike-within, alike-ends, unlike-last}
 use Rattle.definition.specs.declared.Parsed.{Parsed}
 use Rattle.definition.specs.Definition.{lineSays}
 use Rattle.indexer.specs.Index.{Verdict, good, bad, fitsLast, restOf, judge, rowOf, judgedAs, sequenceSays, definedAs, recordOf, recordAt, restAs, restSays}
@@ -99,6 +101,55 @@ module _ (s : List ℕ) (i n : ℕ) (first x : Line) (h : i ≤ length s) (hx : 
   pub turn-on : f ≡ false → x .bases ≡ first .bases → x .width ≡ first .width
       → restSays first (n + x .bases) (i + x .width) (seqAt s (i + x .width)) ≡ restSays first n i (seqAt s i)
   turn-on e k m = rw (hx, seqAt-next s i h) (rest-on first n i (seqAt s i) (fate ∙ e) (rw hx at k) (rw hx at m))
+
+-- ---- the lines that are like the first
+
+module _ (first : Line) (n at : ℕ) (l : List ℕ) (w : length l ≡ first .width) (b : length (basesOf l) ≡ first .bases) where
+  -- one of them may be the last: then none is left, and that is good too
+  last-like : (ls : List (List ℕ)) → fitsLast (none ls) (firstLine (l ∷ ls)) first ≡ true
+      → restSays first (n + length (basesOf l)) (at + length l) ls ≡ restSays first n at (l ∷ ls)
+  unfolding fitsLast restOf restSays
+  last-like [] f = rw f (rest-shift n at l [] good)
+  last-like (m ∷ ls) f = absurd (true≢false (sym f))
+
+  like-shift : (ls : List (List ℕ)) (t : Bool) → fitsLast (none ls) (firstLine (l ∷ ls)) first ≡ t
+      → restSays first (n + length (basesOf l)) (at + length l) ls ≡ restSays first n at (l ∷ ls)
+  like-shift ls true f = last-like ls f
+  like-shift ls false f = rest-on first n at (l ∷ ls) f b w
+
+  rest-like : (ls : List (List ℕ)) → restSays first (n + first .bases) (at + first .width) ls ≡ restSays first n at (l ∷ ls)
+  rest-like ls = rw (b, w) at (like-shift ls (fitsLast (none ls) (firstLine (l ∷ ls)) first) refl)
+
+module _ (s : List ℕ) (at : ℕ) (first : Line) (h : at ≤ length s) where
+  -- they are passed all at once
+  module _ (n : ℕ) where
+    like-on : (k i : ℕ) (l : List ℕ) → LineLike s first i l → restSays first (n + k * first .bases) i (seqAt s i) ≡ restSays first n at (seqAt s at)
+        → restSays first (n + suc k * first .bases) (i + first .width) (seqAt s (i + first .width)) ≡ restSays first n at (seqAt s at)
+    like-on k i l y e =
+        let q : n + suc k * first .bases ≡ n + k * first .bases + first .bases = rw (← add-one k, add-mul k 1 (first .bases), one-mul (first .bases)) (omega arith) in
+        rw q (rest-like first (n + k * first .bases) i l (y .width) (y .bases) (seqAt s (i + first .width)) ∙ sym (ap (restSays first (n + k * first .bases) i) (y .here)) ∙ e)
+
+    pub like-passed : (k i m : ℕ) → k ≡ alike first (seqAt s at) → i ≡ at + k * first .width → m ≡ n + k * first .bases → restSays first m i (seqAt s i) ≡ restSays first n at (seqAt s at)
+    like-passed k i m hk hi hm =
+        rw (hm, hi, hk) (alike-passes s first (λ k i. restSays first (n + k * first .bases) i (seqAt s i) ≡ restSays first n at (seqAt s at)) like-on at h (rw (zero-mul (first .bases), add-zero n)))
+
+  -- what they have fits in the file
+  pub like-room : (k : ℕ) → k ≡ alike first (seqAt s at) → first .bases ≤ first .width → (at + k * first .width ≤ length s) × (k * first .bases ≤ k * first .width)
+  like-room k hk b = (rw hk (alike-within s first at h), mul-le-mul-left k b)
+
+  -- the line behind them is not the first's width where it has its bases and may not be the last
+  pub width-differs : (k i : ℕ) (x : Line) (t f : Bool) → k ≡ alike first (seqAt s at) → i ≡ at + k * first .width → x ≡ firstLine (seqAt s i) → t ≡ none (seqAt s (i + x .width)) → f ≡ fitsLast t x first
+      → 0 < first .bases → f ≡ false → x .bases ≡ first .bases → x .width ≡ first .width → ⊥
+  width-differs k i x t f hk hi hx ht hf z e b w =
+      let m : i ≤ length s = rw (hi, hk) (alike-within s first at h) in
+      let u : firstLike first (seqAt s i) ≡ false = rw (hi, hk) (alike-ends s first at h) in
+      let n : none (seqAt s i) ≡ false = some-bases (seqAt s i) (omega (arith, ap (λ (y : Line). y .bases) hx, b, z)) in
+      let last : t ≡ true = ht ∙ ap (λ (v : ℕ). none (seqAt s (i + v))) w ∙ unlike-last s i first m n u (ap (λ (y : Line). y .width) (sym hx) ∙ w) (ap (λ (y : Line). y .bases) (sym hx) ∙ b) in
+      true≢false (sym (sym (fits-go t x first last (omega (arith, w))) ∙ le-leb (x .bases) (first .bases) (omega (arith, b))) ∙ sym hf ∙ e)
+    where
+      some-bases : (ls : List (List ℕ)) → 0 < firstLine ls .bases → none ls ≡ false
+      some-bases [] q = absurd (omega arith)
+      some-bases (l ∷ ls) q = refl
 
 -- ---- a record from its first line on
 

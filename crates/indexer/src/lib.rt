@@ -55,37 +55,32 @@ fn fits(last: bool, l: Line, first: Line) -> bool
     false
 }
 
-// The lines from `at` on, which come after a record's first.
+// The lines from `at` on, which come after a record's first: those like the first are passed, and the one behind them decides.
 fn index_rest(s: &[u8], at: usize, first: Line) -> Rest
     requires { ⌜ (at ≤ length (now s)) × (0 < first .bases) × (first .bases ≤ first .width) × (first .width ≤ at) ⌝ }
     ensures { λ r. ⌜ r ≡ restSays first (first .bases) at (seqAt (now (s .entry)) at) ⌝ }
 {
-    let mut i = at;
-    let mut n = first.bases;
-    loop {
-        let l = lines::sequence_line(s, i);
-        let next = i + l.width;
-        if fits(lines::sequence_ends(s, next), l, first) {
-            return Rest::Done {
-                length: n + l.bases,
-                next,
-            };
-        }
-        if l.bases != first.bases {
-            return Rest::Refused(Refusal::LineBases {
-                found: l.bases as u64,
-                expected: first.bases as u64,
-            });
-        }
-        if l.width != first.width {
-            return Rest::Refused(Refusal::LineWidth {
-                found: l.width as u64,
-                expected: first.width as u64,
-            });
-        }
-        i = next;
-        n += l.bases;
+    let alike = lines::lines_like(s, at, first);
+    let i = at + alike * first.width;
+    let n = first.bases + alike * first.bases;
+    let l = lines::sequence_line(s, i);
+    let next = i + l.width;
+    if fits(lines::sequence_ends(s, next), l, first) {
+        return Rest::Done {
+            length: n + l.bases,
+            next,
+        };
     }
+    if l.bases != first.bases {
+        return Rest::Refused(Refusal::LineBases {
+            found: l.bases as u64,
+            expected: first.bases as u64,
+        });
+    }
+    Rest::Refused(Refusal::LineWidth {
+        found: l.width as u64,
+        expected: first.width as u64,
+    })
 }
 
 // The record at `at`, whose definition line ends at `e` and gives a name.

@@ -1,17 +1,17 @@
 -- Lines that are alike: how many of some lines, from the first on, have one width and one count of bases. What holds from line to line
 -- then holds behind all of them.
-use Prim.Native.Nat.{ℕ, suc, _+_, _*_, _≤_, _<_}
+use Prim.Native.Nat.{ℕ, zero, suc, _+_, _*_, _≤_, _<_}
 use mathlib.Core.Path.{_≡_, refl, ap, sym, _∙_}
 use mathlib.Core.List.{List, [], _∷_}
 use mathlib.Core.Bool.{Bool, true, false, cond, _&&_, true≢false}
-use lib.ListN.{length}
+use lib.ListN.{length, take, drop, length-drop}
 use lib.Dec.{eqb}
-use borrow.Author.Tests.{eqb-true}
+use borrow.Author.Tests.{eqb-true, eq-eqb}
 use native.Mathlib.Omega.{arith}
 use native.Mathlib.Numerals.{add-one}
-use native.Mathlib.Nat.{add-zero, zero-add, suc-add, add-suc, add-assoc, add-mul, one-mul, zero-mul}
-use Rattle.lines.specs.Lines.{ends, basesOf, seqAt, firstLine, tailOf}
-use Rattle.lines.specs.Laws.{first-within, seqAt-next}
+use native.Mathlib.Nat.{add-zero, zero-add, add-mul, one-mul, zero-mul, add-sub-cancel-left}
+use Rattle.lines.specs.Lines.{part, lineLen, lineEnd, ends, basesOf, seqAt, none, firstLine, tailOf}
+use Rattle.lines.specs.Laws.{lineLen-pos, lineEnd-le, part-length, seqAt-end, some-line, first-within, seqAt-next}
 use Rattle.lines.specs.declared.Line.{Line}
 
 -- is a line ended by an LF, with the width and the bases of x
@@ -84,6 +84,7 @@ alike-next s x at h t = alike-on x (seqAt s at) t ∙ ap (λ (ls : List (List �
 -- a line of a file that is so: where it is, and that the others are behind it
 pub record LineLike (s : List ℕ) (x : Line) (i : ℕ) (l : List ℕ) : Type 0 where
   pub here : seqAt s i ≡ l ∷ seqAt s (i + x .width)
+  pub like : isLike x l ≡ true
   pub width : length l ≡ x .width
   pub bases : length (basesOf l) ≡ x .bases
   pub within : i + x .width ≤ length s
@@ -96,6 +97,7 @@ module _ (s : List ℕ) (x : Line) where
       let f : i + length l ≤ length s = rw e at (first-within s i h) in
       record {
         here = rw (← w, n) e;
+        like = t;
         width = w;
         bases = like-bases x l t;
         within = rw w at f;
@@ -124,3 +126,61 @@ module _ (s : List ℕ) (x : Line) where
 -- such lines end in their file
 pub alike-within : (s : List ℕ) (x : Line) (at : ℕ) → at ≤ length s → at + alike x (seqAt s at) * x .width ≤ length s
 alike-within s x at h = alike-passes s x (λ k i. i ≤ length s) (λ k i l y p. y .within) at h h
+
+-- and the line behind them is not so
+unlike : (x : Line) (ls : List (List ℕ)) → alike x ls ≡ 0 → firstLike x ls ≡ false
+unfolding alike firstLike
+unlike x [] e = refl
+unlike x (l ∷ ls) e = go (isLike x l) e
+  where
+    go : (t : Bool) → cond t (suc (alike x ls)) 0 ≡ 0 → t ≡ false
+    go true e = absurd (omega arith)
+    go false e = refl
+
+pub alike-ends : (s : List ℕ) (x : Line) (at : ℕ) → at ≤ length s → firstLike x (seqAt s (at + alike x (seqAt s at) * x .width)) ≡ false
+unfolding alike
+alike-ends s x at h =
+    unlike x _
+    (omega (
+      arith,
+      alike-passes s x (λ k i. k + alike x (seqAt s i) ≡ alike x (seqAt s at))
+          (λ k i l y p. omega (arith, p, ap (alike x) (y .here) ∙ ap (λ (t : Bool). cond t (suc (alike x (seqAt s (i + x .width)))) 0) (y .like))) at h (zero-add (alike x (seqAt s at))),
+    ))
+
+-- ---- a line that has the width and the bases, but no LF, is the last
+
+open-last : (s : List ℕ) → ends 10 (take (lineLen s) s) ≡ false → lineLen s ≡ length s
+unfolding ends lineLen
+open-last [] e = refl
+open-last (b ∷ []) e = go (eqb b 10)
+  where
+    go : (t : Bool) → _≡_ {A = ℕ} (cond t 1 1) 1
+    go true = refl
+    go false = refl
+open-last (b ∷ c ∷ s) e = go (eqb b 10) refl e (open-last (c ∷ s)) (lineLen-pos (c ∷ s) (omega arith))
+  where
+    longer : (n : ℕ) → 1 ≤ n → ends 10 (take (suc n) (b ∷ c ∷ s)) ≡ ends 10 (take n (c ∷ s))
+    longer zero h = absurd (omega arith)
+    longer (suc n) h = refl
+
+    go : (t : Bool) → eqb b 10 ≡ t → ends 10 (take (cond t 1 (suc (lineLen (c ∷ s)))) (b ∷ c ∷ s)) ≡ false → (ends 10 (take (lineLen (c ∷ s)) (c ∷ s)) ≡ false → lineLen (c ∷ s) ≡ length (c ∷ s)) → 1 ≤ lineLen (c ∷ s)
+        → cond t 1 (suc (lineLen (c ∷ s))) ≡ suc (length (c ∷ s))
+    go true h e r p = absurd (true≢false (sym h ∙ e))
+    go false h e r p = ap suc (r (sym (longer (lineLen (c ∷ s)) p) ∙ e))
+
+-- of three tests that don't all hold, where the last two do, the first does not
+first-fails : (a b c : Bool) → (a && b && c) ≡ false → b ≡ true → c ≡ true → a ≡ false
+first-fails true b c e f g = absurd (true≢false (rw (f, g) at e))
+first-fails false b c e f g = refl
+
+pub unlike-last : (s : List ℕ) (at : ℕ) (x : Line) → at ≤ length s → none (seqAt s at) ≡ false → firstLike x (seqAt s at) ≡ false
+    → firstLine (seqAt s at) .width ≡ x .width → firstLine (seqAt s at) .bases ≡ x .bases → none (seqAt s (at + x .width)) ≡ true
+unfolding firstLike isLike
+unlike-last s at x h n f w b =
+    let cut = some-line s at n in
+    let l = part s at (lineEnd s at) in
+    let v : length l ≡ x .width = rw cut at w in
+    let e : ends 10 l ≡ false = first-fails (ends 10 l) _ _ (rw cut at f) (eq-eqb _ _ v) (eq-eqb _ _ (rw cut at b)) in
+    let o : lineLen (drop at s) ≡ length (drop at s) = open-last (drop at s) (rw (add-sub-cancel-left at (lineLen (drop at s))) at e) in
+    let q : at + x .width ≡ length s = omega (arith, part-length s at (lineEnd s at) (lineEnd-le s at h), v, o, length-drop at s) in
+    rw (seqAt-end s (at + x .width) (omega (arith, q)))
