@@ -1,0 +1,227 @@
+//! Files, indexes, tables and bounds made by chance, and damaged.
+
+use super::chance::{AWKWARD, Chance, NUMERALS};
+use super::written::{room, table};
+use crate::form::{Bounds, Row};
+
+/// A file made by chance, and what its rows should be before it is damaged.
+pub(super) struct Sample {
+    pub(super) text: Vec<u8>,
+    pub(super) rows: Vec<Row>,
+}
+
+/// Line lengths around which blocks and buffers end.
+pub(super) const WIDTHS: [usize; 30] = [
+    7, 8, 9, 15, 16, 17, 30, 31, 32, 33, 47, 48, 49, 59, 60, 61, 63, 64, 65, 70, 80, 100, 127, 128, 129, 130, 191, 192,
+    193, 257,
+];
+
+pub(super) fn name(chance: &mut Chance) -> Vec<u8> {
+    const NAMES: [&[u8]; 10] =
+        [b"s", b"t", b"sq0", b"chr1", b"s:1-2", b"\xff", b"\xc3\xa9", b">", b"a\x0bb", b"HLA-A*01:01"];
+    chance.one_of(&NAMES).to_vec()
+}
+
+fn base(chance: &mut Chance) -> u8 {
+    if chance.once_in(150) { chance.one_of(b">\r *-.\t\0\xffx") } else { chance.one_of(b"ACGTACGTACGTNacgtn") }
+}
+
+/// Some records with lines of one length each.
+pub(super) fn sample(chance: &mut Chance) -> Sample {
+    let mut sample = Sample { text: vec![], rows: vec![] };
+    let end: &[u8] = if chance.once_in(3) { b"\r\n" } else { b"\n" };
+    let records = chance.one_of(&[0, 1, 1, 1, 2, 2, 3, 5]);
+    for _ in 0..records {
+        add_record(chance, &mut sample, end);
+    }
+    if chance.once_in(4) {
+        let kept = sample.text.len() - chance.below(end.len() + 1).min(sample.text.len());
+        sample.text.truncate(kept);
+    }
+    if chance.once_in(8) {
+        sample.text.extend(chance.one_of(&[&b"\n"[..], b"\r\n", b"\r", b"\n\n", b">"]));
+    }
+    sample
+}
+
+fn add_record(chance: &mut Chance, sample: &mut Sample, end: &[u8]) {
+    let name = name(chance);
+    let name_start = sample.text.len() + 1;
+    sample.text.push(b'>');
+    sample.text.extend(&name);
+    if chance.once_in(3) {
+        sample.text.extend(chance.one_of(&[&b" about it"[..], b"\tx y ", b" ", b" \x0b", b"\x0cz"]));
+    }
+    sample.text.extend(end);
+    let position = sample.text.len();
+    let line_bases = if chance.once_in(3) { chance.one_of(&WIDTHS) } else { 1 + chance.below(6) };
+    let whole = chance.one_of(&[0, 1, 1, 2, 2, 3, 4, 7]);
+    let rest = chance.below(line_bases + 1);
+    let length = (whole * line_bases + rest).min(400);
+    let bases: Vec<u8> = (0..length).map(|_| base(chance)).collect();
+    for line in bases.chunks(line_bases) {
+        sample.text.extend(line);
+        sample.text.extend(end);
+    }
+    let numbers = [name_start, name.len(), length, position, line_bases, line_bases + end.len()];
+    sample.rows.push(numbers.map(|n| n as u64));
+}
+
+/// Damages some bytes in one of the ways that files are damaged.
+pub(super) fn damage(chance: &mut Chance, text: &mut Vec<u8>) {
+    const BYTES: &[u8] = b"\n\n\r\r>>A \t0+\x0b\x0c\0\xff";
+    let at = chance.below(text.len() + 1);
+    let to = at + chance.below(text.len() + 1 - at);
+    match chance.below(9) {
+        0 => text.insert(at, chance.one_of(BYTES)),
+        1 if at < text.len() => text[at] = chance.one_of(BYTES),
+        2 if at < text.len() => {
+            text.remove(at);
+        }
+        3 => text.truncate(at),
+        4 if to - at <= 200 => {
+            let copy = text[at..to].to_vec();
+            text.splice(to..to, copy);
+        }
+        5 => {
+            text.drain(at..to);
+        }
+        6 if at + 1 < text.len() => text.swap(at, at + 1),
+        7 => {
+            if let Some(lf) = text.iter().skip(at).position(|b| *b == b'\n') {
+                text.insert(at + lf, chance.one_of(b"\r\r\r\nA"));
+            }
+        }
+        _ => {
+            if let Some(cr) = text.iter().skip(at).position(|b| *b == b'\r' || *b == b'\n') {
+                text.remove(at + cr);
+            }
+        }
+    }
+}
+
+fn damaged(chance: &mut Chance, text: &mut Vec<u8>) {
+    if chance.once_in(2) {
+        for _ in 0..1 + chance.below(3) {
+            damage(chance, text);
+        }
+    }
+}
+
+/// A file, damaged or not.
+pub(super) fn file(chance: &mut Chance) -> Sample {
+    let mut sample = sample(chance);
+    damaged(chance, &mut sample.text);
+    sample
+}
+
+/// A number about one that is right, or an awkward one.
+pub(super) fn about(chance: &mut Chance, right: u64) -> u64 {
+    match chance.below(12) {
+        0..=5 => right,
+        6 => right.wrapping_add(1),
+        7 => right.wrapping_sub(1),
+        8 => chance.below(20) as u64,
+        9 => chance.number() >> chance.below(64),
+        _ => chance.one_of(&AWKWARD),
+    }
+}
+
+/// A place in a file, or past it.
+pub(super) fn place(chance: &mut Chance, file: &[u8]) -> u64 {
+    let within = chance.below(file.len() + 2) as u64;
+    if chance.once_in(12) { chance.one_of(&AWKWARD) } else { within }
+}
+
+/// A room that is empty, just enough, one short, one more, or plenty.
+pub(super) fn some_room(chance: &mut Chance, enough: u64) -> Vec<u8> {
+    let enough = enough.min(600) as usize;
+    room(chance.one_of(&[0, enough, enough, enough, enough + 1, enough.saturating_sub(1), enough + 7, 500]))
+}
+
+/// A table with room for about so many rows, and at times a part of one more.
+pub(super) fn some_table(chance: &mut Chance, rows: usize) -> Vec<u64> {
+    let rows = chance.one_of(&[rows, rows, rows + 1, rows.saturating_sub(1), 0, rows + 2]);
+    let rest = if chance.once_in(3) { chance.below(6) } else { 0 };
+    table(6 * rows + rest)
+}
+
+/// Rows that tell the truth, or lie in some of their numbers; and how many are said to be in use.
+pub(super) fn some_rows(chance: &mut Chance, rows: &[Row]) -> (Vec<u64>, u64) {
+    let mut numbers = rows.concat();
+    if chance.once_in(2) && !numbers.is_empty() {
+        for _ in 0..1 + chance.below(3) {
+            let k = chance.below(numbers.len());
+            numbers[k] = about(chance, numbers[k]);
+        }
+    }
+    if chance.once_in(8) {
+        numbers.extend(table(1 + chance.below(5)));
+    }
+    if chance.once_in(16) {
+        numbers.truncate(chance.below(numbers.len() + 1));
+    }
+    let in_use = if chance.once_in(6) { about(chance, rows.len() as u64) } else { rows.len() as u64 };
+    (numbers, in_use)
+}
+
+/// Bounds inside a length, at its ends, past it, or at the limits.
+pub(super) fn some_bounds(chance: &mut Chance, length: u64) -> Bounds {
+    let near = length.min(1000) as usize + 2;
+    let bound = |chance: &mut Chance| match chance.below(12) {
+        0..=1 => None,
+        2 => Some(length),
+        3 => Some(length.wrapping_add(1)),
+        4 => Some(chance.one_of(&AWKWARD)),
+        _ => Some(chance.below(near) as u64),
+    };
+    let (start, end) = (bound(chance), bound(chance));
+    match (start, end) {
+        (Some(s), Some(e)) if s > e && !chance.once_in(8) => (end, start),
+        bounds => bounds,
+    }
+}
+
+/// About how many bytes a region has.
+pub(super) fn wanted(bounds: Bounds, length: u64) -> u64 {
+    let (start, end) = (bounds.0.unwrap_or(1), bounds.1.unwrap_or(length));
+    end.wrapping_sub(start).wrapping_add(1)
+}
+
+/// A numeral: one that is right, an awkward number, or something that is none.
+pub(super) fn numeral(chance: &mut Chance, right: u64) -> Vec<u8> {
+    if chance.once_in(9) { chance.one_of(&NUMERALS).to_vec() } else { about(chance, right).to_string().into_bytes() }
+}
+
+/// An index text for some rows whose names lie in a file; some of its numbers lie, some of its lines are damaged.
+pub(super) fn index_text(chance: &mut Chance, file: &[u8], rows: &[Row]) -> Vec<u8> {
+    let honest = chance.once_in(3);
+    let end: &[u8] = if chance.once_in(4) { b"\r\n" } else { b"\n" };
+    let mut text = vec![];
+    for row in rows {
+        let name = file.get(row[0] as usize..).and_then(|f| f.get(..row[1] as usize)).unwrap_or(b"gone");
+        text.extend(if honest || !chance.once_in(8) { name } else { b"t" });
+        for right in &row[2..] {
+            text.push(b'\t');
+            if honest || !chance.once_in(6) {
+                text.extend(right.to_string().bytes());
+            } else {
+                text.extend(numeral(chance, *right));
+            }
+        }
+        text.extend(end);
+    }
+    if chance.once_in(5) {
+        text.truncate(text.len() - end.len().min(text.len()));
+    }
+    if chance.once_in(4) {
+        damage(chance, &mut text);
+    }
+    text
+}
+
+pub(super) fn a_row(chance: &mut Chance, sample: &Sample) -> (u64, Row) {
+    let row = chance.below(sample.rows.len());
+    let numbers = sample.rows.get(row).copied().unwrap_or([1, 1, 4, 3, 4, 5]);
+    (if chance.once_in(12) { about(chance, row as u64) } else { row as u64 }, numbers)
+}
