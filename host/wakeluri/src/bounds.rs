@@ -23,6 +23,16 @@ pub struct Bounds {
     pub end: Option<u64>,
 }
 
+impl Bounds {
+    /// How many bases are meant where both bounds are given and in order; else 0.
+    pub(crate) fn bases(self) -> u64 {
+        match self {
+            Self { start: Some(start), end: Some(end) } if start <= end => (end - start).saturating_add(1),
+            _ => 0,
+        }
+    }
+}
+
 impl From<RangeInclusive<u64>> for Bounds {
     fn from(range: RangeInclusive<u64>) -> Self {
         Self { start: Some(*range.start()), end: Some(*range.end()) }

@@ -224,7 +224,7 @@ impl<'n> Table<'n> {
     /// ```
     pub fn read_exact(&self, fasta: &[u8], row: usize, bounds: impl Into<Bounds>) -> Result<Vec<u8>, Refusal> {
         let bounds = bounds.into();
-        with_room(|out| self.read_exact_into(fasta, row, bounds, out))
+        with_room(bounds.bases(), |out| self.read_exact_into(fasta, row, bounds, out))
     }
 
     /// As [`Table::read_exact`], to the front of a room that is lent; tells how many bytes. A refusal leaves it as it was.
@@ -249,7 +249,7 @@ impl<'n> Table<'n> {
     /// ```
     pub fn read_exact_by_name(&self, fasta: &[u8], name: &[u8], bounds: impl Into<Bounds>) -> Result<Vec<u8>, Refusal> {
         let bounds = bounds.into();
-        with_room(|out| self.read_exact_by_name_into(fasta, name, bounds, out))
+        with_room(bounds.bases(), |out| self.read_exact_by_name_into(fasta, name, bounds, out))
     }
 
     /// As [`Table::read_exact_by_name`], to the front of a room that is lent; tells how many bytes.
@@ -280,7 +280,7 @@ impl<'n> Table<'n> {
     /// ```
     pub fn read_raw(&self, fasta: &[u8], row: usize, bounds: impl Into<Bounds>) -> Result<Vec<u8>, Refusal> {
         let bounds = bounds.into();
-        with_room(|out| self.read_raw_into(fasta, row, bounds, out))
+        with_room(bounds.bases(), |out| self.read_raw_into(fasta, row, bounds, out))
     }
 
     /// As [`Table::read_raw`], to the front of a room that is lent; tells how many bytes.
@@ -298,7 +298,7 @@ impl<'n> Table<'n> {
     /// The raw read of the first record that has a name. Refuses 1, 25, 15, then as [`Table::read_raw`].
     pub fn read_raw_by_name(&self, fasta: &[u8], name: &[u8], bounds: impl Into<Bounds>) -> Result<Vec<u8>, Refusal> {
         let bounds = bounds.into();
-        with_room(|out| self.read_raw_by_name_into(fasta, name, bounds, out))
+        with_room(bounds.bases(), |out| self.read_raw_by_name_into(fasta, name, bounds, out))
     }
 
     /// As [`Table::read_raw_by_name`], to the front of a room that is lent; tells how many bytes.
@@ -355,16 +355,24 @@ pub(crate) fn counted(call: Call, answer: entry::Answer) -> Result<usize, Refusa
     Refusal::of(call, answer.refusal, answer.first, answer.second).map(|()| answer.count as usize)
 }
 
-/// What a read gives, in a room of just its size: the read itself says how much it needs.
-pub(crate) fn with_room(read: impl Fn(&mut [u8]) -> Result<usize, Refusal>) -> Result<Vec<u8>, Refusal> {
-    let refusal = match read(&mut []) {
-        Ok(_) => return Ok(vec![]),
-        Err(refusal) if refusal.number != 14 => return Err(refusal),
-        Err(refusal) => refusal,
+/// A room for what a read likely gives is made at once up to so many bytes, and above only when the read says that it needs more.
+const FIRST_ROOM: u64 = 1 << 16;
+
+/// What a read gives, in a room of just its size: one of `likely` bytes is tried first, and where that is too short, the read itself
+/// says how much it needs.
+pub(crate) fn with_room(likely: u64, read: impl Fn(&mut [u8]) -> Result<usize, Refusal>) -> Result<Vec<u8>, Refusal> {
+    let first = if likely <= FIRST_ROOM { likely as usize } else { 0 };
+    let mut out = vec![0; first];
+    let read_first = read(&mut out);
+    let count = match read_first {
+        Err(refusal) if refusal.number == 14 => {
+            out = room(refusal.first).ok_or(refusal)?;
+            read(&mut out)?
+        }
+        other => other?,
     };
-    let mut out = room(refusal.first).ok_or(refusal)?;
-    let count = read(&mut out)?;
     out.truncate(count);
+    out.shrink_to_fit();
     Ok(out)
 }
 

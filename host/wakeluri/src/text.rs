@@ -75,7 +75,7 @@ pub fn read_run(file: &[u8], at: u64) -> Result<&[u8], Refusal> {
 /// # Ok::<(), wakeluri::Refusal>(())
 /// ```
 pub fn read_sequence(file: &[u8], at: u64) -> Result<(Vec<u8>, u64), Refusal> {
-    scanned(|out| entry::read_sequence(file, at, out))
+    scanned(0, |out| entry::read_sequence(file, at, out))
 }
 
 /// At most so many bases from an offset on, and the place that is left: just behind the last one given. Refuses 1.
@@ -85,12 +85,12 @@ pub fn read_sequence(file: &[u8], at: u64) -> Result<(Vec<u8>, u64), Refusal> {
 /// # Ok::<(), wakeluri::Refusal>(())
 /// ```
 pub fn read_sequence_limit(file: &[u8], at: u64, limit: u64) -> Result<(Vec<u8>, u64), Refusal> {
-    scanned(|out| entry::read_sequence_limit(file, at, limit, out))
+    scanned(limit, |out| entry::read_sequence_limit(file, at, limit, out))
 }
 
-fn scanned(read: impl Fn(&mut [u8]) -> entry::Answer) -> Result<(Vec<u8>, u64), Refusal> {
+fn scanned(likely: u64, read: impl Fn(&mut [u8]) -> entry::Answer) -> Result<(Vec<u8>, u64), Refusal> {
     let next = std::cell::Cell::new(0);
-    let bases = with_room(|out| {
+    let bases = with_room(likely, |out| {
         let answer = read(out);
         next.set(answer.next);
         counted(Call::ReadSequence, answer)
@@ -143,7 +143,7 @@ pub fn index_line(line: &[u8]) -> Result<(Record<'_>, bool), Refusal> {
 /// # Ok::<(), wakeluri::Refusal>(())
 /// ```
 pub fn complement(bases: &[u8]) -> Result<Vec<u8>, Refusal> {
-    with_room(|out| complement_into(bases, out))
+    with_room(bases.len() as u64, |out| complement_into(bases, out))
 }
 
 /// The reverse complement of some bases. Refuses 1, and 24 with the last bad byte.
@@ -153,7 +153,7 @@ pub fn complement(bases: &[u8]) -> Result<Vec<u8>, Refusal> {
 /// # Ok::<(), wakeluri::Refusal>(())
 /// ```
 pub fn reverse_complement(bases: &[u8]) -> Result<Vec<u8>, Refusal> {
-    with_room(|out| reverse_complement_into(bases, out))
+    with_room(bases.len() as u64, |out| reverse_complement_into(bases, out))
 }
 
 /// As [`complement`], to the front of a room that is lent; tells how many bytes. Refuses 1, 14, 24.
