@@ -1,0 +1,124 @@
+// count [WORK FILE ..]: does each work once on its file, so that the instructions it takes can be counted as the difference of two
+// runs (tools/instruction-goals). A work is `index`, `check`, with the index on standard input, or `reverse`, the reverse complement of
+// the whole file. It writes a line for each, as `index 1`, the count of rows, `check 0`, or `reverse 60`, the count of bytes; where it is
+// refused, `refused 24 3 45`. A file, or an index, has at most 65,536 bytes; what is behind them is not read.
+ghost use Prim.Native.Nat.{_≤_};
+use checker::Verdict;
+use complement::Complemented;
+use libc::STDIN_FILENO;
+use libc::STDOUT_FILENO;
+use refusal::Refusal;
+use table::Stop;
+
+// Writes a space and a number.
+fn say_number(n: u64) {
+    io::write_all(STDOUT_FILENO, b" ");
+    io::print_decimal(STDOUT_FILENO, n);
+}
+
+// Writes the line of a work: its name, and its count.
+fn say(work: &[u8], n: usize) {
+    io::write_all(STDOUT_FILENO, work);
+    say_number(n as u64);
+    io::write_all(STDOUT_FILENO, b"\n");
+}
+
+// Writes the line of a refusal.
+fn say_refused(why: Refusal) {
+    let told = why.numbers();
+    io::write_all(STDOUT_FILENO, b"refused");
+    say_number(told.refusal);
+    say_number(told.first);
+    say_number(told.second);
+    io::write_all(STDOUT_FILENO, b"\n");
+}
+
+// Indexes a file.
+fn index(fasta: &[u8]) {
+    let mut table = [0u64; 6144];
+    let told = indexer::index_file(fasta, &mut table);
+    let stop = told.stop;
+    match stop {
+        Stop::Ended => say(b"index", told.rows),
+        Stop::Refused(why) => say_refused(why),
+    }
+}
+
+// Checks an index with its file.
+fn check(fasta: &[u8], text: &[u8]) {
+    match checker::check(fasta, text) {
+        Verdict::Accepted => say(b"check", 0),
+        Verdict::Refused(why) => say_refused(why),
+    }
+}
+
+// Checks the index on standard input with its file.
+fn check_input(fasta: &[u8]) {
+    let mut text = io::large_buffer();
+    let n = io::read_full(STDIN_FILENO, &mut text);
+    check(fasta, &text[..n]);
+}
+
+// Complements some bases, from the last to the first.
+fn reverse(bases: &[u8]) {
+    let mut out = io::large_buffer();
+    match complement::reverse_complement(bases, &mut out) {
+        Complemented::Bytes(n) => say(b"reverse", n),
+        Complemented::Refused(why) => say_refused(why),
+    }
+}
+
+// Does the work whose name has this first letter.
+fn work(letter: u8, file: &[u8]) {
+    match letter {
+        b'i' => index(file),
+        b'c' => check_input(file),
+        b'r' => reverse(file),
+        _ => {}
+    }
+}
+
+// Reads a descriptor, and does the work on it.
+fn work_on(letter: u8, fd: i32) {
+    let mut file = io::large_buffer();
+    let n = io::read_full(fd, &mut file);
+    work(letter, &file[..n]);
+}
+
+// Does a work on the file that an argument names.
+fn work_on_named(letter: u8, i: usize) {
+    let mut path = io::buffer();
+    let length = os::arg(i, &mut path);
+    let fd = os::open_read(&path[..length]);
+    if fd < 0 {
+        os::fail(&path[..length]);
+        return;
+    }
+    work_on(letter, fd);
+    libc::close(fd);
+}
+
+// The first letter of an argument.
+fn letter(i: usize) -> u8 {
+    let mut word = io::buffer();
+    os::arg(i, &mut word);
+    word[0]
+}
+
+// Does the works of the arguments from 1 on.
+fn work_on_all(count: usize)
+    requires { ⌜ 1 ≤ count ⌝ }
+{
+    let mut i = 1;
+    while i < count - 1 {
+        work_on_named(letter(i), i + 1);
+        i += 2;
+    }
+}
+
+fn main() {
+    let count = os::arg_count();
+    if 1 <= count {
+        work_on_all(count);
+    }
+}
