@@ -1,0 +1,297 @@
+//! The proved library and the original in one process, on one buffer, in turns: how many times as fast, beside the goals and the
+//! physical limits. `tools/benches` builds and runs it; what it prints is Markdown. Before anything is timed, both sides must give the
+//! same answers.
+
+mod files;
+mod measure;
+mod original;
+mod ours;
+mod report;
+
+use files::{Lines, Numbers, one_line, room};
+use measure::{Work, in_turns, limits};
+use original::{Region, Sequence, over_c, over_crate};
+use report::{Checked, Compared, Grown, Report};
+
+/// The bytes of a row in a table.
+const ROW_BYTES: usize = 48;
+
+/// What is run.
+struct Plan {
+    /// Shorter files and fewer rounds.
+    quick: bool,
+    /// Only the parts whose name holds this.
+    only: String,
+}
+
+impl Plan {
+    fn of_words(words: impl Iterator<Item = String>) -> Option<Self> {
+        let mut plan = Self { quick: false, only: String::new() };
+        let mut words = words;
+        while let Some(word) = words.next() {
+            match word.as_str() {
+                "--quick" => plan.quick = true,
+                "--only" => plan.only = words.next()?,
+                _ => return None,
+            }
+        }
+        Some(plan)
+    }
+
+    fn rounds(&self) -> usize {
+        if self.quick { 5 } else { 15 }
+    }
+
+    /// One number of the whole run, and another of the quick one.
+    fn size(&self, whole: usize, quick: usize) -> usize {
+        if self.quick { quick } else { whole }
+    }
+}
+
+/// Times the indexing and the checking of a file.
+fn file(plan: &Plan, report: &mut Report, what: &str, goal: f64, file: &[u8]) {
+    let rows = over_crate::rows(file);
+    assert_eq!(over_c::rows(file), rows, "{what}: the original over two memchrs");
+    assert_eq!(ours::rows(file), rows, "{what}: the rows");
+    let text = wakeluri::index(file).and_then(|table| table.write_index()).expect("a good file");
+    assert_eq!(wakeluri::check(file, &text), Ok(()), "{what}: the index leads to every base");
+    let mut table = room(rows.len() * ROW_BYTES);
+    assert_eq!(ours::index_into(file, &mut table), rows.len() as u64, "{what}: the rows in a lent table");
+    let mut copied = room(file.len());
+    let [copy, sum] = limits(file, &mut copied);
+    let mut works: [Work; 7] = [
+        Box::new(|| over_crate::index(file)),
+        Box::new(|| over_c::index(file)),
+        Box::new(|| ours::index(file)),
+        Box::new(|| ours::index_into(file, &mut table)),
+        Box::new(|| ours::check(file, &text)),
+        copy,
+        sum,
+    ];
+    let taken = in_turns(plan.rounds(), &mut works);
+    let [by_crate, by_c, index, into, check, copy, sum] = taken[..] else { unreachable!("seven works") };
+    let size = format!("{} bytes, {}", report::number(file.len()), report::counted(rows.len(), "record"));
+    let compared = |work, ours| Compared {
+        work,
+        size: size.clone(),
+        goal,
+        bytes: file.len(),
+        ours,
+        by_crate,
+        by_c: Some(by_c),
+        limits: Some([copy, sum]),
+    };
+    report.compared.push(compared(format!("index, {what}"), index));
+    // where there are few rows the two are the same
+    if rows.len() > 1000 {
+        report.compared.push(compared(format!("index, {what}, into a lent table"), into));
+    }
+    report.checked.push(Checked { file: what.to_string(), bytes: file.len(), index, check });
+}
+
+/// Times the reading of 1,000 regions of so many bases.
+fn reads(plan: &Plan, report: &mut Report, fasta: &[u8], bases: u64, goals: [f64; 2]) {
+    const READS: usize = 1000;
+    let rows = ours::rows(fasta);
+    let mut numbers = Numbers::new(4);
+    let region = |_| -> Region {
+        let row = &rows[numbers.below(rows.len() as u64) as usize];
+        let start = 1 + numbers.below(row.1 - bases + 1);
+        (row.0.clone(), start, start + bases - 1)
+    };
+    let regions: Vec<Region> = (0..READS).map(region).collect();
+    let (mut by_crate, mut by_c) = (over_crate::Regions::new(fasta, &regions), over_c::Regions::new(fasta, &regions));
+    let ours = ours::Regions::new(fasta, &regions);
+    let expected = by_crate.bases();
+    assert_eq!(expected.len() as u64, READS as u64 * bases, "no base is missing");
+    assert!(by_c.bases() == expected, "the original over two memchrs");
+    assert!(ours.bases().as_ref() == Ok(&expected), "the bases of the regions");
+    let [mut lent, mut copied] = [(); 2].map(|()| room(2 * bases as usize + 64));
+    let taken = in_turns(
+        plan.rounds(),
+        &mut [
+            Box::new(|| by_crate.read()),
+            Box::new(|| by_c.read()),
+            Box::new(|| ours.read_into(&mut lent)),
+            Box::new(|| ours.read()),
+            Box::new(|| ours.copy_into(&mut copied)),
+            Box::new(|| ours.sum()),
+        ],
+    );
+    let [by_crate, by_c, into, fresh, copy, sum] = taken[..] else { unreachable!("six works") };
+    let each = report::counted(bases as usize, "base");
+    for (how, ours, goal) in [("a lent room", into, goals[0]), ("a fresh vector", fresh, goals[1])] {
+        report.compared.push(Compared {
+            work: format!("1,000 exact reads of {each} by name, into {how}"),
+            size: format!("of {} bytes", report::number(fasta.len())),
+            goal,
+            bytes: expected.len(),
+            ours,
+            by_crate,
+            by_c: Some(by_c),
+            limits: (bases > 1).then_some([copy, sum]),
+        });
+    }
+}
+
+/// Times the reverse complement of some bases.
+fn complement(plan: &Plan, report: &mut Report, what: &str, goal: f64, letters: &[u8]) {
+    let sequence = Sequence::new(Numbers::new(5).letters(letters, plan.size(100_000_000, 10_000_000)));
+    let bases = sequence.bases();
+    let expected = sequence.reverse_complement();
+    assert!(wakeluri::reverse_complement(bases).as_ref() == Ok(&expected), "{what}: the complement");
+    drop(expected);
+    let [mut lent, mut copied] = [(); 2].map(|()| room(bases.len()));
+    let into = || wakeluri::reverse_complement_into(std::hint::black_box(bases), &mut lent).expect("bases") as u64;
+    let fresh = || std::hint::black_box(wakeluri::reverse_complement(bases).expect("bases")).len() as u64;
+    let [copy, sum] = limits(bases, &mut copied);
+    let original = || std::hint::black_box(sequence.reverse_complement()).len() as u64;
+    let mut works: [Work; 5] = [Box::new(original), Box::new(into), Box::new(fresh), copy, sum];
+    let taken = in_turns(plan.rounds(), &mut works);
+    let [by_crate, into, fresh, copy, sum] = taken[..] else { unreachable!("five works") };
+    for (how, ours) in [("a lent room", into), ("a fresh vector", fresh)] {
+        report.compared.push(Compared {
+            work: format!("reverse complement, {what}, into {how}"),
+            size: format!("{} bases", report::number(bases.len())),
+            goal,
+            bytes: bases.len(),
+            ours,
+            by_crate,
+            by_c: None,
+            limits: Some([copy, sum]),
+        });
+    }
+}
+
+/// Times the reading and the writing of an index text.
+fn index_text(plan: &Plan, report: &mut Report, fasta: &[u8]) {
+    let kept = over_crate::Kept::new(fasta);
+    let text = kept.written(0);
+    assert!(over_c::Kept::new(fasta).written(0) == text, "the original over two memchrs");
+    let table = wakeluri::index(fasta).expect("a good file");
+    assert!(table.write_index().as_ref() == Ok(&text), "the index text");
+    let rows = over_crate::read_rows(&text);
+    assert!(over_c::read_rows(&text) == rows, "the original over two memchrs");
+    assert!(ours::read_rows(&text) == rows, "the rows of the index text");
+    let [mut lent, mut copied] = [(); 2].map(|()| room(text.len() + 4096));
+    assert!(ours::write_into(&table, &mut lent) == text.len() && lent[..text.len()] == text, "the text in a lent room");
+    let [copy, sum] = limits(&text, &mut copied);
+    let mut works: [Work; 8] = [
+        Box::new(|| over_crate::read_index(&text)),
+        Box::new(|| over_c::read_index(&text)),
+        Box::new(|| ours::read_index(&text)),
+        Box::new(|| std::hint::black_box(kept.written(text.len())).len() as u64),
+        Box::new(|| ours::write_into(&table, &mut lent) as u64),
+        Box::new(|| std::hint::black_box(table.write_index().expect("a good table")).len() as u64),
+        copy,
+        sum,
+    ];
+    let taken = in_turns(plan.rounds(), &mut works);
+    let [read_by_crate, read_by_c, read, written_by_crate, written_into, written, copy, sum] = taken[..] else {
+        unreachable!("eight works")
+    };
+    let size = format!("{} bytes, {}", report::number(text.len()), report::counted(table.len(), "line"));
+    for (work, ours, by_crate, by_c) in [
+        ("reading an index text", read, read_by_crate, Some(read_by_c)),
+        ("writing it, into a fresh vector", written, written_by_crate, None),
+        ("writing it, into a lent room", written_into, written_by_crate, None),
+    ] {
+        report.compared.push(Compared {
+            work: work.to_string(),
+            size: size.clone(),
+            goal: 1.0,
+            bytes: text.len(),
+            ours,
+            by_crate,
+            by_c,
+            limits: Some([copy, sum]),
+        });
+    }
+}
+
+/// Times the indexing, to a lent table, and the checking of longer and longer files.
+fn growth(plan: &Plan, report: &mut Report) {
+    let megabytes = if plan.quick { &[1, 10, 100][..] } else { &[1, 10, 100, 1000] };
+    for n in megabytes {
+        let file = Lines { bases: 60, end: b"\n" }.genome(n * 1_000_000);
+        let text = wakeluri::index(&file).and_then(|table| table.write_index()).expect("a good file");
+        let mut table = room(4 * ROW_BYTES);
+        let taken = in_turns(
+            plan.size(7, 3),
+            &mut [
+                Box::new(|| over_crate::index(&file)),
+                Box::new(|| over_c::index(&file)),
+                Box::new(|| ours::index_into(&file, &mut table)),
+                Box::new(|| ours::check(&file, &text)),
+                Box::new(|| measure::sum(std::hint::black_box(&file))),
+            ],
+        );
+        let [by_crate, by_c, index, check, sum] = taken[..] else { unreachable!("five works") };
+        report.grown.push(Grown { bytes: file.len(), index, check, original: by_crate.min(by_c), sum });
+    }
+}
+
+/// How fast each memchr is on a megabyte that hasn't what is searched, in bytes a second: whether it has a fast form shows here.
+fn memchrs(plan: &Plan) -> [f64; 2] {
+    let bytes = room(1_000_000);
+    let absent = |place: Option<usize>| u64::from(place.is_some());
+    let taken = in_turns(
+        plan.rounds(),
+        &mut [
+            Box::new(|| absent(memchr::memchr(b'\n', std::hint::black_box(&bytes)))),
+            Box::new(|| absent(memchr_libc::memchr(b'\n', std::hint::black_box(&bytes)))),
+        ],
+    );
+    [taken[0], taken[1]].map(|seconds| bytes.len() as f64 / seconds)
+}
+
+fn run(plan: &Plan) -> Report {
+    let part = |name: &str| {
+        let has = name.contains(&plan.only);
+        if has {
+            eprintln!("benches: {name}");
+        }
+        has
+    };
+    let mut report = Report { memchrs: memchrs(plan), ..Report::default() };
+    let bytes = plan.size(64_000_000, 8_000_000);
+    let lf = |bases| Lines { bases, end: b"\n" };
+    if part("lines") {
+        file(plan, &mut report, "lines of 60", 2.4, &lf(60).genome(bytes));
+        file(plan, &mut report, "lines of 60, CRLF", 2.4, &Lines { bases: 60, end: b"\r\n" }.genome(bytes));
+        for bases in [50, 70, 80, 100] {
+            file(plan, &mut report, &format!("lines of {bases}"), 2.0, &lf(bases).genome(bytes));
+        }
+    }
+    let records = lf(60).records(100_000);
+    if part("records") {
+        file(plan, &mut report, "records of one to three lines", 2.0, &records);
+    }
+    if part("long") {
+        file(plan, &mut report, "one line of 10 million bases", 1.0, &one_line(10_000_000));
+    }
+    if part("reads") {
+        let fasta = lf(60).genome(bytes);
+        reads(plan, &mut report, &fasta, 10_000, [2.8, 2.8]);
+        reads(plan, &mut report, &fasta, 1, [1.0, 1.0]);
+    }
+    if part("complement") {
+        complement(plan, &mut report, "random ACGT", 20.0, b"ACGT");
+        complement(plan, &mut report, "mixed case with N", 8.0, b"ACGTNacgtn");
+    }
+    if part("text") {
+        index_text(plan, &mut report, &records);
+    }
+    if part("growth") {
+        growth(plan, &mut report);
+    }
+    report
+}
+
+fn main() {
+    let Some(plan) = Plan::of_words(std::env::args().skip(1)) else {
+        eprintln!("usage: benches [--quick] [--only lines|records|long|reads|complement|text|growth]");
+        std::process::exit(2);
+    };
+    print!("{}", run(&plan));
+}

@@ -1,0 +1,123 @@
+//! This library's side. What is timed are the calls of the safe library (host/wakeluri), in which an app makes them: what they allocate
+//! for an answer is a part of the work, as it is of the original's. Calls named `.._into` write to a room that is lent, which was written
+//! to before: the proved code allocates nothing, and an app that reads much lends one room again and again.
+
+use crate::measure::sum;
+use crate::original::{Region, Row};
+use std::hint::black_box;
+use wakeluri::{Refusal, Table, entry};
+
+fn rows_of(table: &Table) -> Vec<Row> {
+    table.records().map(|r| (r.name.to_vec(), r.length, r.position, r.line_bases, r.line_width)).collect()
+}
+
+/// The rows of a file.
+pub fn rows(file: &[u8]) -> Vec<Row> {
+    rows_of(&wakeluri::index(file).expect("a good file"))
+}
+
+/// The rows of an index text.
+pub fn read_rows(text: &[u8]) -> Vec<Row> {
+    rows_of(&wakeluri::read_index(text).expect("a good index"))
+}
+
+/// Indexes a whole file.
+pub fn index(file: &[u8]) -> u64 {
+    black_box(wakeluri::index(black_box(file)).expect("a good file")).len() as u64
+}
+
+/// Indexes a whole file to a table that is lent, by the entry point itself: nothing is allocated.
+pub fn index_into(file: &[u8], table: &mut [u8]) -> u64 {
+    let answer = entry::index_file(black_box(file), table);
+    assert_eq!(answer.refusal, 0, "a good file, and a table that is long enough");
+    answer.count
+}
+
+/// Checks an index with its file.
+pub fn check(file: &[u8], text: &[u8]) -> u64 {
+    wakeluri::check(black_box(file), black_box(text)).expect("a good index");
+    0
+}
+
+/// Reads an index text.
+pub fn read_index(text: &[u8]) -> u64 {
+    black_box(wakeluri::read_index(black_box(text)).expect("a good index")).len() as u64
+}
+
+/// Writes the index text of a table to a room that is lent, by the entry point, line behind line.
+pub fn write_into(table: &Table, room: &mut [u8]) -> usize {
+    let mut at = 0;
+    for row in 0..table.len() {
+        at += table.write_index_line_into(black_box(row), &mut room[at..]).expect("a good row");
+    }
+    at
+}
+
+/// A file with its index and the regions that are to be read.
+pub struct Regions<'f> {
+    file: &'f [u8],
+    table: Table<'f>,
+    regions: Vec<Region>,
+    /// The parts of the file that hold them.
+    parts: Vec<&'f [u8]>,
+}
+
+impl<'f> Regions<'f> {
+    /// Of a file.
+    pub fn new(file: &'f [u8], regions: &[Region]) -> Self {
+        let table = wakeluri::index(file).expect("a good file");
+        let part = |(name, start, end): &Region| {
+            let r = table.records().find(|r| r.name == &name[..]).expect("a record of that name");
+            let offset = |base: u64| r.position + (base - 1) / r.line_bases * r.line_width + (base - 1) % r.line_bases;
+            &file[offset(*start) as usize..=offset(*end) as usize]
+        };
+        let parts = regions.iter().map(part).collect();
+        Self { file, table, regions: regions.to_vec(), parts }
+    }
+
+    /// The bases of all regions, one behind the other.
+    pub fn bases(&self) -> Result<Vec<u8>, Refusal> {
+        let mut bases = vec![];
+        for (name, start, end) in &self.regions {
+            bases.extend(self.table.read_exact_by_name(self.file, name, *start..=*end)?);
+        }
+        Ok(bases)
+    }
+
+    /// Reads all regions, each by its record's name, to the front of a room that is lent.
+    pub fn read_into(&self, room: &mut [u8]) -> u64 {
+        let mut bases = 0;
+        for (name, start, end) in black_box(&self.regions) {
+            let read = self.table.read_exact_by_name_into(self.file, name, *start..=*end, room);
+            bases += read.expect("a good region") as u64;
+            black_box(&mut *room);
+        }
+        bases
+    }
+
+    /// Reads all regions, each into a vector of its own.
+    pub fn read(&self) -> u64 {
+        let mut bases = 0;
+        for (name, start, end) in black_box(&self.regions) {
+            let read = self.table.read_exact_by_name(self.file, name, *start..=*end);
+            bases += black_box(read.expect("a good region")).len() as u64;
+        }
+        bases
+    }
+
+    /// The parts of the file that hold the regions, copied as they are, line ends and all, to the front of a room: the limit.
+    pub fn copy_into(&self, room: &mut [u8]) -> u64 {
+        let mut bytes = 0;
+        for part in &self.parts {
+            room[..part.len()].copy_from_slice(black_box(part));
+            black_box(&mut *room);
+            bytes += part.len() as u64;
+        }
+        bytes
+    }
+
+    /// Those parts, summed.
+    pub fn sum(&self) -> u64 {
+        self.parts.iter().map(|part| sum(black_box(part))).fold(0, u64::wrapping_add)
+    }
+}

@@ -1,0 +1,180 @@
+//! What was found, as Markdown.
+
+use std::fmt;
+
+/// A work of both sides. Times are in seconds.
+pub struct Compared {
+    pub work: String,
+    pub size: String,
+    /// How many times as fast as the original it is to be.
+    pub goal: f64,
+    /// How many bytes it goes through.
+    pub bytes: usize,
+    pub ours: f64,
+    /// The original over the crate memchr.
+    pub by_crate: f64,
+    /// The original over the C library's memchr, where that is another.
+    pub by_c: Option<f64>,
+    /// A plain copy of the same bytes, and a plain sum, where they are a limit.
+    pub limits: Option<[f64; 2]>,
+}
+
+/// The checker on a file, beside the indexer.
+pub struct Checked {
+    pub file: String,
+    pub bytes: usize,
+    pub index: f64,
+    pub check: f64,
+}
+
+/// Longer and longer files.
+pub struct Grown {
+    pub bytes: usize,
+    pub index: f64,
+    pub check: f64,
+    pub original: f64,
+    pub sum: f64,
+}
+
+/// All that was found.
+#[derive(Default)]
+pub struct Report {
+    pub memchrs: [f64; 2],
+    pub compared: Vec<Compared>,
+    pub checked: Vec<Checked>,
+    pub grown: Vec<Grown>,
+}
+
+/// The checker's goal: so much of the speed of indexing.
+const CHECK_GOAL: f64 = 0.8;
+
+/// A number with commas.
+pub fn number(n: usize) -> String {
+    let digits = n.to_string();
+    let mut told = String::new();
+    for (k, digit) in digits.chars().enumerate() {
+        if k > 0 && (digits.len() - k) % 3 == 0 {
+            told.push(',');
+        }
+        told.push(digit);
+    }
+    told
+}
+
+/// So many of a thing.
+pub fn counted(n: usize, thing: &str) -> String {
+    format!("{} {thing}{}", number(n), if n == 1 { "" } else { "s" })
+}
+
+fn gigabytes(bytes: usize, seconds: f64) -> String {
+    format!("{:.2}", bytes as f64 / seconds / 1e9)
+}
+
+fn time(seconds: f64) -> String {
+    match seconds {
+        s if s >= 1.0 => format!("{s:.2} s"),
+        s if s >= 1e-3 => format!("{:.2} ms", s * 1e3),
+        s => format!("{:.2} µs", s * 1e6),
+    }
+}
+
+impl Compared {
+    /// The faster original.
+    fn original(&self) -> f64 {
+        self.by_c.unwrap_or(self.by_crate).min(self.by_crate)
+    }
+
+    /// How many times as fast as the faster original.
+    pub fn ratio(&self) -> f64 {
+        self.original() / self.ours
+    }
+
+    fn row(&self, f: &mut fmt::Formatter) -> fmt::Result {
+        let Self { work, size, goal, bytes, ours, by_crate, by_c, limits } = self;
+        let ratio = self.ratio();
+        let verdict = if ratio >= *goal { "reached" } else { "**not reached**" };
+        let by_c = by_c.map_or("the same".to_string(), time);
+        write!(
+            f,
+            "| {work} | {size} | {goal} | {ratio:.2} | {verdict} | {} | {} | {by_c} ",
+            time(*ours),
+            time(*by_crate)
+        )?;
+        match limits {
+            Some(limits) => {
+                let [copy, sum] = limits.map(|limit| gigabytes(*bytes, limit));
+                writeln!(f, "| {} | {copy} | {sum} |", gigabytes(*bytes, *ours))
+            }
+            None => writeln!(f, "| | | |"),
+        }
+    }
+}
+
+impl fmt::Display for Report {
+    fn fmt(&self, f: &mut fmt::Formatter) -> fmt::Result {
+        let [by_crate, by_c] = self.memchrs.map(|speed| speed / 1e9);
+        writeln!(f, "memchr over a megabyte: the crate's {by_crate:.1} GB/s, the C library's {by_c:.1} GB/s.\n")?;
+        if !self.compared.is_empty() {
+            writeln!(
+                f,
+                "| work | size | goal | times as fast | | ours | original, memchr of the crate | of the C library | GB/s | a copy | a sum |"
+            )?;
+            writeln!(f, "|---|---|---|---|---|---|---|---|---|---|---|")?;
+            self.compared.iter().try_for_each(|compared| compared.row(f))?;
+        }
+        if !self.checked.is_empty() {
+            writeln!(f, "\n| checking, as a part of the speed of indexing | goal | | | index GB/s | check GB/s |")?;
+            writeln!(f, "|---|---|---|---|---|---|")?;
+        }
+        for Checked { file, bytes, index, check } in &self.checked {
+            let part = index / check;
+            let verdict = if part >= CHECK_GOAL { "reached" } else { "**not reached**" };
+            let (index, check) = (gigabytes(*bytes, *index), gigabytes(*bytes, *check));
+            writeln!(f, "| {file} | {CHECK_GOAL} | {part:.2} | {verdict} | {index} | {check} |")?;
+        }
+        if !self.grown.is_empty() {
+            writeln!(
+                f,
+                "\n| lines of 60, bytes | index, ns a byte | check | the original's index | a sum | times as fast |"
+            )?;
+            writeln!(f, "|---|---|---|---|---|---|")?;
+        }
+        for Grown { bytes, index, check, original, sum } in &self.grown {
+            let each = |seconds: f64| format!("{:.3}", seconds * 1e9 / *bytes as f64);
+            let (bytes, ratio) = (number(*bytes), original / index);
+            let [index, check, original, sum] = [*index, *check, *original, *sum].map(each);
+            writeln!(f, "| {bytes} | {index} | {check} | {original} | {sum} | {ratio:.2} |")?;
+        }
+        Ok(())
+    }
+}
+
+#[cfg(test)]
+mod tests {
+    use super::*;
+
+    #[test]
+    fn numbers_have_commas() {
+        assert_eq!([0, 999, 1000, 64_000_000].map(number), ["0", "999", "1,000", "64,000,000"]);
+        assert_eq!([counted(1, "base"), counted(2, "base")], ["1 base", "2 bases"]);
+    }
+
+    #[test]
+    fn the_faster_original_is_compared_with() {
+        let mut found = Compared {
+            work: String::new(),
+            size: String::new(),
+            goal: 2.0,
+            bytes: 1,
+            ours: 1.0,
+            by_crate: 4.0,
+            by_c: Some(3.0),
+            limits: None,
+        };
+        assert_eq!(found.ratio(), 3.0);
+        found.by_crate = 2.0;
+        assert_eq!(found.ratio(), 2.0);
+        found.by_c = None;
+        assert_eq!(found.ratio(), 2.0);
+    }
+}
