@@ -48,15 +48,21 @@ impl Plan {
     }
 }
 
+/// Answers must be the same before they are timed.
+fn same<T: PartialEq>(what: &str, of: &str, found: T, expected: T) {
+    assert!(found == expected, "{what}: {of} differ from the original's");
+}
+
 /// Times the indexing and the checking of a file.
 fn file(plan: &Plan, report: &mut Report, what: &str, goal: f64, file: &[u8]) {
     let rows = over_crate::rows(file);
-    assert_eq!(over_c::rows(file), rows, "{what}: the original over two memchrs");
-    assert_eq!(ours::rows(file), rows, "{what}: the rows");
+    same(what, "the rows of the other original", &over_c::rows(file), &rows);
+    same(what, "the rows", &ours::rows(file), &rows);
     let text = wakeluri::index(file).and_then(|table| table.write_index()).expect("a good file");
     assert_eq!(wakeluri::check(file, &text), Ok(()), "{what}: the index leads to every base");
     let mut table = room(rows.len() * ROW_BYTES);
-    assert_eq!(ours::index_into(file, &mut table), rows.len() as u64, "{what}: the rows in a lent table");
+    same(what, "the counts of rows", ours::index_into(file, &mut table), rows.len() as u64);
+    same(what, "the rows in a lent table", &table[..], wakeluri::index(file).expect("a good file").as_bytes());
     let mut copied = room(file.len());
     let [copy, sum] = limits(file, &mut copied);
     let mut works: [Work; 7] = [
@@ -104,8 +110,8 @@ fn reads(plan: &Plan, report: &mut Report, fasta: &[u8], bases: u64, goals: [f64
     let ours = ours::Regions::new(fasta, &regions);
     let expected = by_crate.bases();
     assert_eq!(expected.len() as u64, READS as u64 * bases, "no base is missing");
-    assert!(by_c.bases() == expected, "the original over two memchrs");
-    assert!(ours.bases().as_ref() == Ok(&expected), "the bases of the regions");
+    same("reads", "the bases of the other original", &by_c.bases(), &expected);
+    same("reads", "the bases", ours.bases().as_ref(), Ok(&expected));
     let [mut lent, mut copied] = [(); 2].map(|()| room(2 * bases as usize + 64));
     let taken = in_turns(
         plan.rounds(),
@@ -139,9 +145,11 @@ fn complement(plan: &Plan, report: &mut Report, what: &str, goal: f64, letters: 
     let sequence = Sequence::new(Numbers::new(5).letters(letters, plan.size(100_000_000, 10_000_000)));
     let bases = sequence.bases();
     let expected = sequence.reverse_complement();
-    assert!(wakeluri::reverse_complement(bases).as_ref() == Ok(&expected), "{what}: the complement");
-    drop(expected);
     let [mut lent, mut copied] = [(); 2].map(|()| room(bases.len()));
+    same(what, "the complements", wakeluri::reverse_complement(bases).as_ref(), Ok(&expected));
+    same(what, "the counts", wakeluri::reverse_complement_into(bases, &mut lent), Ok(expected.len()));
+    same(what, "the complements in a lent room", &lent, &expected);
+    drop(expected);
     let into = || wakeluri::reverse_complement_into(std::hint::black_box(bases), &mut lent).expect("bases") as u64;
     let fresh = || std::hint::black_box(wakeluri::reverse_complement(bases).expect("bases")).len() as u64;
     let [copy, sum] = limits(bases, &mut copied);
@@ -167,14 +175,15 @@ fn complement(plan: &Plan, report: &mut Report, what: &str, goal: f64, letters: 
 fn index_text(plan: &Plan, report: &mut Report, fasta: &[u8]) {
     let kept = over_crate::Kept::new(fasta);
     let text = kept.written(0);
-    assert!(over_c::Kept::new(fasta).written(0) == text, "the original over two memchrs");
+    same("index text", "the text of the other original", &over_c::Kept::new(fasta).written(0), &text);
     let table = wakeluri::index(fasta).expect("a good file");
-    assert!(table.write_index().as_ref() == Ok(&text), "the index text");
+    same("index text", "the text", table.write_index().as_ref(), Ok(&text));
     let rows = over_crate::read_rows(&text);
-    assert!(over_c::read_rows(&text) == rows, "the original over two memchrs");
-    assert!(ours::read_rows(&text) == rows, "the rows of the index text");
+    same("index text", "the rows of the other original", &over_c::read_rows(&text), &rows);
+    same("index text", "the rows", &ours::read_rows(&text), &rows);
     let [mut lent, mut copied] = [(); 2].map(|()| room(text.len() + 4096));
-    assert!(ours::write_into(&table, &mut lent) == text.len() && lent[..text.len()] == text, "the text in a lent room");
+    let written = ours::write_into(&table, &mut lent);
+    same("index text", "the text in a lent room", &lent[..written], &text);
     let [copy, sum] = limits(&text, &mut copied);
     let mut works: [Work; 8] = [
         Box::new(|| over_crate::read_index(&text)),
@@ -294,4 +303,40 @@ fn main() {
         std::process::exit(2);
     };
     print!("{}", run(&plan));
+}
+
+#[cfg(test)]
+mod tests {
+    use super::*;
+
+    const QUICK: Plan = Plan { quick: true, only: String::new() };
+
+    #[test]
+    fn small_files_give_the_same_answers() {
+        let mut report = Report::default();
+        for end in [&b"\n"[..], b"\r\n"] {
+            let lines = Lines { bases: 7, end };
+            file(&QUICK, &mut report, "a genome", 1.0, &lines.genome(4000));
+            file(&QUICK, &mut report, "records", 1.0, &lines.records(50));
+            index_text(&QUICK, &mut report, &lines.records(50));
+            reads(&QUICK, &mut report, &lines.genome(4000), 100, [1.0; 2]);
+        }
+        assert_eq!((report.compared.len(), report.checked.len()), (14, 4));
+        let told = report.to_string();
+        assert!(told.contains("| index, records | ") && told.contains(" 50 records | 1 | "), "{told}");
+    }
+
+    #[test]
+    #[should_panic(expected = "a file: the rows differ from the original's")]
+    fn another_answer_is_found() {
+        same("a file", "the rows", &ours::rows(b">s\nAC\n"), &over_crate::rows(b">s\nACG\n"));
+    }
+
+    #[test]
+    fn words_are_understood() {
+        let plan = |words: &[&str]| Plan::of_words(words.iter().map(|word| word.to_string()));
+        assert!(plan(&[]).is_some_and(|plan| !plan.quick && plan.only.is_empty()));
+        assert!(plan(&["--only", "reads", "--quick"]).is_some_and(|plan| plan.quick && plan.only == "reads"));
+        assert!(plan(&["--only"]).is_none() && plan(&["--fast"]).is_none());
+    }
 }
