@@ -113,7 +113,11 @@ impl Compared {
 impl fmt::Display for Report {
     fn fmt(&self, f: &mut fmt::Formatter) -> fmt::Result {
         let [by_crate, by_c] = self.memchrs.map(|speed| speed / 1e9);
-        writeln!(f, "memchr over a megabyte: the crate's {by_crate:.1} GB/s, the C library's {by_c:.1} GB/s.\n")?;
+        writeln!(f, "memchr over a megabyte: the crate's {by_crate:.1} GB/s, the C library's {by_c:.1} GB/s.")?;
+        writeln!(
+            f,
+            "Every page of the buffers, and of rooms that are lent, was written to before anything was timed.\n"
+        )?;
         if !self.compared.is_empty() {
             writeln!(
                 f,
