@@ -6,3 +6,4 @@ pub mod Same
 pub mod Sums
 pub mod Alike
 pub mod Clear
+pub mod Blocks

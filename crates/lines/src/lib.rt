@@ -7,6 +7,7 @@ ghost use lib.ListN.{length, take, drop};
 ghost use Rattle.lines.specs.Lines.{lineEnd, chop, basesOf, contentOf, firstLine, seqAt, none, readLine};
 ghost use Rattle.lines.specs.Alike.{firstLike, alike};
 ghost use Rattle.lines.specs.Clear.{hasLf};
+ghost use Rattle.lines.specs.Blocks.{lfInEither};
 
 // A line: all its bytes, and its bases.
 pub struct Line {
@@ -132,8 +133,44 @@ pub fn sequence_line(s: &[u8], at: usize) -> Line
     }
 }
 
-// Is one of the `n` bytes from `at` on an LF.
-fn lf_within(s: &[u8], at: usize, n: usize) -> bool
+// Is one of the 16 bytes from `p` on, or of the 16 from `q` on, an LF. All are looked at, which the compiler does at once.
+fn lf_in_either_16(s: &[u8], p: usize, q: usize) -> bool
+    requires { ⌜ (p + 16 ≤ length (now s)) × (q + 16 ≤ length (now s)) ⌝ }
+    ensures { λ r. ⌜ r ≡ lfInEither (now (s .entry)) p q 16 ⌝ }
+{
+    let mut any = false;
+    for k in 0..16 {
+        any = any | (s[p + k] == 10) | (s[q + k] == 10);
+    }
+    any
+}
+
+// Is one of the 32 bytes from `p` on, or of the 32 from `q` on, an LF.
+fn lf_in_either_32(s: &[u8], p: usize, q: usize) -> bool
+    requires { ⌜ (p + 32 ≤ length (now s)) × (q + 32 ≤ length (now s)) ⌝ }
+    ensures { λ r. ⌜ r ≡ lfInEither (now (s .entry)) p q 32 ⌝ }
+{
+    let mut any = false;
+    for k in 0..32 {
+        any = any | (s[p + k] == 10) | (s[q + k] == 10);
+    }
+    any
+}
+
+// Is one of the 64 bytes from `p` on, or of the 64 from `q` on, an LF.
+fn lf_in_either_64(s: &[u8], p: usize, q: usize) -> bool
+    requires { ⌜ (p + 64 ≤ length (now s)) × (q + 64 ≤ length (now s)) ⌝ }
+    ensures { λ r. ⌜ r ≡ lfInEither (now (s .entry)) p q 64 ⌝ }
+{
+    let mut any = false;
+    for k in 0..64 {
+        any = any | (s[p + k] == 10) | (s[q + k] == 10);
+    }
+    any
+}
+
+// Is one of the `n` bytes from `at` on an LF: byte by byte.
+fn lf_among_few(s: &[u8], at: usize, n: usize) -> bool
     requires { ⌜ at + n ≤ length (now s) ⌝ }
     ensures { λ r. ⌜ r ≡ hasLf (take n (drop at (now (s .entry)))) ⌝ }
 {
@@ -145,6 +182,43 @@ fn lf_within(s: &[u8], at: usize, n: usize) -> bool
         k += 1;
     }
     false
+}
+
+// Is one of the `n` bytes from `at` on an LF, where there are 128 at least: by blocks of 128, the last of which ends where they end.
+fn lf_among_many(s: &[u8], at: usize, n: usize) -> bool
+    requires { ⌜ (128 ≤ n) × (at + n ≤ length (now s)) ⌝ }
+    ensures { λ r. ⌜ r ≡ hasLf (take n (drop at (now (s .entry)))) ⌝ }
+{
+    let mut k = 0;
+    while 128 < n - k {
+        let p = at + k;
+        if lf_in_either_64(s, p, p + 64) {
+            return true;
+        }
+        k += 128;
+    }
+    let q = at + (n - 128);
+    lf_in_either_64(s, q, q + 64)
+}
+
+// Is one of the `n` bytes from `at` on an LF. Two blocks that overlap are all of them.
+fn lf_within(s: &[u8], at: usize, n: usize) -> bool
+    requires { ⌜ at + n ≤ length (now s) ⌝ }
+    ensures { λ r. ⌜ r ≡ hasLf (take n (drop at (now (s .entry)))) ⌝ }
+{
+    if n < 16 {
+        return lf_among_few(s, at, n);
+    }
+    if n <= 32 {
+        return lf_in_either_16(s, at, at + (n - 16));
+    }
+    if n <= 64 {
+        return lf_in_either_32(s, at, at + (n - 32));
+    }
+    if n <= 128 {
+        return lf_in_either_64(s, at, at + (n - 64));
+    }
+    lf_among_many(s, at, n)
 }
 
 // Is the sequence line at `at` ended by an LF, with the width and the bases of `like`: it is looked for where its end should be.

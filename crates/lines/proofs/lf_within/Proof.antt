@@ -1,69 +1,79 @@
--- `lines::lf_within` meets its contract: what the bytes from the place looked at say stays what all of them say.
+-- `lines::lf_within` meets its contract: the first block and the last are all of the bytes.
 -- Assumes nothing.
-use Prim.Native.Nat.{_+_, _-_, _≤_}
-use mathlib.Core.Path.{_≡_, sym, _∙_, ap}
+use mathlib.Core.Path.{_∙_}
 use native.Mathlib.Omega.{arith}
-use native.Mathlib.Numerals.{add-one}
-use native.Mathlib.Nat.{add-zero, sub-zero}
 use borrow.Author.Needs.{needs}
-use lib.ListN.{length, take, drop}
-use Rattle.lines.specs.Clear.{hasLf, lf-here, lf-on, lf-none}
+use Rattle.lines.specs.Blocks.{either-all}
 use Rattle.lines.proofs.lf_within.Statement.{statement}
 use Rattle.lines.proofs.lf_within.Tie as tie
 
-abbrev Inv-loop : tie.InvT-loop
-Inv-loop s at n k₀ k = (k ≤ n) × (hasLf (take (n - k) (drop (at + k) s)) ≡ hasLf (take n (drop at s)))
+lf-among-few-requires : tie.Need-lf-among-few-requires
+lf-among-few-requires c κs = search needs
 
-abbrev μ-loop : tie.MeasureT-loop
-μ-loop s at n k₀ k = n - k
+returns : tie.Need-returns
+returns c = search needs
 
-loop-holds : tie.Need-loop-holds Inv-loop μ-loop
-loop-holds c = (omega arith, rw (add-zero (c .args .at), sub-zero (c .args .n)))
+add-lf-in-either-16 : tie.Need-add-lf-in-either-16
+add-lf-in-either-16 c = search needs
 
-add-if1 : tie.Need-add-if1 Inv-loop μ-loop
-add-if1 c = search needs
+lf-in-either-16-requires : tie.Need-lf-in-either-16-requires
+lf-in-either-16-requires c κs = search needs
 
-shared-slice-read-if1 : tie.Need-shared-slice-read-if1 Inv-loop μ-loop
-shared-slice-read-if1 c = search needs
-
-returns : tie.Need-returns Inv-loop μ-loop
-returns c =
-    let l = c .before .before .before in
-    let a = l .before .args in
-    sym (lf-here (a .s .now) (a .at) (a .n) (l .loop .k) (omega arith) (omega arith) (c .if1 .taken)) ∙ l .loop .inv .1
-
-add-k : tie.Need-add-k Inv-loop μ-loop
-add-k c = search needs
-
-loop-less : tie.Need-loop-less Inv-loop μ-loop
-loop-less c = search needs
-
-loop-again : tie.Need-loop-again Inv-loop μ-loop
-loop-again c =
-    let a = c .before .before .before .before .args in
-    let k = c .before .before .before .loop .k in
-    let q : a .at + (k + 1) ≡ a .at + k + 1 = omega arith in (
-      omega arith,
-      rw (q, add-one (a .at + k), add-one k) (lf-on (a .s .now) (a .at) (a .n) k (omega arith) (omega arith) (c .if1 .left)) ∙ c .before .before .before .loop .inv .1,
-    )
-
-returns-2 : tie.Need-returns-2 Inv-loop μ-loop
+returns-2 : tie.Need-returns-2
 returns-2 c =
-    let a = c .before .before .args in
-    let k = c .before .loop .k in
-    sym (lf-none (a .n - k) (drop (a .at + k) (a .s .now)) (omega arith)) ∙ c .before .loop .inv .1
+    let a = c .before .before .before .before .args in
+    c .lf-in-either-16 .ensures ∙ either-all (a .s .now) (a .at) 16 (a .n) (omega arith) (omega arith)
+
+sub-lf-in-either-32 : tie.Need-sub-lf-in-either-32
+sub-lf-in-either-32 c = search needs
+
+add-lf-in-either-32 : tie.Need-add-lf-in-either-32
+add-lf-in-either-32 c = search needs
+
+lf-in-either-32-requires : tie.Need-lf-in-either-32-requires
+lf-in-either-32-requires c κs = search needs
+
+returns-3 : tie.Need-returns-3
+returns-3 c =
+    let a = c .before .before .before .before .before .args in
+    c .lf-in-either-32 .ensures ∙ either-all (a .s .now) (a .at) 32 (a .n) (omega arith) (omega arith)
+
+sub-lf-in-either-64 : tie.Need-sub-lf-in-either-64
+sub-lf-in-either-64 c = search needs
+
+add-lf-in-either-64 : tie.Need-add-lf-in-either-64
+add-lf-in-either-64 c = search needs
+
+lf-in-either-64-requires : tie.Need-lf-in-either-64-requires
+lf-in-either-64-requires c κs = search needs
+
+returns-4 : tie.Need-returns-4
+returns-4 c =
+    let a = c .before .before .before .before .before .before .args in
+    c .lf-in-either-64 .ensures ∙ either-all (a .s .now) (a .at) 64 (a .n) (omega arith) (omega arith)
+
+lf-among-many-requires : tie.Need-lf-among-many-requires
+lf-among-many-requires c κs = search needs
+
+returns-5 : tie.Need-returns-5
+returns-5 c = search needs
 
 pub lf-within-spec : {M : Type 1} → statement M
 lf-within-spec =
     tie.close
     (tie.spec
-    Inv-loop
-    μ-loop
-    loop-holds
-    add-if1
-    shared-slice-read-if1
+    lf-among-few-requires
     returns
-    add-k
-    loop-less
-    loop-again
-    returns-2)
+    add-lf-in-either-16
+    lf-in-either-16-requires
+    returns-2
+    sub-lf-in-either-32
+    add-lf-in-either-32
+    lf-in-either-32-requires
+    returns-3
+    sub-lf-in-either-64
+    add-lf-in-either-64
+    lf-in-either-64-requires
+    returns-4
+    lf-among-many-requires
+    returns-5)
