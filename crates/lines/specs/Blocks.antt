@@ -33,7 +33,7 @@ lf-one b = go (eqb b 10)
     go true = refl
     go false = refl
 
-lf-more : (s : List ℕ) (p k : ℕ) → p + k < length s → hasLf (take (k + 1) (drop p s)) ≡ (hasLf (take k (drop p s)) || eqb (getD s (p + k) 0) 10)
+pub lf-more : (s : List ℕ) (p k : ℕ) → p + k < length s → hasLf (take (k + 1) (drop p s)) ≡ (hasLf (take k (drop p s)) || eqb (getD s (p + k) 0) 10)
 lf-more s p k h =
     rw (add-one k, take-suc (drop p s) k 0 (omega (arith, length-drop p s)), getD-drop p s k 0, lf-append (take k (drop p s)) (getD s (p + k) 0 ∷ []), lf-one (getD s (p + k) 0))
 

@@ -7,3 +7,4 @@ pub mod Sums
 pub mod Alike
 pub mod Clear
 pub mod Blocks
+pub mod FirstLf

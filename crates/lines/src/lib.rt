@@ -1,13 +1,15 @@
 // The lines of a file: where a line ends, what it holds, and a place in a file that moves on by a line. All that knows of LF and
 // CR is here. Every function takes any bytes and any place, and refuses nothing: where there is no line, the answer says so.
 ghost use mathlib.Core.Path.{_≡_};
-ghost use mathlib.Core.Bool.{false};
-ghost use Prim.Native.Nat.{_+_, _≤_, _<_};
+ghost use mathlib.Core.Bool.{cond};
+ghost use Prim.Native.Nat.{_+_, _≤_, _<_, max};
 ghost use lib.ListN.{length, take, drop};
+ghost use lib.Dec.{eqb};
 ghost use Rattle.lines.specs.Lines.{lineEnd, chop, basesOf, contentOf, firstLine, seqAt, none, readLine};
 ghost use Rattle.lines.specs.Alike.{firstLike, alike};
 ghost use Rattle.lines.specs.Clear.{hasLf};
 ghost use Rattle.lines.specs.Blocks.{lfInEither};
+ghost use Rattle.lines.specs.FirstLf.{leftAtLf};
 
 // A line: all its bytes, and its bases.
 pub struct Line {
@@ -32,16 +34,41 @@ pub enum Step {
     End,
 }
 
-// Is one of the 16 bytes from `i` on an LF. All are looked at, which the compiler does at once; if none is, the line goes on behind them.
-fn ends_within(s: &[u8], i: usize) -> bool
-    requires { ⌜ i + 16 ≤ length (now s) ⌝ }
-    ensures { λ r. ⌜ (r ≡ false → lineEnd (now (s .entry)) (i + 16) ≡ lineEnd (now (s .entry)) i) ⌝ }
+// `left` where a byte is an LF, else 0.
+fn left_if_lf(b: u8, left: u8) -> u8
+    ensures { λ r. ⌜ r ≡ cond (eqb b 10) left 0 ⌝ }
+{
+    if b == 10 { left } else { 0 }
+}
+
+// The greater of two numbers.
+fn greater(a: u8, b: u8) -> u8
+    ensures { λ r. ⌜ r ≡ max a b ⌝ }
+{
+    if a < b { b } else { a }
+}
+
+// Of the 64 bytes from `i` on, how many are left at the first LF, with it; 0 where none is one. All are looked at, which the compiler
+// does at once: the first LF is the one with most bytes left.
+fn left_at_lf(s: &[u8], i: usize) -> usize
+    requires { ⌜ i + 64 ≤ length (now s) ⌝ }
+    ensures { λ r. ⌜ r ≡ leftAtLf 64 (drop i (now (s .entry))) ⌝ }
+{
+    let mut left: u8 = 0;
+    for k in 0..64 {
+        left = greater(left, left_if_lf(s[i + k], (64 - k) as u8));
+    }
+    left as usize
+}
+
+// Is one of the 64 bytes from `i` on an LF.
+fn lf_in_64(s: &[u8], i: usize) -> bool
+    requires { ⌜ i + 64 ≤ length (now s) ⌝ }
+    ensures { λ r. ⌜ r ≡ hasLf (take 64 (drop i (now (s .entry)))) ⌝ }
 {
     let mut any = false;
-    for k in 0..16 {
-        if s[i + k] == 10 {
-            any = true;
-        }
+    for k in 0..64 {
+        any = any | (s[i + k] == 10);
     }
     any
 }
@@ -60,21 +87,38 @@ fn line_end_near(s: &[u8], at: usize) -> usize
     i
 }
 
-// The offset just past the line that begins at `at`; `at` itself at or past the end. Goes by blocks of 16 bytes.
-pub fn line_end(s: &[u8], at: usize) -> usize
+// The offset just past the line that begins at `at`, by blocks of 64 bytes: most have no LF.
+fn line_end_far(s: &[u8], at: usize) -> usize
     ensures { λ r. ⌜ r ≡ lineEnd (now (s .entry)) at ⌝ }
 {
     let mut i = at;
     while i < s.len() {
-        if s.len() - i < 16 {
+        if s.len() - i < 64 {
             return line_end_near(s, i);
         }
-        if ends_within(s, i) {
-            return line_end_near(s, i);
+        if lf_in_64(s, i) {
+            return i + (65 - left_at_lf(s, i));
         }
-        i += 16;
+        i += 64;
     }
     i
+}
+
+// The offset just past the line that begins at `at`; `at` itself at or past the end. Most lines end in the first 64 bytes.
+pub fn line_end(s: &[u8], at: usize) -> usize
+    ensures { λ r. ⌜ r ≡ lineEnd (now (s .entry)) at ⌝ }
+{
+    if s.len() < 64 {
+        return line_end_near(s, at);
+    }
+    if s.len() - 64 < at {
+        return line_end_near(s, at);
+    }
+    let left = left_at_lf(s, at);
+    if left == 0 {
+        return line_end_far(s, at + 64);
+    }
+    at + (65 - left)
 }
 
 // How many bytes are left of `l` without a final `b`.

@@ -1,68 +1,70 @@
--- `lines::line_end` meets its contract: a block without an LF leaves the end where it is, and the rest is gone through byte by byte.
+-- `lines::line_end` meets its contract: the first block tells the end, or has no LF and leaves it where it is.
 -- Assumes nothing.
-use Prim.Native.Nat.{_-_}
 use mathlib.Core.Path.{_≡_, sym, _∙_}
 use native.Mathlib.Omega.{arith}
 use borrow.Author.Needs.{needs}
-use lib.ListN.{length}
-use Rattle.lines.specs.Lines.{lineEnd}
-use Rattle.lines.specs.Laws.{lineLen-end}
+use lib.ListN.{drop}
+use Rattle.lines.specs.FirstLf.{left-le, left-clear, end-past, end-here}
 use Rattle.lines.proofs.line_end.Statement.{statement}
 use Rattle.lines.proofs.line_end.Tie as tie
 
-abbrev Inv-loop : tie.InvT-loop
-Inv-loop s at i₀ i = lineEnd s i ≡ lineEnd s at
-
-abbrev μ-loop : tie.MeasureT-loop
-μ-loop s at i₀ i = length s - i
-
-loop-holds : tie.Need-loop-holds Inv-loop μ-loop
-loop-holds c = search needs
-
-sub-if1 : tie.Need-sub-if1 Inv-loop μ-loop
-sub-if1 c = search needs
-
-line-end-near-requires : tie.Need-line-end-near-requires Inv-loop μ-loop
+line-end-near-requires : tie.Need-line-end-near-requires
 line-end-near-requires c κs = search needs
 
-returns : tie.Need-returns Inv-loop μ-loop
-returns c = c .line-end-near .ensures ∙ c .before .before .before .loop .inv
+returns : tie.Need-returns
+returns c = search needs
 
-ends-within-requires : tie.Need-ends-within-requires Inv-loop μ-loop
-ends-within-requires c κs = omega arith
+sub-if2 : tie.Need-sub-if2
+sub-if2 c = search needs
 
-line-end-near-requires-2 : tie.Need-line-end-near-requires-2 Inv-loop μ-loop
+line-end-near-requires-2 : tie.Need-line-end-near-requires-2
 line-end-near-requires-2 c κs = search needs
 
-returns-2 : tie.Need-returns-2 Inv-loop μ-loop
-returns-2 c = c .line-end-near2 .ensures ∙ c .before .before .before .before .before .loop .inv
+returns-2 : tie.Need-returns-2
+returns-2 c = search needs
 
-add-i : tie.Need-add-i Inv-loop μ-loop
-add-i c = omega arith
+left-at-lf-requires : tie.Need-left-at-lf-requires
+left-at-lf-requires c κs = search needs
 
-loop-less : tie.Need-loop-less Inv-loop μ-loop
-loop-less c = omega arith
+add-line-end-far : tie.Need-add-line-end-far
+add-line-end-far c = search needs
 
-loop-again : tie.Need-loop-again Inv-loop μ-loop
-loop-again c = c .before .ends-within .ensures (c .if2 .left) ∙ c .before .before .before .before .loop .inv
+line-end-far-requires : tie.Need-line-end-far-requires
+line-end-far-requires c κs = search needs
 
-returns-3 : tie.Need-returns-3 Inv-loop μ-loop
-returns-3 c = omega (arith, lineLen-end (c .before .before .before .args .s .now) (c .before .loop .i) (c .loop-test .left), c .before .loop .inv)
+returns-3 : tie.Need-returns-3
+returns-3 c =
+    let b = c .before .before in
+    let a = b .before .before .before .before .args in
+    c .line-end-far .ensures ∙ end-past (a .s .now) (a .at) 64 (omega arith) (left-clear 64 (drop (a .at) (a .s .now)) (sym (b .left-at-lf .ensures) ∙ c .before .if3 .taken))
+
+sub-result : tie.Need-sub-result
+sub-result c =
+    let a = c .before .before .before .before .before .args in
+    omega (arith, c .before .left-at-lf .ensures, left-le 64 (drop (a .at) (a .s .now)))
+
+add-result : tie.Need-add-result
+add-result c = search needs
+
+returns-4 : tie.Need-returns-4
+returns-4 c =
+    let a = c .before .before .before .before .before .args in
+    let e = c .before .left-at-lf .ensures in
+    rw e (end-here (a .s .now) (a .at) 64 (omega (arith, e)))
 
 pub line-end-spec : {M : Type 1} → statement M
 line-end-spec =
     tie.close
     (tie.spec
-    Inv-loop
-    μ-loop
-    loop-holds
-    sub-if1
     line-end-near-requires
     returns
-    ends-within-requires
+    sub-if2
     line-end-near-requires-2
     returns-2
-    add-i
-    loop-less
-    loop-again
-    returns-3)
+    left-at-lf-requires
+    add-line-end-far
+    line-end-far-requires
+    returns-3
+    sub-result
+    add-result
+    returns-4)
