@@ -13,7 +13,6 @@ ghost use mathlib.Core.List.{_++_, map};
 ghost use mathlib.Core.Bool.{false, _&&_};
 ghost use lib.ListN.{length, drop};
 ghost use lib.Dec.{leb, ltb};
-ghost use lib.Seq.{paste};
 ghost use Rattle.record.specs.Bases.{byteAt};
 ghost use Rattle.record.specs.Place.{placeIn};
 ghost use Rattle.region.specs.Region.{leaves, badBounds, startOf, endOf, basesTo};
@@ -106,19 +105,6 @@ fn offset_in(x: Record, p: Position) -> usize
     }
 }
 
-// Copies `n` bytes from `start` on to the output, from `to` on.
-fn copy_run(file: &[u8], start: usize, n: usize, out: &mut [u8], to: usize)
-    requires { ⌜ start + n ≤ length (now file) ⌝ }
-    requires { ⌜ to + n ≤ length (now out) ⌝ }
-    ensures { λ _. ⌜ now (out .exit) ≡ paste (now (out .entry)) to (drop start (now (file .entry))) n ⌝ }
-{
-    let mut k = 0;
-    while k < n {
-        out[to + k] = file[start + k];
-        k += 1;
-    }
-}
-
 // The offset of the next line, where the bases of a line end at offset `end`.
 fn next_line(x: Record, end: usize) -> usize
     requires { ⌜ (x .«line_bases» ≤ end + x .«line_width») × (end + x .«line_width» < 2 ^ 64 + x .«line_bases») ⌝ }
@@ -142,12 +128,12 @@ fn copy_bases(file: &[u8], x: Record, a: Position, n: usize, out: &mut [u8])
     let mut at = offset_in(x, a);
     let mut run = in_line(x, a, n);
     while run < n - k {
-        copy_run(file, at, run, out, k);
+        copying::copy_run(file, at, run, out, k);
         k += run;
         at = next_line(x, at + run);
         run = shorter(x.line_bases, n - k);
     }
-    copy_run(file, at, run, out, k);
+    copying::copy_run(file, at, run, out, k);
 }
 
 // Reads the bases from `first` to `last` of a record.

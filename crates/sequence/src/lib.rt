@@ -6,11 +6,10 @@ pub mod reader;
 use lines::Cursor;
 use lines::Span;
 use refusal::Refusal;
-ghost use Prim.Native.Nat.{_+_, _≤_};
+ghost use Prim.Native.Nat.{_≤_};
 ghost use mathlib.Core.Path.{_≡_};
-ghost use lib.ListN.{length, drop};
+ghost use lib.ListN.{length};
 ghost use lib.Dec.{leb};
-ghost use lib.Seq.{paste};
 ghost use Rattle.sequence.specs.Scan.{endsLine, skipTo, runAt, scanAt};
 ghost use Rattle.sequence.specs.Read.{leaves, written, scanInto, readLimit, readWhole, readRun};
 ghost use Rattle.sequence.specs.Laws.{pieceAt};
@@ -105,19 +104,6 @@ fn has_room(s: &[u8], at: usize, limit: usize, room: usize) -> bool
     count_bases(s, at, limit) <= room
 }
 
-// Copies `n` bytes from `start` on to the output, from `to` on.
-fn copy_run(s: &[u8], start: usize, n: usize, out: &mut [u8], to: usize)
-    requires { ⌜ start + n ≤ length (now s) ⌝ }
-    requires { ⌜ to + n ≤ length (now out) ⌝ }
-    ensures { λ _. ⌜ now (out .exit) ≡ paste (now (out .entry)) to (drop start (now (s .entry))) n ⌝ }
-{
-    let mut k = 0;
-    while k < n {
-        out[to + k] = s[start + k];
-        k += 1;
-    }
-}
-
 // Copies the bases of a scan for `limit` of them to the front of the output, where they have room.
 fn copy_bases(s: &[u8], at: usize, limit: usize, out: &mut [u8]) -> SequenceRead
     requires { ⌜ length (scanAt (now s) limit at .bases) ≤ length (now out) ⌝ }
@@ -135,7 +121,7 @@ fn copy_bases(s: &[u8], at: usize, limit: usize, out: &mut [u8]) -> SequenceRead
                 next: Cursor { at: start },
             };
         }
-        copy_run(s, start, taken, out, to);
+        copying::copy_run(s, start, taken, out, to);
         to += taken;
         i = start + taken;
     }

@@ -7,6 +7,7 @@ use borrow.Author.Needs.{needs}
 use native.Mathlib.Omega.{arith}
 use native.Mathlib.Nat.{sub-zero}
 use lib.ListN.{length}
+use Rattle.copying.specs.Laws.{copy-whole}
 use Rattle.sequence.specs.Scan.{scanAt}
 use Rattle.sequence.specs.Read.{written}
 use Rattle.sequence.specs.Laws.{Turn, piece-stop, piece-step, piece-full, filled, filled-start, filled-end, turn-fills}
@@ -46,7 +47,7 @@ turn : (c : tie.Else1 Inv-loop μ-loop)
 turn c = piece-step _ _ _ _ _ (c .before .before .loop-test .taken) (c .before .next-piece .ensures) (c .if1 .left)
 
 copy-run-requires : tie.Need-copy-run-requires Inv-loop μ-loop
-copy-run-requires c κs = let t = turn (c .before) in (omega arith, omega arith)
+copy-run-requires c κs = search needs
 
 add-to : tie.Need-add-to Inv-loop μ-loop
 add-to c = let t = turn (c .before .before .before .before) in search needs
@@ -61,7 +62,9 @@ loop-again : tie.Need-loop-again Inv-loop μ-loop
 loop-again c =
     let l = c .before .before .before .before .before .before .before in
     let t = turn (c .before .before .before .before) in
-    let f = turn-fills _ _ _ _ _ (l .loop .out) _ t (omega arith) (c .before .before .copy-run .ensures) in
+    let p = c .before .before .before .before .before .next-piece .result in
+    let w = copy-whole (l .loop .out) (l .loop .to) (l .before .before .before .args .s .now) (p .start) (p .length) (omega arith) (omega arith) in
+    let f = turn-fills _ _ _ _ _ (l .loop .out) _ t (omega arith) (c .before .before .copy-run .ensures ∙ w) in
     (omega arith, f .0 ∙ l .loop .inv .1, omega arith, f .1 ∙ l .loop .inv .3)
 
 same-length-2 : tie.Need-same-length-2 Inv-loop μ-loop

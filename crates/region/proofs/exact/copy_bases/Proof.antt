@@ -3,10 +3,13 @@
 -- every base with which a copy can begin there.
 -- Assumes nothing.
 use Prim.Native.Nat.{ℕ, _+_, _-_, _≤_}
-use mathlib.Core.Path.{_∙_}
-use lib.ListN.{length}
+use mathlib.Core.Path.{_≡_, _∙_}
+use lib.ListN.{length, drop}
+use lib.Seq.{paste}
 use borrow.Author.Needs.{needs}
 use native.Mathlib.Omega.{arith}
+use Rattle.copying.specs.Copied.{afterCopy}
+use Rattle.copying.specs.Laws.{copy-whole}
 use Rattle.region.specs.Inside.{turn-less}
 use Rattle.region.specs.Copy.{Starts, Lined, starts-fits, lined-start, lined-inside, lined-next, lined-fits, lined-end}
 use Rattle.region.proofs.exact.copy_bases.Statement.{statement}
@@ -39,11 +42,18 @@ here c = c .loop .inv _ (starts (c .before))
 inside : (c : tie.At-loop Inv-loop μ-loop) → let l = c .loop in (l .at + l .run ≤ length (c .before .before .before .before .before .args .file .now)) × (l .k + l .run ≤ length (l .out))
 inside c = let s = c .before .before .before .before .before in lined-inside _ _ _ _ _ (s .pre .0) (s .pre .1 .1) _ _ _ _ (here c)
 
+-- and is copied whole
+whole : (c : tie.At-loop Inv-loop μ-loop)
+    → let l = c .loop in
+    let s = drop (l .at) (c .before .before .before .before .before .args .file .now) in
+    afterCopy (l .out) (l .k) s (l .run) ≡ paste (l .out) (l .k) s (l .run)
+whole c = copy-whole _ _ _ _ _ (inside c .0) (inside c .1)
+
 sub-loop : tie.Need-sub-loop Inv-loop μ-loop
 sub-loop c = let l = here c in omega arith
 
 copy-run-requires : tie.Need-copy-run-requires Inv-loop μ-loop
-copy-run-requires c κs = inside (c .before .before)
+copy-run-requires c κs = search needs
 
 add-k : tie.Need-add-k Inv-loop μ-loop
 add-k c = omega (arith, inside (c .before .before .before .before .before))
@@ -70,11 +80,11 @@ loop-again : tie.Need-loop-again Inv-loop μ-loop
 loop-again c =
     let l = c .before .before .before .before .before .before in
     let s = l .before .before .before .before .before .before in
-    λ a t. rw (c .before .before .before .before .copy-run .ensures)
+    λ a t. rw (c .before .before .before .before .copy-run .ensures ∙ whole (l .before))
     (lined-next _ _ _ _ _ (t .bases) (s .pre .1 .1) _ _ _ _ (l .before .loop .inv a t) (l .loop-test .taken) _ _ (c .before .next-line .ensures) (c .shorter .ensures))
 
 copy-run-requires-2 : tie.Need-copy-run-requires-2 Inv-loop μ-loop
-copy-run-requires-2 c κs = inside (c .before .before)
+copy-run-requires-2 c κs = search needs
 
 same-length : tie.Need-same-length Inv-loop μ-loop
 same-length c = let l = here (c .before .before .before .before .before) in omega arith
@@ -83,7 +93,7 @@ returns : tie.Need-returns Inv-loop μ-loop
 returns c =
     let l = c .before .before .before .before .before in
     let s = l .before .before .before .before .before in
-    c .before .before .copy-run2 .ensures ∙ lined-end _ _ _ _ _ (s .pre .0) (s .pre .1 .1) _ _ _ _ (here l) (c .before .before .before .before .loop-test .left)
+    c .before .before .copy-run2 .ensures ∙ whole l ∙ lined-end _ _ _ _ _ (s .pre .0) (s .pre .1 .1) _ _ _ _ (here l) (c .before .before .before .before .loop-test .left)
 
 pub copy-bases-spec : {M : Type 1} → statement M
 copy-bases-spec =
