@@ -1,5 +1,5 @@
-// One copy of bytes, for all that write to a lent output: a few go byte by byte, more by blocks of 16 or 32 bytes, the last of which may
-// begin inside the one before. A copy takes what is there and what has room: it refuses nothing.
+// One copy of bytes, for all that write to a lent output. A few go byte by byte, more by blocks of 8, 16 or 32 bytes, the last of
+// which may begin inside the one before. A copy takes what is there and what has room: it refuses nothing.
 ghost use mathlib.Core.Path.{_≡_};
 ghost use Prim.Native.Nat.{_+_, _-_, _≤_, _<_, min};
 ghost use lib.ListN.{length, drop};
@@ -26,7 +26,22 @@ fn behind(bytes: usize, place: usize) -> usize
     bytes - place
 }
 
-// Copies 16 bytes. They are all read before one is written, so that they move together.
+// Copies 8 bytes. They are all read before one is written, so that they move together.
+fn put8(from: &[u8], start: usize, out: &mut [u8], to: usize)
+    requires { ⌜ start + 8 ≤ length (now from) ⌝ }
+    requires { ⌜ to + 8 ≤ length (now out) ⌝ }
+    ensures { λ _. ⌜ now (out .exit) ≡ paste (now (out .entry)) to (drop start (now (from .entry))) 8 ⌝ }
+{
+    let mut block = [0u8; 8];
+    for k in 0..8 {
+        block[k] = from[start + k];
+    }
+    for k in 0..8 {
+        out[to + k] = block[k];
+    }
+}
+
+// Copies 16 bytes, in the same way.
 fn put16(from: &[u8], start: usize, out: &mut [u8], to: usize)
     requires { ⌜ start + 16 ≤ length (now from) ⌝ }
     requires { ⌜ to + 16 ≤ length (now out) ⌝ }
@@ -69,8 +84,20 @@ fn copy_few(from: &[u8], start: usize, n: usize, out: &mut [u8], to: usize)
     }
 }
 
+// Copies 8 to 16 bytes by two blocks of 8.
+fn pair8(from: &[u8], start: usize, n: usize, out: &mut [u8], to: usize)
+    requires { ⌜ (8 ≤ n) × (n ≤ 16) ⌝ }
+    requires { ⌜ start + n ≤ length (now from) ⌝ }
+    requires { ⌜ to + n ≤ length (now out) ⌝ }
+    ensures { λ _. ⌜ now (out .exit) ≡ paste (now (out .entry)) to (drop start (now (from .entry))) n ⌝ }
+{
+    let last = n - 8;
+    put8(from, start, out, to);
+    put8(from, start + last, out, to + last);
+}
+
 // Copies 16 to 32 bytes by two blocks of 16.
-fn copy_pair(from: &[u8], start: usize, n: usize, out: &mut [u8], to: usize)
+fn pair16(from: &[u8], start: usize, n: usize, out: &mut [u8], to: usize)
     requires { ⌜ (16 ≤ n) × (n ≤ 32) ⌝ }
     requires { ⌜ start + n ≤ length (now from) ⌝ }
     requires { ⌜ to + n ≤ length (now out) ⌝ }
@@ -79,6 +106,18 @@ fn copy_pair(from: &[u8], start: usize, n: usize, out: &mut [u8], to: usize)
     let last = n - 16;
     put16(from, start, out, to);
     put16(from, start + last, out, to + last);
+}
+
+// Copies 32 to 64 bytes by two blocks of 32.
+fn pair32(from: &[u8], start: usize, n: usize, out: &mut [u8], to: usize)
+    requires { ⌜ (32 ≤ n) × (n ≤ 64) ⌝ }
+    requires { ⌜ start + n ≤ length (now from) ⌝ }
+    requires { ⌜ to + n ≤ length (now out) ⌝ }
+    ensures { λ _. ⌜ now (out .exit) ≡ paste (now (out .entry)) to (drop start (now (from .entry))) n ⌝ }
+{
+    let last = n - 32;
+    put32(from, start, out, to);
+    put32(from, start + last, out, to + last);
 }
 
 // Copies `n` bytes by blocks of 32; the last ends with the last byte.
@@ -97,6 +136,20 @@ fn copy_blocks(from: &[u8], start: usize, n: usize, out: &mut [u8], to: usize)
     put32(from, start + last, out, to + last);
 }
 
+// Copies fewer than 16 bytes.
+fn copy_short(from: &[u8], start: usize, n: usize, out: &mut [u8], to: usize)
+    requires { ⌜ n < 16 ⌝ }
+    requires { ⌜ n ≤ length (now from) - start ⌝ }
+    requires { ⌜ n ≤ length (now out) - to ⌝ }
+    ensures { λ _. ⌜ now (out .exit) ≡ paste (now (out .entry)) to (drop start (now (from .entry))) n ⌝ }
+{
+    if n < 8 {
+        copy_few(from, start, n, out, to);
+        return;
+    }
+    pair8(from, start, n, out, to);
+}
+
 // Copies `n` bytes, by the way that is quick for so many.
 fn copy_all(from: &[u8], start: usize, n: usize, out: &mut [u8], to: usize)
     requires { ⌜ n ≤ length (now from) - start ⌝ }
@@ -104,11 +157,15 @@ fn copy_all(from: &[u8], start: usize, n: usize, out: &mut [u8], to: usize)
     ensures { λ _. ⌜ now (out .exit) ≡ paste (now (out .entry)) to (drop start (now (from .entry))) n ⌝ }
 {
     if n < 16 {
-        copy_few(from, start, n, out, to);
+        copy_short(from, start, n, out, to);
         return;
     }
     if n < 32 {
-        copy_pair(from, start, n, out, to);
+        pair16(from, start, n, out, to);
+        return;
+    }
+    if n <= 64 {
+        pair32(from, start, n, out, to);
         return;
     }
     copy_blocks(from, start, n, out, to);

@@ -15,8 +15,10 @@ use Rattle.record.specs.Place.{placeOf, placeIn}
 use Rattle.record.specs.Laws.{place-wrap, place-run, run-mod, wrap-mod, getD-places}
 use Rattle.record.specs.EvenLines.{length-upFrom}
 use Rattle.record.specs.Bases.{byteAt, bytes-row}
+use Rattle.copying.specs.Copied.{afterCopy}
+use Rattle.copying.specs.Laws.{copy-whole}
 use Rattle.region.specs.Exact.{offsetsOf, inFile}
-use Rattle.region.specs.Inside.{length-offsets, inside-each, Turn, Addressable, turn, turn-stops, turn-goes, bases-start, bases-end}
+use Rattle.region.specs.Inside.{length-offsets, inside-le, inside-each, Turn, Addressable, turn, turn-stops, turn-goes, bases-start, bases-end}
 
 -- the bytes at some offsets written behind k bytes of the output
 unfoldable pub copied : List ℕ → ℕ → List ℕ → List ℕ → List ℕ
@@ -175,3 +177,29 @@ module _ (s : List ℕ) (x : Record) (a n : ℕ) (before : List ℕ) (r : Addres
       lined-fits =
           let t = turn x a n (k + run) (min (n - (k + run)) (x .«line_bases»)) (r .some-bases) (r .from-one) (omega arith) (next-turn _ refl) in
           omega (arith, t .some, lined-place, copying-inside s x a n before (k + run) (paste out k (drop at s) run) lined-step (min (n - (k + run)) (x .«line_bases»)) t)
+
+-- ---- bases of one line
+
+-- n bases of one line, where a file has so many bytes from the first of them on
+module _ (s : List ℕ) (x : Record) (a n : ℕ) (r : Addressable x a n) (one : n ≤ x .«line_bases» - (a - 1) % x .«line_bases») (rest : ℕ) (e : rest ≡ length s - placeIn x (a - 1)) where
+  one-turn : Turn x a n 0 n
+  one-turn = turn x a n 0 n (r .some-bases) (r .from-one) (r .some) (rw (add-zero a) (omega arith))
+
+  from-start : rest ≡ length s - placeIn x (a + 0 - 1)
+  from-start = rw (add-zero a) e
+
+  -- one is outside
+  pub line-stops : rest < n → rest ≡ inFile (length s) (offsetsOf x a n)
+  line-stops h = sym (rw (bases-start x a n) at (turn-stops x a n 0 n one-turn (length s) rest from-start h))
+
+  -- all are inside
+  pub line-goes : n ≤ rest → n ≡ inFile (length s) (offsetsOf x a n)
+  line-goes h = omega (arith, rw (bases-start x a n) at (turn-goes x a n 0 n one-turn (length s) rest from-start h), inside-le (length s) (offsetsOf x a n), length-offsets x a n)
+
+  pub line-copied : (out : List ℕ) → n ≤ length out → n ≤ rest → afterCopy out 0 (drop (length s - rest) s) n ≡ map (byteAt s) (offsetsOf x a n) ++ drop n out
+  line-copied out room h =
+      copy-whole out 0 s (length s - rest) n (omega arith) (omega arith)
+      ∙ lined-end s x a n out r room 0 (length s - rest) n out (lined-start s x a n out (length s - rest) n starts) (omega arith)
+    where
+      starts : Starts s x a n (length s - rest) n
+      starts = record { bases = r; inside = sym (line-goes h); place = omega (arith, r .some); column = omega arith }

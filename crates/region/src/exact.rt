@@ -136,7 +136,38 @@ fn copy_bases(file: &[u8], x: Record, a: Position, n: usize, out: &mut [u8])
     copying::copy_run(file, at, run, out, k);
 }
 
-// Reads the bases from `first` to `last` of a record.
+// Reads `n` bases from base `first` on, which are in one line: they lie one behind the other.
+fn read_line(file: &[u8], x: Record, first: Position, n: usize, out: &mut [u8]) -> RegionRead
+    requires { ⌜ Addressable x (first .0) n ⌝ }
+    requires { ⌜ n ≤ x .«line_bases» - (first .0 - 1) % x .«line_bases» ⌝ }
+    requires { ⌜ n ≤ length (now out) ⌝ }
+    ensures { λ r. ⌜ leaves r (now (out .exit)) ≡ basesFrom (length (now (file .entry))) (byteAt (now (file .entry))) x (first .0) n (now (out .entry)) ⌝ }
+{
+    let rest = bytes_from(file.len(), x, first);
+    if rest < n {
+        let base = first.0 + rest as u64;
+        return RegionRead::Refused(Refusal::NotInFile { base });
+    }
+    copying::copy_run(file, file.len() - rest, n, out, 0);
+    RegionRead::Bytes(n)
+}
+
+// Reads `n` bases from base `first` on, in any number of lines.
+fn read_lines(file: &[u8], x: Record, first: Position, n: usize, out: &mut [u8]) -> RegionRead
+    requires { ⌜ Addressable x (first .0) n ⌝ }
+    requires { ⌜ n ≤ length (now out) ⌝ }
+    ensures { λ r. ⌜ leaves r (now (out .exit)) ≡ basesFrom (length (now (file .entry))) (byteAt (now (file .entry))) x (first .0) n (now (out .entry)) ⌝ }
+{
+    let inside = count_inside(file.len(), x, first, n);
+    if inside < n {
+        let base = first.0 + inside as u64;
+        return RegionRead::Refused(Refusal::NotInFile { base });
+    }
+    copy_bases(file, x, first, n, out);
+    RegionRead::Bytes(n)
+}
+
+// Reads the bases from `first` to `last` of a record. A read in one line divides once.
 fn read_bases(file: &[u8], x: Record, first: Position, last: Position, out: &mut [u8]) -> RegionRead
     requires { ⌜ (0 < x .«line_bases») × (0 < x .«line_width») × (0 < first .0) × (first .0 ≤ last .0) ⌝ }
     ensures { λ r. ⌜ leaves r (now (out .exit)) ≡ basesFrom (length (now (file .entry))) (byteAt (now (file .entry))) x (first .0) (basesTo (first .0) (last .0)) (now (out .entry)) ⌝ }
@@ -146,13 +177,10 @@ fn read_bases(file: &[u8], x: Record, first: Position, last: Position, out: &mut
         return RegionRead::Refused(Refusal::NoRoom { needed });
     }
     let n = needed as usize;
-    let inside = count_inside(file.len(), x, first, n);
-    if inside < n {
-        let base = first.0 + inside as u64;
-        return RegionRead::Refused(Refusal::NotInFile { base });
+    if in_line(x, first, n) < n {
+        return read_lines(file, x, first, n, out);
     }
-    copy_bases(file, x, first, n, out);
-    RegionRead::Bytes(n)
+    read_line(file, x, first, n, out)
 }
 
 // Reads a region of a record, by bounds that are not bad.

@@ -1,11 +1,11 @@
--- `copying::copy_pair` meets its contract: the second block, which may begin inside the first, brings the copy to `n` bytes.
+-- `copying::pair16` meets its contract: the second block, which may begin inside the first, brings the copy to `n` bytes.
 -- Assumes nothing.
 use Prim.Native.Nat.{_-_}
 use borrow.Author.Needs.{needs}
 use native.Mathlib.Omega.{arith}
 use Rattle.copying.specs.Laws.{paste-pair}
-use Rattle.copying.proofs.copy_pair.Statement.{statement}
-use Rattle.copying.proofs.copy_pair.Tie as tie
+use Rattle.copying.proofs.pair16.Statement.{statement}
+use Rattle.copying.proofs.pair16.Tie as tie
 
 sub-last : tie.Need-sub-last
 sub-last c = search needs
@@ -31,7 +31,7 @@ returns c =
     let a = f .before .before .before .before .args in
     paste-pair (a .out .now) _ _ (a .from .now) (a .to) (a .start) (a .n) 16 (a .n - 16) (f .put16 .ensures) (c .before .before .put162 .ensures) (omega arith) (omega arith) (omega arith) (omega arith)
 
-pub copy-pair-spec : {M : Type 1} → statement M
-copy-pair-spec =
+pub pair16-spec : {M : Type 1} → statement M
+pair16-spec =
     tie.close
     (tie.spec sub-last put16-requires add-put16 add-put16-2 put16-requires-2 same-length returns)
