@@ -120,6 +120,18 @@ fn pair32(from: &[u8], start: usize, n: usize, out: &mut [u8], to: usize)
     put32(from, start + last, out, to + last);
 }
 
+// Copies 64 to 128 bytes by two blocks of 64, each of which is a pair.
+fn pair64(from: &[u8], start: usize, n: usize, out: &mut [u8], to: usize)
+    requires { ⌜ (64 ≤ n) × (n ≤ 128) ⌝ }
+    requires { ⌜ start + n ≤ length (now from) ⌝ }
+    requires { ⌜ to + n ≤ length (now out) ⌝ }
+    ensures { λ _. ⌜ now (out .exit) ≡ paste (now (out .entry)) to (drop start (now (from .entry))) n ⌝ }
+{
+    let last = n - 64;
+    pair32(from, start, 64, out, to);
+    pair32(from, start + last, 64, out, to + last);
+}
+
 // Copies `n` bytes by blocks of 32; the last ends with the last byte.
 fn copy_blocks(from: &[u8], start: usize, n: usize, out: &mut [u8], to: usize)
     requires { ⌜ 32 ≤ n ⌝ }
@@ -166,6 +178,10 @@ fn copy_all(from: &[u8], start: usize, n: usize, out: &mut [u8], to: usize)
     }
     if n <= 64 {
         pair32(from, start, n, out, to);
+        return;
+    }
+    if n <= 128 {
+        pair64(from, start, n, out, to);
         return;
     }
     copy_blocks(from, start, n, out, to);

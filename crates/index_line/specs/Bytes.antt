@@ -7,7 +7,7 @@ use native.Mathlib.Omega.{arith}
 use native.Mathlib.Numerals.{add-one}
 use native.Mathlib.Nat.{add-zero, zero-add, add-assoc, suc-add, add-suc}
 use lib.ListN.{length, take, drop, getD, set, length-append, length-drop, take-append-drop, drop-of-length-le}
-use lib.Seq.{drop-cons, take-all, length-take-le, take-suc, set-at, set-split, append-snoc, take-at, drop-append-add, drop-drop}
+use lib.Seq.{drop-cons, take-all, length-take-le, take-suc, set-at, set-split, append-snoc, take-at, drop-append-add, drop-drop, take-length, paste}
 use lib.Dec.{eqb, ltb}
 use borrow.Author.Tests.{lt-ltb, le-ltb}
 
@@ -82,6 +82,11 @@ overlaid-front out at next b s e h =
 pub overlaid-none : (out : List ℕ) (at : ℕ) → out ≡ overlaid out at []
 unfolding overlaid
 overlaid-none out at = rw add-zero (sym (take-append-drop at out))
+
+-- a copy of all bytes lays them over
+pub overlaid-paste : (out : List ℕ) (at : ℕ) (s : List ℕ) → paste out at s (length s) ≡ overlaid out at s
+unfolding overlaid
+overlaid-paste out at s = rw (take-length s) (append-assoc (take at out) s (drop (at + length s) out))
 
 -- bytes laid over behind others
 drop-past : (xs ys : List ℕ) (n m : ℕ) → length xs ≡ n → drop (n + m) (xs ++ ys) ≡ drop m ys

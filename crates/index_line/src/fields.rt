@@ -157,11 +157,7 @@ fn put_front(s: &[u8], out: &mut [u8])
     requires { ⌜ length (now s) ≤ length (now out) ⌝ }
     ensures { λ _. ⌜ now (out .exit) ≡ overlaid (now (out .entry)) 0 (now (s .entry)) ⌝ }
 {
-    let mut i = 0;
-    while i < s.len() {
-        out[i] = s[i];
-        i += 1;
-    }
+    copying::copy_run(s, 0, s.len(), out, 0);
 }
 
 // Puts numbers, each with a tab before it, from place `at` on; tells the place behind them.
