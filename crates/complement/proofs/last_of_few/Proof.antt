@@ -1,0 +1,75 @@
+-- `complement::last_of_few` meets its contract: while no byte that it passed is bad, what the bytes before `i` have against them is what
+-- all have against them. Assumes nothing.
+use Prim.Native.Nat.{_≤_}
+use mathlib.Core.Path.{_≡_, sym, _∙_}
+use borrow.Author.Needs.{needs}
+use native.Mathlib.Omega.{arith}
+use lib.ListN.{length, take, length-map, length-reverse}
+use lib.Seq.{take-length}
+use Rattle.complement.specs.Complement.{faults, firstOr, answerOf}
+use Rattle.complement.specs.Blocks.{reversedPartOf}
+use Rattle.complement.specs.Laws.{last-bad, last-good}
+use Rattle.complement.proofs.last_of_few.Statement.{statement}
+use Rattle.complement.proofs.last_of_few.Tie as tie
+
+abbrev Inv-loop : tie.InvT-loop
+Inv-loop bases at i₀ i = (i ≤ length bases) × (faults at (take i bases) ≡ faults at bases)
+
+abbrev μ-loop : tie.MeasureT-loop
+μ-loop bases at i₀ i = i
+
+loop-holds : tie.Need-loop-holds Inv-loop μ-loop
+loop-holds c = (search needs, rw take-length)
+
+sub-i : tie.Need-sub-i Inv-loop μ-loop
+sub-i c = search needs
+
+shared-slice-read-b : tie.Need-shared-slice-read-b Inv-loop μ-loop
+shared-slice-read-b c = search needs
+
+complement-base-requires : tie.Need-complement-base-requires Inv-loop μ-loop
+complement-base-requires c κs = search needs
+
+add-no-complement : tie.Need-add-no-complement Inv-loop μ-loop
+add-no-complement c = search needs
+
+no-complement-requires : tie.Need-no-complement-requires Inv-loop μ-loop
+no-complement-requires c κs = search needs
+
+returns : tie.Need-returns Inv-loop μ-loop
+unfolding reversedPartOf answerOf
+returns c =
+    let l = c .before .before .before .before .before in
+    rw (last-bad _ _ _ (omega arith) (l .loop .i) (omega arith) (l .loop .inv .1) (sym (c .before .before .complement-base .ensures) ∙ c .before .if1 .taken) _)
+    (c .no-complement .ensures)
+
+loop-less : tie.Need-loop-less Inv-loop μ-loop
+loop-less c = search needs
+
+loop-again : tie.Need-loop-again Inv-loop μ-loop
+loop-again c =
+    let l = c .before .before .before .before in
+    (search needs, last-good _ _ _ (omega arith) (l .loop .i) (omega arith) (l .loop .inv .1) (λ e. c .if1 .left (c .before .complement-base .ensures ∙ e)))
+
+returns-2 : tie.Need-returns-2 Inv-loop μ-loop
+unfolding reversedPartOf faults firstOr answerOf
+returns-2 c =
+    let z : c .before .loop .i ≡ 0 = omega arith in
+    rw (← (rw z at (c .before .loop .inv .1)), length-reverse, length-map)
+
+pub last-of-few-spec : {M : Type 1} → statement M
+last-of-few-spec =
+    tie.close
+    (tie.spec
+    Inv-loop
+    μ-loop
+    loop-holds
+    sub-i
+    shared-slice-read-b
+    complement-base-requires
+    add-no-complement
+    no-complement-requires
+    returns
+    loop-less
+    loop-again
+    returns-2)
