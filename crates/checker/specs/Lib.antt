@@ -1,6 +1,7 @@
 pub mod Places
 pub mod PlaceLaws
 pub mod Walk
+pub mod Rows
 pub mod Check
 pub mod Steps
 pub mod Examples

@@ -244,20 +244,23 @@ module _ (s : List ℕ) (at p b w : ℕ) where
         let q : v .placed ≡ firstElsewhere (placeOf p b w) 0 (basesAt at (seqAt s at)) = o .walking .placed ∙ ap (firstElsewhere (placeOf p b w) 0) e in
         λ j. record { bases = x j; placed = q j; next = y j }
 
-    pub onward-line : (e k : ℕ) (next : Walk) → none (seqAt s i) ≡ false → e ≡ lineEnd s i → k ≡ length (basesOf (part s i e)) → WalkedLine b w v (record { 0 = i }) k next
+    -- over a line l, which has k bases and ends at e
+    pub onward-over : (l : List ℕ) (e k : ℕ) (next : Walk) → seqAt s i ≡ l ∷ seqAt s e → i + length l ≡ e → k ≡ length (basesOf l) → WalkedLine b w v (record { 0 = i }) k next
         → Onward s at p b w e next
     unfolding basesAt sumWidths
+    onward-over l e k next h q c g = record {
+      passed = o .passed ++ upFrom i k;
+      walking = g .goes-on p (o .passed) (o .walking);
+      offsets = rw (append-assoc, c) (rw (h, q) at (o .offsets));
+      next = omega (arith, rw h at (o .next), q);
+      fewer = omega (arith, g .goes-on p (o .passed) (o .walking) .bases, o .walking .bases, length-append (o .passed) (upFrom i k), length-upFrom i k, chop-le 13 (chop 10 l), chop-le 10 l);
+    }
+
+    pub onward-line : (e k : ℕ) (next : Walk) → none (seqAt s i) ≡ false → e ≡ lineEnd s i → k ≡ length (basesOf (part s i e)) → WalkedLine b w v (record { 0 = i }) k next
+        → Onward s at p b w e next
     onward-line e k next n h c g =
-        let l : seqAt s i ≡ part s i e ∷ seqAt s e = rw h (some-line s i n) in
         let f = line-within s i e k n h c in
-        let q : i + length (part s i e) ≡ e = omega (arith, part-length s i e (f .1)) in
-        record {
-          passed = o .passed ++ upFrom i k;
-          walking = g .goes-on p (o .passed) (o .walking);
-          offsets = rw (append-assoc, c) (rw (l, q) at (o .offsets));
-          next = omega (arith, rw l at (o .next), q);
-          fewer = omega (arith, g .goes-on p (o .passed) (o .walking) .bases, o .walking .bases, length-append (o .passed) (upFrom i k), length-upFrom i k);
-        }
+        onward-over (part s i e) e k next (rw h (some-line s i n)) (omega (arith, part-length s i e (f .1))) c g
 
 -- rows with no byte between them are one row
 pub one-row : (s : List ℕ) (at p b w : ℕ) → length s < 2 ^ 64 → w ≡ b

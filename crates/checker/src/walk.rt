@@ -1,5 +1,7 @@
 // The walk over a record's lines, beside the rows that the numbers of its index line describe: how many bases there are, and whether
-// each lies where those numbers say. One pass, no division, and no sum that was not compared before.
+// each lies where those numbers say. The lines that are rows, from the first on, are passed at once, and those behind them one by one.
+// No division, and no sum or product that may not fit.
+use lines::Line;
 use record::Offset;
 use record::Position;
 use record::Record;
@@ -9,7 +11,8 @@ ghost use lib.Dec.{eqb};
 ghost use Rattle.lines.specs.Lines.{seqAt};
 ghost use Rattle.record.specs.Place.{placeOf, placeIn};
 ghost use Rattle.checker.specs.Places.{walkedAs};
-ghost use Rattle.checker.specs.Walk.{LineJudged, MovedOn, WalkedLine};
+ghost use Rattle.checker.specs.Walk.{LineJudged, MovedOn, WalkedLine, Onward};
+ghost use Rattle.checker.specs.Rows.{rowsHere};
 
 // Is every base where the numbers say, or which is the first that is not.
 pub enum Placed {
@@ -29,6 +32,12 @@ struct Walk {
     bases: u64,
     placed: Placed,
     row: Row,
+}
+
+// A walk that goes on at an offset.
+struct Begun {
+    walk: Walk,
+    next: usize,
 }
 
 // A whole sequence: how many bases it has, where they are, and the offset behind it.
@@ -118,6 +127,45 @@ fn walk_line(walk: Walk, row_bases: u64, row_width: u64, at: Offset, bases: u64)
     }
 }
 
+// How many lines from `at` on are rows, the first of which begins at `start`. None is where rows have no byte between them, or where
+// the first begins elsewhere.
+fn rows_here(s: &[u8], at: usize, start: Offset, row_bases: u64, row_width: u64) -> usize
+    ensures { λ r. ⌜ r ≡ rowsHere (now (s .entry)) at (start .0) «row_bases» «row_width» ⌝ }
+{
+    if start.0 != at as u64 {
+        return 0;
+    }
+    if row_width <= row_bases {
+        return 0;
+    }
+    let row = Line {
+        width: row_width as usize,
+        bases: row_bases as usize,
+    };
+    lines::lines_like(s, at, row)
+}
+
+// The walk over the lines from `at` on that are rows: each of their bases is where the numbers say.
+fn pass_rows(s: &[u8], at: usize, start: Offset, row_bases: u64, row_width: u64) -> Begun
+    requires { ⌜ 0 < «row_bases» ⌝ }
+    ensures { λ r. ⌜ Onward (now (s .entry)) at (start .0) «row_bases» «row_width» (r .next) (r .walk) ⌝ }
+{
+    let rows = rows_here(s, at, start, row_bases, row_width) as u64;
+    let bases = rows * row_bases;
+    let bytes = rows * row_width;
+    Begun {
+        walk: Walk {
+            bases,
+            placed: Placed::There,
+            row: Row {
+                start: Offset(start.0 + bytes),
+                passed: 0,
+            },
+        },
+        next: at + bytes as usize,
+    }
+}
+
 // The sequence from `at` on, against a record whose rows have `row_bases` bases.
 fn walk_rows(s: &[u8], at: usize, x: Record, row_bases: u64) -> Walked
     requires { ⌜ (0 < «row_bases») × (x .«line_width» ≡ «row_bases» → 2 ^ 64 - 1 ≤ «row_bases») ⌝ }
@@ -125,12 +173,9 @@ fn walk_rows(s: &[u8], at: usize, x: Record, row_bases: u64) -> Walked
 {
     let row_width = x.line_width;
     let start = x.position;
-    let mut walk = Walk {
-        bases: 0,
-        placed: Placed::There,
-        row: Row { start, passed: 0 },
-    };
-    let mut i = at;
+    let begun = pass_rows(s, at, start, row_bases, row_width);
+    let mut walk = begun.walk;
+    let mut i = begun.next;
     while !lines::sequence_ends(s, i) {
         let e = lines::line_end(s, i);
         let bases = lines::base_count(&s[i..e]);
