@@ -2,19 +2,34 @@
 // leading zeros are read, and none is written.
 use crate::Number;
 ghost use mathlib.Core.Path.{_≡_};
-ghost use Prim.Native.Nat.{_+_, _≤_};
+ghost use Prim.Native.Nat.{_+_, _*_, _^_, _≤_};
 ghost use lib.ListN.{length};
+ghost use lib.Dec.{ltb};
 ghost use Rattle.index_line.specs.Decimal.{numberOf, plainNumber, digits, decimalOf, NumberWritten};
 ghost use Rattle.index_line.specs.Bytes.{overlaid};
 
 // The largest number.
 const LARGEST: u64 = 18446744073709551615;
 
+// Up to this number every digit may follow.
+const ROOMY: u64 = 1844674407370955160;
+
 // A byte as a number.
 fn wide(b: u8) -> u64
     ensures { λ r. ⌜ r ≡ b ⌝ }
 {
     b as u64
+}
+
+// May a digit follow a number, so that both together are no more than the largest. Nothing is divided but at its end.
+fn may_follow(value: u64, digit: u64) -> bool
+    requires { ⌜ digit ≤ 9 ⌝ }
+    ensures { λ r. ⌜ r ≡ ltb (value * 10 + digit) (2 ^ 64) ⌝ }
+{
+    if value <= ROOMY {
+        return true;
+    }
+    value <= (LARGEST - digit) / 10
 }
 
 // Reads a number that is all of `s`.
@@ -35,7 +50,7 @@ pub fn read_number(s: &[u8]) -> Number
             return Number::Bad;
         }
         let d = b - 48;
-        if (LARGEST - d) / 10 < value {
+        if !may_follow(value, d) {
             return Number::Bad;
         }
         value = value * 10 + d;

@@ -6,6 +6,7 @@ use mathlib.Core.Path.{_≡_, sym, _∙_}
 use borrow.Author.Needs.{needs}
 use native.Mathlib.Omega.{arith}
 use lib.ListN.{length, drop, getD}
+use borrow.Author.Tests.{ltb-true, ltb-false, not-true, not-false}
 use Rattle.index_line.specs.Decimal.{numberFrom, numberOf}
 use Rattle.index_line.specs.Digits.{number-none, number-start, number-end, number-low, number-high, number-more, number-over}
 use Rattle.index_line.proofs.decimal.read_number.Statement.{statement}
@@ -39,8 +40,8 @@ returns-3 c =
     let l = c .before .before .before .before .before in
     sym (number-high _ (l .loop .value) (l .loop .i) (c .before .before .before .before .loop-test .taken) (omega arith)) ∙ l .loop .inv .1 .1
 
-sub-if4 : tie.Need-sub-if4 Inv-loop μ-loop
-sub-if4 c = omega arith
+may-follow-requires : tie.Need-may-follow-requires Inv-loop μ-loop
+may-follow-requires c κs = omega arith
 
 -- with the digit read, the number from the next place on is the number
 turn : (c : tie.Else3 Inv-loop μ-loop)
@@ -52,13 +53,21 @@ turn c =
     sym (number-more _ (l .loop .value) (l .loop .i) (c .before .before .before .before .loop-test .taken) (omega arith) (omega arith)) ∙ l .loop .inv .1 .1
 
 returns-4 : tie.Need-returns-4 Inv-loop μ-loop
-returns-4 c = sym (number-over _ _ (omega arith)) ∙ turn (c .before)
+returns-4 c =
+    let l = c .before .before .before .before .before .before .before in
+    let over : 2 ^ 64 ≤ l .loop .value * 10 + (c .before .before .before .before .wide .result - 48) = ltb-false _ _ (sym (c .before .may-follow .ensures) ∙ not-true _ (c .if4 .taken)) in
+    sym (number-over _ _ (omega (arith, over, c .before .before .before .before .wide .ensures))) ∙ turn (c .before .before)
+
+-- the digit that follows keeps the number small
+small : (c : tie.Else4 Inv-loop μ-loop)
+    → c .before .before .before .before .before .before .before .loop .value * 10 + (c .before .before .before .before .wide .result - 48) < 2 ^ 64
+small c = ltb-true _ _ (sym (c .before .may-follow .ensures) ∙ not-false _ (c .if4 .left))
 
 mul-value : tie.Need-mul-value Inv-loop μ-loop
-mul-value c = omega arith
+mul-value c = omega (arith, small c)
 
 add-value : tie.Need-add-value Inv-loop μ-loop
-add-value c = omega arith
+add-value c = omega (arith, small c)
 
 add-i : tie.Need-add-i Inv-loop μ-loop
 add-i c = omega arith
@@ -67,7 +76,7 @@ loop-less : tie.Need-loop-less Inv-loop μ-loop
 loop-less c = omega arith
 
 loop-again : tie.Need-loop-again Inv-loop μ-loop
-loop-again c = (omega arith, (omega arith, rw (c .before .before .before .wide .ensures) (turn (c .before))))
+loop-again c = (omega arith, (omega (arith, small c), rw (c .before .before .before .before .wide .ensures) (turn (c .before .before))))
 
 returns-5 : tie.Need-returns-5 Inv-loop μ-loop
 returns-5 c =
@@ -86,7 +95,7 @@ read-number-spec =
     wide-requires
     returns-2
     returns-3
-    sub-if4
+    may-follow-requires
     returns-4
     mul-value
     add-value
