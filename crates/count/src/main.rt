@@ -1,7 +1,7 @@
 // count [WORK FILE ..]: does each work once on its file, so that the instructions it takes can be counted as the difference of two
 // runs (tools/instruction-goals). A work is `index`, `check`, with the index on standard input, or `reverse`, the reverse complement of
-// the whole file. It writes a line for each, as `index 1`, the count of rows, `check 0`, or `reverse 60`, the count of bytes; where it is
-// refused, `refused 24 3 45`. A file, or an index, has at most 65,536 bytes; what is behind them is not read.
+// the whole file. It writes a line for each, as `index 1`, the count of rows, `check 0`, or `reverse 60`, the count of bytes, and then
+// those bytes: a buffer that nobody reads, the compiler would not write. Where it is refused, `refused 24 3 45`. A file, or an index, has at most 65,536 bytes; what is behind them is not read.
 ghost use Prim.Native.Nat.{_≤_};
 use checker::Verdict;
 use complement::Complemented;
@@ -59,13 +59,24 @@ fn check_input(fasta: &[u8]) {
     check(fasta, &text[..n]);
 }
 
+// Complements some bases, from the last to the first, into a lent room.
+fn reverse_into(bases: &[u8], out: &mut [u8]) {
+    match complement::reverse_complement(bases, out) {
+        Complemented::Bytes(n) => {
+            say(b"reverse", n);
+            if n <= out.len() {
+                io::write_all(STDOUT_FILENO, &out[..n]);
+                io::write_all(STDOUT_FILENO, b"\n");
+            }
+        }
+        Complemented::Refused(why) => say_refused(why),
+    }
+}
+
 // Complements some bases, from the last to the first.
 fn reverse(bases: &[u8]) {
     let mut out = io::large_buffer();
-    match complement::reverse_complement(bases, &mut out) {
-        Complemented::Bytes(n) => say(b"reverse", n),
-        Complemented::Refused(why) => say_refused(why),
-    }
+    reverse_into(bases, &mut out);
 }
 
 // Does the work whose name has this first letter.
