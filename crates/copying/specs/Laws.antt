@@ -1,7 +1,7 @@
 -- Laws of copies.
-use Prim.Native.Nat.{ℕ, suc, _+_, _-_, _≤_, _<_, min}
+use Prim.Native.Nat.{ℕ, _+_, _-_, _≤_, _<_, min}
 use mathlib.Core.Path.{_≡_, refl, ap, sym, _∙_}
-use mathlib.Core.List.{List, [], _++_, append-nil, append-assoc}
+use mathlib.Core.List.{List, _++_, append-nil, append-assoc}
 use lib.ListN.{length, take, drop, getD, set, drop-of-length-le, length-set, length-drop}
 use lib.Seq.{paste, paste-zero, paste-suc, length-paste, take-paste, drop-paste, take-take, drop-drop, take-add, take-append-add, length-take-le, getD-drop}
 use native.Mathlib.Omega.{arith}
