@@ -6,8 +6,8 @@ use crate::{Bounds, Refusal, entry};
 /// The bytes of a row: six numbers of eight bytes.
 const ROW_BYTES: usize = 48;
 
-/// A table of this many rows is tried first. Memory that isn't written to costs nothing.
-const FIRST_ROWS: usize = 1 << 20;
+/// A table of this many rows is tried first: enough for most files, and so small that it costs little beside any.
+const FIRST_ROWS: usize = 1 << 10;
 
 /// What an index says of one record.
 #[derive(Clone, Copy, Debug, Eq, PartialEq)]
@@ -121,12 +121,12 @@ fn filled(
     loop {
         let mut bytes = vec![0; rows * ROW_BYTES];
         let answer = fill(text, &mut bytes);
+        let in_use = answer.count as usize;
         if answer.refusal == 8 && rows < most {
-            // each time so much longer that all the times before cost little beside the last
-            rows = rows.saturating_mul(8).min(most);
+            let table = Table { names: text, bytes, in_use };
+            rows = table.rows_for_all().clamp(rows + 1, most);
             continue;
         }
-        let in_use = answer.count as usize;
         bytes.truncate(in_use.saturating_mul(ROW_BYTES));
         bytes.shrink_to_fit();
         let refusal = Refusal::of(call, answer.refusal, answer.first, answer.second).err();
@@ -180,8 +180,8 @@ impl<'n> Table<'n> {
         self.names
     }
 
-    /// The record of a row; none where there is no such row, or its name isn't in the bytes.
-    pub fn record(&self, row: usize) -> Option<Record<'n>> {
+    /// The numbers of a row; none where there is no such row.
+    fn numbers(&self, row: usize) -> Option<[u64; 6]> {
         if row >= self.in_use {
             return None;
         }
@@ -191,12 +191,26 @@ impl<'n> Table<'n> {
         for (number, bytes) in numbers.iter_mut().zip(bytes.chunks_exact(8)) {
             *number = u64::from_le_bytes(bytes.try_into().ok()?);
         }
-        Record::of(self.names, numbers)
+        Some(numbers)
+    }
+
+    /// The record of a row; none where there is no such row, or its name isn't in the bytes.
+    pub fn record(&self, row: usize) -> Option<Record<'n>> {
+        Record::of(self.names, self.numbers(row)?)
     }
 
     /// The records in order of their rows.
     pub fn records(&self) -> impl Iterator<Item = Record<'n>> + '_ {
         (0..self.in_use).map_while(|row| self.record(row))
+    }
+
+    /// About how many rows all the bytes have, where this table has the first of them: as many for a byte as up to its last name,
+    /// and an eighth more; at least twice as many as it has.
+    fn rows_for_all(&self) -> usize {
+        let last_name = self.in_use.checked_sub(1).and_then(|row| self.numbers(row)).map_or(0, |[start, ..]| start);
+        let likely = self.in_use as u128 * self.names.len() as u128 / u128::from(last_name.max(1));
+        let likely = usize::try_from(likely).unwrap_or(usize::MAX);
+        likely.saturating_add(likely / 8).max(self.in_use.saturating_mul(2))
     }
 
     /// The first row that has a name. Refuses 1, 25, 15.

@@ -202,6 +202,27 @@ fn names_that_lie_outside() {
     assert_eq!(find([0, 1, 1, 1, 1, 1], b"c"), ((15, 0, 0), 0));
 }
 
+/// A table grows as it is filled, also where records are long at first and short later: no row is lost, and none is twice there.
+#[test]
+fn as_many_rows_as_records() {
+    let mut fasta = vec![];
+    for k in 0..60_000 {
+        let bases = if k < 1_500 { 2_000 } else { 1 };
+        fasta.extend_from_slice(format!(">r{k}\n").as_bytes());
+        fasta.extend(std::iter::repeat_n(b'A', bases));
+        fasta.push(b'\n');
+    }
+    let table = index(&fasta).expect("good records");
+    assert_eq!(table.len(), 60_000);
+    for (k, record) in table.records().enumerate() {
+        assert_eq!(record.name, format!("r{k}").as_bytes());
+    }
+    let text = table.write_index().expect("an index");
+    let again = read_index(&text).expect("good lines");
+    assert_eq!(again.len(), 60_000);
+    assert!(again.records().eq(table.records()));
+}
+
 #[test]
 fn rows_that_stand_after_a_refusal() {
     let mut table = vec![7; 2 * 48 + 5];
