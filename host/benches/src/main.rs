@@ -16,6 +16,9 @@ use report::{Checked, Compared, Grown, Report};
 /// The bytes of a row in a table.
 const ROW_BYTES: usize = 48;
 
+/// So many bytes lie in the processor's own cache; 64 times as many come from the memory.
+const MEGABYTE: usize = 1_000_000;
+
 /// What is run.
 struct Plan {
     /// Shorter files and fewer rounds.
@@ -141,8 +144,8 @@ fn reads(plan: &Plan, report: &mut Report, fasta: &[u8], bases: u64, goals: [f64
 }
 
 /// Times the reverse complement of some bases.
-fn complement(plan: &Plan, report: &mut Report, what: &str, goal: f64, letters: &[u8]) {
-    let sequence = Sequence::new(Numbers::new(5).letters(letters, plan.size(100_000_000, 10_000_000)));
+fn complement(plan: &Plan, report: &mut Report, what: &str, goal: f64, letters: &[u8], bases: usize) {
+    let sequence = Sequence::new(Numbers::new(5).letters(letters, bases));
     let bases = sequence.bases();
     let expected = sequence.reverse_complement();
     let [mut lent, mut copied] = [(); 2].map(|()| room(bases.len()));
@@ -222,7 +225,7 @@ fn index_text(plan: &Plan, report: &mut Report, fasta: &[u8]) {
 fn growth(plan: &Plan, report: &mut Report) {
     let megabytes = if plan.quick { &[1, 10, 100][..] } else { &[1, 10, 100, 1000] };
     for n in megabytes {
-        let file = Lines { bases: 60, end: b"\n" }.genome(n * 1_000_000);
+        let file = Lines { bases: 60, end: b"\n" }.genome(n * MEGABYTE);
         let text = wakeluri::index(&file).and_then(|table| table.write_index()).expect("a good file");
         let mut table = room(4 * ROW_BYTES);
         let taken = in_turns(
@@ -263,13 +266,19 @@ fn run(plan: &Plan) -> Report {
         has
     };
     let mut report = Report { memchrs: memchrs(plan), ..Report::default() };
-    let bytes = plan.size(64_000_000, 8_000_000);
+    let bytes = plan.size(64 * MEGABYTE, 8 * MEGABYTE);
     let lf = |bases| Lines { bases, end: b"\n" };
     if part("lines") {
-        file(plan, &mut report, "lines of 60", 2.4, &lf(60).genome(bytes));
-        file(plan, &mut report, "lines of 60, CRLF", 2.4, &Lines { bases: 60, end: b"\r\n" }.genome(bytes));
-        for bases in [50, 70, 80, 100] {
-            file(plan, &mut report, &format!("lines of {bases}"), 2.0, &lf(bases).genome(bytes));
+        for bytes in [MEGABYTE, bytes] {
+            let mut file = |what: &str, goal, lines: Lines| {
+                let what = format!("{what}, {} MB", bytes / MEGABYTE);
+                file(plan, &mut report, &what, goal, &lines.genome(bytes));
+            };
+            file("lines of 60", 2.4, lf(60));
+            file("lines of 60, CRLF", 2.4, Lines { bases: 60, end: b"\r\n" });
+            for bases in [50, 70, 80, 100] {
+                file(&format!("lines of {bases}"), 2.0, lf(bases));
+            }
         }
     }
     let records = lf(60).records(100_000);
@@ -285,8 +294,10 @@ fn run(plan: &Plan) -> Report {
         reads(plan, &mut report, &fasta, 1, [1.0, 1.0]);
     }
     if part("complement") {
-        complement(plan, &mut report, "random ACGT", 20.0, b"ACGT");
-        complement(plan, &mut report, "mixed case with N", 8.0, b"ACGTNacgtn");
+        for bases in [MEGABYTE, plan.size(100 * MEGABYTE, 10 * MEGABYTE)] {
+            complement(plan, &mut report, "random ACGT", 20.0, b"ACGT", bases);
+            complement(plan, &mut report, "mixed case with N", 8.0, b"ACGTNacgtn", bases);
+        }
     }
     if part("text") {
         index_text(plan, &mut report, &records);
