@@ -122,7 +122,8 @@ fn meanwhile(folder: &Folder, words: &[&str], begun: impl Fn(u32) -> bool, act: 
     }
     signal(&child, libc::SIGSTOP);
     sleep(Duration::from_millis(20));
-    let running = child.try_wait().unwrap().is_none();
+    // it may have gone on for a while before it stopped
+    let running = child.try_wait().unwrap().is_none() && begun(child.id());
     act();
     signal(&child, libc::SIGCONT);
     let answer = child.wait_with_output().unwrap().into();
@@ -145,8 +146,10 @@ fn is_half_read(child: u32) -> bool {
     let open = fs::read_dir(format!("/proc/{child}/fd")).into_iter().flatten().flatten();
     let file = open.into_iter().find(|item| fs::read_link(item.path()).is_ok_and(|file| file.ends_with("f.fa")));
     let Some(file) = file else { return false };
-    let told = format!("/proc/{child}/fdinfo/{}", file.file_name().to_string_lossy());
-    fs::read_to_string(told).unwrap_or_default().lines().next().is_some_and(|line| !line.ends_with("\t0"))
+    let told = fs::read_to_string(format!("/proc/{child}/fdinfo/{}", file.file_name().to_string_lossy()));
+    let place = told.unwrap_or_default().lines().find_map(|line| line.strip_prefix("pos:\t")?.parse::<u64>().ok());
+    let length = fs::metadata(file.path()).map_or(0, |meta| meta.len());
+    place.is_some_and(|place| 0 < place && place < length)
 }
 
 const CHANGED: &str = "f.fa: the file was changed while it was read, so there is no answer";
