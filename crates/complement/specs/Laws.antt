@@ -3,18 +3,18 @@ use Prim.Native.Nat.{ℕ, suc, _+_, _≤_, _<_}
 use mathlib.Core.Path.{_≡_, refl, sym, _∙_}
 use mathlib.Core.Bool.{Bool, true, false, cond}
 use mathlib.Core.List.{List, [], _∷_, _++_, map, reverse, append-nil, append-assoc, reverse-append, reverse-cons, map-append}
-use lib.Dec.{T, eqb, ltb}
+use lib.Dec.{T, eqb}
 use lib.ListN.{length, take, drop, getD, set, length-map, length-append, length-drop, length-reverse, drop-of-length-le}
 use lib.Seq.{drop-cons, take-suc, set-at, length-take-le, append-snoc}
-use borrow.Author.Tests.{eq-eqb, ne-eqb, eqb-true, ltb-false}
+use borrow.Author.Tests.{eq-eqb, ne-eqb, eqb-true}
 use native.Mathlib.Omega.{arith}
 use native.Mathlib.Numerals.{add-one}
-use native.Mathlib.Nat.{add-zero, suc-add, add-suc}
-use Rattle.refusal.specs.Numbers.{overLimit}
+use native.Mathlib.Nat.{add-zero, zero-add, suc-add, add-suc}
 use Rattle.refusal.specs.declared.Refusal.{Refusal}
-use Rattle.refusal.specs.declared.Refusal.the-variants.{TooLong, NoRoom, NoComplement}
+use Rattle.refusal.specs.declared.Refusal.the-variants.{NoComplement}
 use Rattle.complement.specs.Pairing.{looked, rules, partner}
 use Rattle.complement.specs.Complement.{Outcome, given, refused, firstOr, when, faults, sized, answerOf, outputOf, Told}
+use Rattle.complement.specs.declared.Complemented.{Complemented}
 use Rattle.complement.specs.declared.Complemented.the-variants.{Bytes, Refused}
 
 -- ---- the pairing
@@ -59,26 +59,26 @@ of-each f t b h = at-rule f rules t b h
 
 -- ---- the bytes that have no complement
 
-pub faults-append : (at : ℕ) (s t : List ℕ) → faults at (s ++ t) ≡ faults at s ++ faults (at + length s) t
+faults-append : (at : ℕ) (s t : List ℕ) → faults at (s ++ t) ≡ faults at s ++ faults (at + length s) t
 unfolding faults
 faults-append at [] t = rw (add-zero at)
 faults-append at (b ∷ s) t =
     rw (faults-append (suc at) s t, suc-add at (length s), add-suc at (length s), append-assoc)
 
-module _ (at : ℕ) (s : List ℕ) (i : ℕ) (h : i < length s) where
+module _ (s : List ℕ) (i : ℕ) (h : i < length s) where
   -- what the byte at a place has against it
   here : List Refusal
-  here = when (eqb (partner (getD s i 0)) 0) (NoComplement (at + i) (getD s i 0))
+  here = when (eqb (partner (getD s i 0)) 0) (NoComplement i (getD s i 0))
 
-  from-here : faults (at + i) (drop i s) ≡ here ++ faults (at + suc i) (drop (suc i) s)
+  from-here : faults i (drop i s) ≡ here ++ faults (suc i) (drop (suc i) s)
   unfolding here faults
-  from-here = rw (drop-cons s i 0 h, add-suc at i)
+  from-here = rw (drop-cons s i 0 h)
 
-  up-to-here : (n : ℕ) → n ≡ suc i → faults at (take n s) ≡ faults at (take i s) ++ here
+  up-to-here : (n : ℕ) → n ≡ suc i → faults 0 (take n s) ≡ faults 0 (take i s) ++ here
   unfolding here faults
-  up-to-here n q = rw (q, take-suc s i 0 h, faults-append at (take i s), length-take-le i s (omega arith), append-nil)
+  up-to-here n q = rw (q, take-suc s i 0 h, faults-append 0 (take i s), length-take-le i s (omega arith), zero-add i, append-nil)
 
-  bad : partner (getD s i 0) ≡ 0 → here ≡ NoComplement (at + i) (getD s i 0) ∷ []
+  bad : partner (getD s i 0) ≡ 0 → here ≡ NoComplement i (getD s i 0) ∷ []
   unfolding here
   bad e = rw (eq-eqb _ _ e)
 
@@ -87,28 +87,28 @@ module _ (at : ℕ) (s : List ℕ) (i : ℕ) (h : i < length s) where
   good e = rw (ne-eqb _ _ e)
 
   -- from the front: where no byte before it is bad, a bad byte is the first, and past a good one none is
-  pub first-bad : faults (at + i) (drop i s) ≡ faults at s → partner (getD s i 0) ≡ 0 → (l : List ℕ) → firstOr (faults at s) l ≡ refused (NoComplement (at + i) (getD s i 0))
+  pub first-bad : faults i (drop i s) ≡ faults 0 s → partner (getD s i 0) ≡ 0 → (l : List ℕ) → firstOr (faults 0 s) l ≡ refused (NoComplement i (getD s i 0))
   unfolding firstOr
   first-bad inv e l = rw (← inv, from-here, bad e)
 
-  pub first-good : faults (at + i) (drop i s) ≡ faults at s → (partner (getD s i 0) ≡ 0 → ⊥) → faults (at + suc i) (drop (suc i) s) ≡ faults at s
+  pub first-good : faults i (drop i s) ≡ faults 0 s → (partner (getD s i 0) ≡ 0 → ⊥) → faults (suc i) (drop (suc i) s) ≡ faults 0 s
   first-good inv e = rw (← inv, from-here, good e)
 
   -- from the back likewise
-  pub last-bad : (n : ℕ) → n ≡ suc i → faults at (take n s) ≡ faults at s → partner (getD s i 0) ≡ 0 → (l : List ℕ) → firstOr (reverse (faults at s)) l ≡ refused (NoComplement (at + i) (getD s i 0))
+  pub last-bad : (n : ℕ) → n ≡ suc i → faults 0 (take n s) ≡ faults 0 s → partner (getD s i 0) ≡ 0 → (l : List ℕ) → firstOr (reverse (faults 0 s)) l ≡ refused (NoComplement i (getD s i 0))
   unfolding firstOr
   last-bad n q inv e l = rw (← inv, up-to-here n q, bad e, reverse-append)
 
-  pub last-good : (n : ℕ) → n ≡ suc i → faults at (take n s) ≡ faults at s → (partner (getD s i 0) ≡ 0 → ⊥) → faults at (take i s) ≡ faults at s
+  pub last-good : (n : ℕ) → n ≡ suc i → faults 0 (take n s) ≡ faults 0 s → (partner (getD s i 0) ≡ 0 → ⊥) → faults 0 (take i s) ≡ faults 0 s
   last-good n q inv e = rw (← inv, up-to-here n q, good e, append-nil)
 
-pub none-from : (at : ℕ) (s : List ℕ) (i : ℕ) → length s ≤ i → faults at (drop i s) ≡ []
+pub none-from : (s : List ℕ) (i : ℕ) → length s ≤ i → faults i (drop i s) ≡ []
 unfolding faults
-none-from at s i h = rw (drop-of-length-le s h)
+none-from s i h = rw (drop-of-length-le s h)
 
 -- ---- a turn of the writing: one more byte behind those that are written
 
-pub one-more : (l m out : List ℕ) (n a : ℕ) → length l ≡ n → n < length out → m ≡ l ++ (a ∷ []) → set (outputOf (given l) out) n a ≡ outputOf (given m) out
+one-more : (l m out : List ℕ) (n a : ℕ) → length l ≡ n → n < length out → m ≡ l ++ (a ∷ []) → set (outputOf (given l) out) n a ≡ outputOf (given m) out
 unfolding outputOf
 one-more l m out n a e h q =
     rw (q, length-append l (a ∷ []), e, add-one n, append-snoc l a, drop-cons out n 0 h) (set-at l (getD out n 0) (drop (suc n) out) a n e)
@@ -129,24 +129,12 @@ module _ (s out out₀ : List ℕ) (i : ℕ) (h : i < length s) (fits : length s
 
 -- ---- what a call tells
 
-pub clash : {X : Type 0} {n : ℕ} {r : Refusal} → Bytes n ≡ Refused r → X
+clash : {X : Type 0} {n : ℕ} {r : Refusal} → Bytes n ≡ Refused r → X
 clash e = let z : _≡_ {A = ℕ} 0 1 = cc in absurd (omega arith)
 
--- where bytes are answered there is room for all that the input has, and they are those that were to give
-pub granted : (s : List ℕ) (room : ℕ) (rs : List Refusal) (l : List ℕ) (n : ℕ) → Bytes n ≡ answerOf (sized s room (firstOr rs l))
-    → (length s ≤ room) × (sized s room (firstOr rs l) ≡ given l)
-unfolding sized firstOr answerOf
-granted s room rs l n e = go (overLimit (length s)) (ltb room (length s)) refl rs e
-  where
-    go : (t u : Bool) → ltb room (length s) ≡ u → (rs : List Refusal) → Bytes n ≡ answerOf (cond t (refused TooLong) (cond u (refused (NoRoom (length s))) (firstOr rs l)))
-        → (length s ≤ room) × (cond t (refused TooLong) (cond u (refused (NoRoom (length s))) (firstOr rs l)) ≡ given l)
-    go true u k rs e = clash e
-    go false true k rs e = clash e
-    go false false k [] e = (ltb-false _ _ k, refl)
-    go false false k (r ∷ rs) e = clash e
-
-pub told-given : (s out : List ℕ) (rs : List Refusal) (l : List ℕ) (n : ℕ) → Bytes n ≡ answerOf (sized s (length out) (firstOr rs l)) → Told s (firstOr rs l) out (outputOf (given l) out) (Bytes n)
-told-given s out rs l n e = record { answer = e; output = rw (granted s (length out) rs l n e .1) }
+-- where the sizes have nothing against them, the bytes' own outcome is told
+pub told-sized : (s out after : List ℕ) (o : Outcome) (r : Complemented) → sized s (length out) o ≡ o → r ≡ answerOf o → after ≡ outputOf o out → Told s o out after r
+told-sized s out after o r k e q = record { answer = rw k e; output = rw k q }
 
 pub told-refused : (s out : List ℕ) (o : Outcome) (r : Refusal) → Refused r ≡ answerOf (sized s (length out) o) → Told s o out out (Refused r)
 unfolding answerOf outputOf

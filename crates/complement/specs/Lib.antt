@@ -1,7 +1,7 @@
 pub mod Pairing
 pub mod Complement
-pub mod Blocks
+pub mod Kinds
 pub mod Laws
-pub mod BlockLaws
+pub mod KindLaws
 pub mod Inverse
 pub mod Examples

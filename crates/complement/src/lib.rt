@@ -4,18 +4,19 @@
 // byte that has no complement (24, with its place and the byte): the first such byte, in the reverse complement the last. A
 // refusal leaves the output as it was. Else the output begins with the answer; bytes behind it stay.
 //
-// So the bytes are judged first, and then written. Both go by blocks of 32 bases, which the compiler does at once where all of a
-// block are plain: A, C, G, T or N, in either case. Any other block, and what is left behind the last, goes byte by byte.
+// So all bytes are judged first, and then written. Most sequences are plain: A, C, G, T and N alone, in either case. These are
+// judged and written by fewer steps a base than those that have other letters. No loop that judges or writes has a branch in it,
+// but for the kind, which stays the same: so the compiler does 16 bases and more at once.
 use refusal::Refusal;
 ghost use mathlib.Core.Path.{_≡_};
-ghost use mathlib.Core.Bool.{true, cond};
+ghost use mathlib.Core.Bool.{true, false, cond};
 ghost use mathlib.Core.List.{map, reverse};
-ghost use Prim.Native.Nat.{_+_, _^_, _≤_, _<_};
+ghost use Prim.Native.Nat.{_≤_};
 ghost use lib.ListN.{length};
 ghost use Rattle.refusal.specs.declared.Refusal.the-variants.{NoRoom, NoComplement};
 ghost use Rattle.complement.specs.Pairing.{partner};
-ghost use Rattle.complement.specs.Complement.{given, complementOf, reverseComplementOf, sized, answerOf, outputOf, Told};
-ghost use Rattle.complement.specs.Blocks.{isPlain, allPlain, partOf, reversedPartOf};
+ghost use Rattle.complement.specs.Complement.{given, complementOf, reverseComplementOf, answerOf, outputOf, Told};
+ghost use Rattle.complement.specs.Kinds.{isOf, allOf, outcomeOf};
 
 // How many bytes were written, or why none were.
 pub enum Complemented {
@@ -23,106 +24,92 @@ pub enum Complemented {
     Refused(Refusal),
 }
 
-// The complement of one base; 0 where it has none.
-fn complement_base(b: u8) -> u8
-    ensures { λ r. ⌜ r ≡ partner b ⌝ }
-{
-    match b {
-        b'A' => b'T',
-        b'C' => b'G',
-        b'M' => b'K',
-        b'R' => b'Y',
-        b'B' => b'V',
-        b'D' => b'H',
-        b'T' => b'A',
-        b'G' => b'C',
-        b'K' => b'M',
-        b'Y' => b'R',
-        b'V' => b'B',
-        b'H' => b'D',
-        b'W' => b'W',
-        b'S' => b'S',
-        b'N' => b'N',
-        b'U' => b'A',
-        b'a' => b't',
-        b'c' => b'g',
-        b'm' => b'k',
-        b'r' => b'y',
-        b'b' => b'v',
-        b'd' => b'h',
-        b't' => b'a',
-        b'g' => b'c',
-        b'k' => b'm',
-        b'y' => b'r',
-        b'v' => b'b',
-        b'h' => b'd',
-        b'w' => b'w',
-        b's' => b's',
-        b'n' => b'n',
-        b'u' => b'a',
-        _ => 0,
-    }
-}
-
-// Is a base plain: A, C, G, T or N, in either case.
-fn plain(b: u8) -> bool
-    ensures { λ r. ⌜ r ≡ isPlain b ⌝ }
+// Is a byte a plain base: A, C, G, T or N, in either case.
+fn is_plain(b: u8) -> bool
+    ensures { λ r. ⌜ r ≡ isOf true b ⌝ }
 {
     let low = b | 32;
     (low | 4 == b'g') | (low == b'a') | (low == b't') | (low == b'n')
 }
 
+// Has a byte a complement. The letters that have none are E, F, I, J, L, O, P, Q, X and Z.
+fn is_paired(b: u8) -> bool
+    ensures { λ r. ⌜ r ≡ isOf false b ⌝ }
+{
+    let low = b | 32;
+    ((b'a' <= low) & (low <= b'd'))
+        | ((b'g' <= low) & (low <= b'h'))
+        | (low == b'k')
+        | ((b'm' <= low) & (low <= b'n'))
+        | ((b'r' <= low) & (low <= b'w'))
+        | (low == b'y')
+}
+
+// Is a byte of the kind: a plain base, or else any that has a complement.
+fn is_of(b: u8, plain: bool) -> bool
+    ensures { λ r. ⌜ r ≡ isOf plain b ⌝ }
+{
+    if plain {
+        return is_plain(b);
+    }
+    is_paired(b)
+}
+
+// Are all bytes of the kind. All are looked at, which the compiler does at once.
+fn all_of(bases: &[u8], plain: bool) -> bool
+    ensures { λ r. ⌜ r ≡ allOf plain (now (bases .entry)) ⌝ }
+{
+    let mut other: u8 = 0;
+    let mut i = 0;
+    while i < bases.len() {
+        other = other | !is_of(bases[i], plain) as u8;
+        i += 1;
+    }
+    other == 0
+}
+
 // The complement of a plain base. A and T differ in 21, C and G in 4. Of the plain bases A and T alone lack the bit 2, and N alone
 // has the bit 8.
-fn flipped(b: u8) -> u8
-    requires { ⌜ isPlain b ≡ true ⌝ }
+fn flipped_plain(b: u8) -> u8
+    requires { ⌜ isOf true b ≡ true ⌝ }
     ensures { λ r. ⌜ r ≡ partner b ⌝ }
 {
     b ^ 21 ^ ((b / 2) & 5) ^ ((b & 2) * 8)
 }
 
-// Are all bases of a block plain. All are looked at, which the compiler does at once.
-fn plain_block(block: &[u8]) -> bool
-    requires { ⌜ length (now block) ≡ 32 ⌝ }
-    ensures { λ r. ⌜ r ≡ allPlain (now (block .entry)) ⌝ }
+// Some bits where a test holds, else none.
+fn bits_if(test: bool, bits: u8) -> u8
+    ensures { λ r. ⌜ r ≡ cond test bits 0 ⌝ }
 {
-    let mut other: u8 = 0;
-    for k in 0..32 {
-        other = other | !plain(block[k]) as u8;
-    }
-    other == 0
+    if test { bits } else { 0 }
 }
 
-// The complements of a block of plain bases.
-fn flipped_block(block: &[u8]) -> [u8; 32]
-    requires { ⌜ (length (now block) ≡ 32) × (allPlain (now block) ≡ true) ⌝ }
-    ensures { λ r. ⌜ r ≡ map partner (now (block .entry)) ⌝ }
+// The complement of a base that has one. A and T differ in 21, C and G in 4, K and M in 6, R and Y in 11, D and H in 12, B and V
+// in 20, as U and A do; W, S and N are their own. One test finds C and G, which differ in one bit; so K and M with I and O, and D
+// and H with L, which have no complement.
+fn flipped(b: u8) -> u8
+    requires { ⌜ isOf false b ≡ true ⌝ }
+    ensures { λ r. ⌜ r ≡ partner b ⌝ }
 {
-    let mut flips = [0u8; 32];
-    for k in 0..32 {
-        flips[k] = flipped(block[k]);
-    }
-    flips
+    let low = b | 32;
+    let at = bits_if((low == b'a') | (low == b't'), 21);
+    let cg = bits_if(low | 4 == b'g', 4);
+    let km = bits_if(low | 6 == b'o', 6);
+    let ry = bits_if((low == b'r') | (low == b'y'), 11);
+    let dh = bits_if(low | 12 == b'l', 12);
+    let bvu = bits_if((low == b'b') | (low == b'v') | (low == b'u'), 20);
+    b ^ at ^ cg ^ km ^ ry ^ dh ^ bvu
 }
 
-// Writes a block.
-fn put(block: [u8; 32], out: &mut [u8])
-    requires { ⌜ 32 ≤ length (now out) ⌝ }
-    ensures { λ _. ⌜ now (out .exit) ≡ outputOf (given block) (now (out .entry)) ⌝ }
+// The complement of a base of the kind.
+fn complement_base(b: u8, plain: bool) -> u8
+    requires { ⌜ isOf plain b ≡ true ⌝ }
+    ensures { λ r. ⌜ r ≡ partner b ⌝ }
 {
-    for k in 0..32 {
-        out[k] = block[k];
+    if plain {
+        return flipped_plain(b);
     }
-}
-
-// Writes a block from its last byte to its first.
-fn put_reversed(block: [u8; 32], out: &mut [u8])
-    requires { ⌜ 32 ≤ length (now out) ⌝ }
-    ensures { λ _. ⌜ now (out .exit) ≡ outputOf (given (reverse block)) (now (out .entry)) ⌝ }
-{
-    for k in 0..32 {
-        out[k] = block[31 - k];
-    }
+    flipped(b)
 }
 
 // The refusal of an output that is shorter than its answer.
@@ -144,217 +131,107 @@ fn no_complement(place: usize, byte: u8) -> Complemented
     })
 }
 
-// The answer that bytes from `at` on call for, from the front and byte by byte: all of them, or the refusal of the first that has no
-// complement.
-fn first_of_few(bases: &[u8], at: usize) -> Complemented
-    requires { ⌜ at + length (now bases) < 2 ^ 64 ⌝ }
-    ensures { λ r. ⌜ r ≡ answerOf (partOf at (now (bases .entry))) ⌝ }
+// The answer that the bytes call for, from the front: all of them, or the refusal of the first that has no complement.
+fn first_fault(bases: &[u8]) -> Complemented
+    ensures { λ r. ⌜ r ≡ answerOf (complementOf (now (bases .entry))) ⌝ }
 {
     let mut i = 0;
     while i < bases.len() {
         let b = bases[i];
-        if complement_base(b) == 0 {
-            return no_complement(at + i, b);
+        if !is_paired(b) {
+            return no_complement(i, b);
         }
         i += 1;
     }
     Complemented::Bytes(i)
 }
 
-// The same for a block.
-fn first_of_block(block: &[u8], at: usize) -> Complemented
-    requires { ⌜ (length (now block) ≡ 32) × (at + 32 < 2 ^ 64) ⌝ }
-    ensures { λ r. ⌜ r ≡ answerOf (partOf at (now (block .entry))) ⌝ }
-{
-    if plain_block(block) {
-        return Complemented::Bytes(32);
-    }
-    first_of_few(block, at)
-}
-
-// The answer that the bytes call for, from the front: all of them, or the refusal of the first that has no complement.
-fn first_fault(bases: &[u8]) -> Complemented
-    ensures { λ r. ⌜ r ≡ answerOf (complementOf (now (bases .entry))) ⌝ }
-{
-    let mut i = 0;
-    while 32 <= bases.len() - i {
-        let e = i + 32;
-        if let Complemented::Refused(why) = first_of_block(&bases[i..e], i) {
-            return Complemented::Refused(why);
-        }
-        i = e;
-    }
-    if let Complemented::Refused(why) = first_of_few(&bases[i..], i) {
-        return Complemented::Refused(why);
-    }
-    Complemented::Bytes(bases.len())
-}
-
-// The answer that bytes from `at` on call for, from the back and byte by byte: all of them, or the refusal of the last that has no
-// complement.
-fn last_of_few(bases: &[u8], at: usize) -> Complemented
-    requires { ⌜ at + length (now bases) < 2 ^ 64 ⌝ }
-    ensures { λ r. ⌜ r ≡ answerOf (reversedPartOf at (now (bases .entry))) ⌝ }
+// The same from the back: all of them, or the refusal of the last that has no complement.
+fn last_fault(bases: &[u8]) -> Complemented
+    ensures { λ r. ⌜ r ≡ answerOf (reverseComplementOf (now (bases .entry))) ⌝ }
 {
     let mut i = bases.len();
     while 0 < i {
         i -= 1;
         let b = bases[i];
-        if complement_base(b) == 0 {
-            return no_complement(at + i, b);
+        if !is_paired(b) {
+            return no_complement(i, b);
         }
     }
     Complemented::Bytes(bases.len())
 }
 
-// The same for a block.
-fn last_of_block(block: &[u8], at: usize) -> Complemented
-    requires { ⌜ (length (now block) ≡ 32) × (at + 32 < 2 ^ 64) ⌝ }
-    ensures { λ r. ⌜ r ≡ answerOf (reversedPartOf at (now (block .entry))) ⌝ }
-{
-    if plain_block(block) {
-        return Complemented::Bytes(32);
-    }
-    last_of_few(block, at)
-}
-
-// The answer that the bytes call for, from the back: all of them, or the refusal of the last that has no complement.
-fn last_fault(bases: &[u8]) -> Complemented
-    ensures { λ r. ⌜ r ≡ answerOf (reverseComplementOf (now (bases .entry))) ⌝ }
-{
-    let mut i = bases.len();
-    while 32 <= i {
-        let start = i - 32;
-        if let Complemented::Refused(why) = last_of_block(&bases[start..i], start) {
-            return Complemented::Refused(why);
-        }
-        i = start;
-    }
-    if let Complemented::Refused(why) = last_of_few(&bases[..i], 0) {
-        return Complemented::Refused(why);
-    }
-    Complemented::Bytes(bases.len())
-}
-
-// The answer of a call, from the back where it is reversed: the limit and the room are judged before the bytes.
-fn judge(bases: &[u8], room: usize, reversed: bool) -> Complemented
-    ensures { λ r. ⌜ r ≡ answerOf (sized (now (bases .entry)) room (cond reversed (reverseComplementOf (now (bases .entry))) (complementOf (now (bases .entry))))) ⌝ }
-{
-    if refusal::over_limit(bases.len()) {
-        return Complemented::Refused(Refusal::TooLong);
-    }
-    if room < bases.len() {
-        return no_room(bases.len());
-    }
-    if reversed {
-        last_fault(bases)
-    } else {
-        first_fault(bases)
-    }
-}
-
-// Writes the complement of each base to its place, byte by byte.
-fn write_few(bases: &[u8], out: &mut [u8])
-    requires { ⌜ length (now bases) ≤ length (now out) ⌝ }
+// Writes the complement of each base to its place.
+fn write(bases: &[u8], out: &mut [u8], plain: bool)
+    requires { ⌜ (length (now bases) ≤ length (now out)) × (allOf plain (now bases) ≡ true) ⌝ }
     ensures { λ _. ⌜ now (out .exit) ≡ outputOf (given (map partner (now (bases .entry)))) (now (out .entry)) ⌝ }
 {
     let mut i = 0;
     while i < bases.len() {
-        out[i] = complement_base(bases[i]);
+        out[i] = complement_base(bases[i], plain);
         i += 1;
     }
 }
 
-// The same for a block.
-fn write_block(block: &[u8], out: &mut [u8])
-    requires { ⌜ (length (now block) ≡ 32) × (32 ≤ length (now out)) ⌝ }
-    ensures { λ _. ⌜ now (out .exit) ≡ outputOf (given (map partner (now (block .entry)))) (now (out .entry)) ⌝ }
-{
-    if plain_block(block) {
-        put(flipped_block(block), out);
-        return;
-    }
-    write_few(block, out);
-}
-
-// Writes the complement of each base to its place.
-fn write(bases: &[u8], out: &mut [u8])
-    requires { ⌜ length (now bases) ≤ length (now out) ⌝ }
-    ensures { λ _. ⌜ now (out .exit) ≡ outputOf (given (map partner (now (bases .entry)))) (now (out .entry)) ⌝ }
-{
-    let mut i = 0;
-    while 32 <= bases.len() - i {
-        let e = i + 32;
-        write_block(&bases[i..e], &mut out[i..]);
-        i = e;
-    }
-    write_few(&bases[i..], &mut out[i..]);
-}
-
-// Writes the complements of the bases from the last to the first, byte by byte.
-fn write_few_reversed(bases: &[u8], out: &mut [u8])
-    requires { ⌜ length (now bases) ≤ length (now out) ⌝ }
+// Writes the complements of the bases from the last to the first.
+fn write_reversed(bases: &[u8], out: &mut [u8], plain: bool)
+    requires { ⌜ (length (now bases) ≤ length (now out)) × (allOf plain (now bases) ≡ true) ⌝ }
     ensures { λ _. ⌜ now (out .exit) ≡ outputOf (given (reverse (map partner (now (bases .entry))))) (now (out .entry)) ⌝ }
 {
     let mut i = bases.len();
     let mut at = 0;
     while 0 < i {
         i -= 1;
-        out[at] = complement_base(bases[i]);
+        out[at] = complement_base(bases[i], plain);
         at += 1;
     }
 }
 
-// The same for a block.
-fn write_block_reversed(block: &[u8], out: &mut [u8])
-    requires { ⌜ (length (now block) ≡ 32) × (32 ≤ length (now out)) ⌝ }
-    ensures { λ _. ⌜ now (out .exit) ≡ outputOf (given (reverse (map partner (now (block .entry))))) (now (out .entry)) ⌝ }
+// Writes all complements, from the last to the first where it is reversed, and tells how many.
+fn write_all(bases: &[u8], out: &mut [u8], plain: bool, reversed: bool) -> Complemented
+    requires { ⌜ (length (now bases) ≤ length (now out)) × (allOf plain (now bases) ≡ true) ⌝ }
+    ensures { λ r. ⌜ (r ≡ answerOf (outcomeOf reversed (now (bases .entry)))) × (now (out .exit) ≡ outputOf (outcomeOf reversed (now (bases .entry))) (now (out .entry))) ⌝ }
 {
-    if plain_block(block) {
-        put_reversed(flipped_block(block), out);
-        return;
+    if reversed {
+        write_reversed(bases, out, plain);
+        return Complemented::Bytes(bases.len());
     }
-    write_few_reversed(block, out);
+    write(bases, out, plain);
+    Complemented::Bytes(bases.len())
 }
 
-// Writes the complements of the bases from the last to the first.
-fn write_reversed(bases: &[u8], out: &mut [u8])
-    requires { ⌜ length (now bases) ≤ length (now out) ⌝ }
-    ensures { λ _. ⌜ now (out .exit) ≡ outputOf (given (reverse (map partner (now (bases .entry))))) (now (out .entry)) ⌝ }
+// The complement of the bases, from the last to the first where it is reversed: the limit and the room are judged before the bytes.
+fn complement_all(bases: &[u8], out: &mut [u8], reversed: bool) -> Complemented
+    ensures { λ r. ⌜ Told (now (bases .entry)) (outcomeOf reversed (now (bases .entry))) (now (out .entry)) (now (out .exit)) r ⌝ }
 {
-    let mut i = bases.len();
-    let mut at = 0;
-    while 32 <= i {
-        let start = i - 32;
-        write_block_reversed(&bases[start..i], &mut out[at..]);
-        i = start;
-        at += 32;
+    if refusal::over_limit(bases.len()) {
+        return Complemented::Refused(Refusal::TooLong);
     }
-    write_few_reversed(&bases[..i], &mut out[at..]);
+    if out.len() < bases.len() {
+        return no_room(bases.len());
+    }
+    if all_of(bases, true) {
+        return write_all(bases, out, true, reversed);
+    }
+    if all_of(bases, false) {
+        return write_all(bases, out, false, reversed);
+    }
+    if reversed {
+        return last_fault(bases);
+    }
+    first_fault(bases)
 }
 
 // The complement of the bases.
 pub fn complement(bases: &[u8], out: &mut [u8]) -> Complemented
     ensures { λ r. ⌜ Told (now (bases .entry)) (complementOf (now (bases .entry))) (now (out .entry)) (now (out .exit)) r ⌝ }
 {
-    match judge(bases, out.len(), false) {
-        Complemented::Bytes(n) => {
-            write(bases, out);
-            Complemented::Bytes(n)
-        }
-        Complemented::Refused(why) => Complemented::Refused(why),
-    }
+    complement_all(bases, out, false)
 }
 
 // The complement of the bases from the last to the first.
 pub fn reverse_complement(bases: &[u8], out: &mut [u8]) -> Complemented
     ensures { λ r. ⌜ Told (now (bases .entry)) (reverseComplementOf (now (bases .entry))) (now (out .entry)) (now (out .exit)) r ⌝ }
 {
-    match judge(bases, out.len(), true) {
-        Complemented::Bytes(n) => {
-            write_reversed(bases, out);
-            Complemented::Bytes(n)
-        }
-        Complemented::Refused(why) => Complemented::Refused(why),
-    }
+    complement_all(bases, out, true)
 }

@@ -1,46 +1,20 @@
--- `complement::complement_base` meets its contract: each arm has a rule's letter, and gives what that rule gives; the rest has none.
+-- `complement::complement_base` meets its contract: both ways give the complement of a base of their kind.
 -- Assumes nothing.
-use mathlib.Core.Path.{sym}
-use Rattle.complement.specs.Pairing.{partner}
-use Rattle.complement.specs.Laws.{partner-none}
+use borrow.Author.Needs.{needs}
 use Rattle.complement.proofs.complement_base.Statement.{statement}
 use Rattle.complement.proofs.complement_base.Tie as tie
 
+flipped-plain-requires : tie.Need-flipped-plain-requires
+flipped-plain-requires c κs = rw (c .if1 .taken) at (c .before .pre)
+
+returns : tie.Need-returns
+returns c = search needs
+
+flipped-requires : tie.Need-flipped-requires
+flipped-requires c κs = rw (c .if1 .left) at (c .before .pre)
+
+returns-2 : tie.Need-returns-2
+returns-2 c = search needs
+
 pub complement-base-spec : {M : Type 1} → statement M
-unfolding partner
-complement-base-spec =
-    tie.close
-    (tie.spec
-    (λ c. rw (c .match .keys1))
-    (λ c. rw (c .match .keys2))
-    (λ c. rw (c .match .keys3))
-    (λ c. rw (c .match .keys4))
-    (λ c. rw (c .match .keys5))
-    (λ c. rw (c .match .keys6))
-    (λ c. rw (c .match .keys7))
-    (λ c. rw (c .match .keys8))
-    (λ c. rw (c .match .keys9))
-    (λ c. rw (c .match .keys10))
-    (λ c. rw (c .match .keys11))
-    (λ c. rw (c .match .keys12))
-    (λ c. rw (c .match .keys13))
-    (λ c. rw (c .match .keys14))
-    (λ c. rw (c .match .keys15))
-    (λ c. rw (c .match .keys16))
-    (λ c. rw (c .match .keys17))
-    (λ c. rw (c .match .keys18))
-    (λ c. rw (c .match .keys19))
-    (λ c. rw (c .match .keys20))
-    (λ c. rw (c .match .keys21))
-    (λ c. rw (c .match .keys22))
-    (λ c. rw (c .match .keys23))
-    (λ c. rw (c .match .keys24))
-    (λ c. rw (c .match .keys25))
-    (λ c. rw (c .match .keys26))
-    (λ c. rw (c .match .keys27))
-    (λ c. rw (c .match .keys28))
-    (λ c. rw (c .match .keys29))
-    (λ c. rw (c .match .keys30))
-    (λ c. rw (c .match .keys31))
-    (λ c. rw (c .match .keys32))
-    (λ c. sym (partner-none _ (c .match .rest))))
+complement-base-spec = tie.close (tie.spec flipped-plain-requires returns flipped-requires returns-2)

@@ -1,0 +1,41 @@
+-- `complement::write_all` meets its contract: bytes that are all of a kind have nothing against them, and all are written.
+-- Assumes nothing.
+use mathlib.Core.Path.{refl}
+use borrow.Author.Needs.{needs}
+use lib.ListN.{length-map, length-reverse}
+use Rattle.complement.specs.Complement.{answerOf}
+use Rattle.complement.specs.Kinds.{outcomeOf}
+use Rattle.complement.specs.KindLaws.{all-given, all-given-reversed}
+use Rattle.complement.proofs.write_all.Statement.{statement}
+use Rattle.complement.proofs.write_all.Tie as tie
+
+write-reversed-requires : tie.Need-write-reversed-requires
+write-reversed-requires c κs = search needs
+
+same-length : tie.Need-same-length
+same-length c = search needs
+
+returns : tie.Need-returns
+unfolding outcomeOf answerOf
+returns c =
+    let t = c .before .before .before .before in
+    let s = t .before .before .before in
+    rw (t .if1 .taken, all-given-reversed _ _ (s .pre .1), length-reverse, length-map) (refl, c .before .before .write-reversed .ensures)
+
+write-requires : tie.Need-write-requires
+write-requires c κs = search needs
+
+same-length-2 : tie.Need-same-length-2
+same-length-2 c = search needs
+
+returns-2 : tie.Need-returns-2
+unfolding outcomeOf answerOf
+returns-2 c =
+    let t = c .before .before .before .before in
+    let s = t .before .before .before in
+    rw (t .if1 .left, all-given _ _ (s .pre .1), length-map) (refl, c .before .before .write .ensures)
+
+pub write-all-spec : {M : Type 1} → statement M
+write-all-spec =
+    tie.close
+    (tie.spec write-reversed-requires same-length returns write-requires same-length-2 returns-2)

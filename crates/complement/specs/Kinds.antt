@@ -1,0 +1,27 @@
+-- What the bytes are judged by: the plain bases, which most sequences have alone, and all that have a complement.
+use Prim.Native.Nat.{ℕ}
+use Prim.Native.Char.{code}
+use Prim.Native.String.{String, [] as empty, _∷_ as _◂_}
+use mathlib.Core.Bool.{Bool, true, false, cond, not}
+use mathlib.Core.List.{List, [], _∷_}
+use lib.Dec.{eqb}
+use Rattle.complement.specs.Pairing.{partner}
+use Rattle.complement.specs.Complement.{Outcome, complementOf, reverseComplementOf}
+
+-- is a byte a letter of a text
+abbrev pub among : String → ℕ → Bool
+among empty b = false
+among (x ◂ s) b = cond (eqb b (code x)) true (among s b)
+
+-- is a byte of a kind: plain, so one of the four and N in either case, or else any that has a complement
+unfoldable pub isOf : Bool → ℕ → Bool
+isOf plain b = cond plain (among "ACGTNacgtn" b) (not (eqb (partner b) 0))
+
+-- are all of some bytes
+unfoldable pub allOf : Bool → List ℕ → Bool
+allOf plain [] = true
+allOf plain (b ∷ s) = cond (isOf plain b) (allOf plain s) false
+
+-- what the bytes come to, from the back where it is reversed
+unfoldable pub outcomeOf : Bool → List ℕ → Outcome
+outcomeOf reversed s = cond reversed (reverseComplementOf s) (complementOf s)
