@@ -1,8 +1,8 @@
--- Decimal numbers, as document 01 has them.
+-- Decimal numbers, as document 01 has them, and request K2.
 use Prim.Native.Nat.{ℕ, zero, suc, _+_, _-_, _*_, _/_, _%_, _^_}
 use mathlib.Core.Path.{_≡_}
 use mathlib.Core.List.{List, [], _∷_}
-use mathlib.Core.Bool.{Bool, true, cond, not, _&&_}
+use mathlib.Core.Bool.{Bool, true, cond, not, _&&_, _||_}
 use lib.ListN.{length}
 use lib.Dec.{ltb, leb, eqb}
 use Rattle.index_line.specs.Bytes.{laidAt}
@@ -28,16 +28,21 @@ valueFrom a (b ∷ r) = valueFrom (a * 10 + (b - 48)) r
 unfoldable pub numberFrom : ℕ → List ℕ → Number
 numberFrom a l = cond (allDigits l) (cond (ltb (valueFrom a l) (2 ^ 64)) (Value (valueFrom a l)) Bad) Bad
 
--- a number is one or more digits; leading zeros are read
+-- one or more digits; leading zeros are read
+unfoldable pub digitsOf : List ℕ → Number
+digitsOf [] = Bad
+digitsOf (b ∷ r) = numberFrom 0 (b ∷ r)
+
+-- a number is one or more digits, which may have one plus before them
 unfoldable pub numberOf : List ℕ → Number
 numberOf [] = Bad
-numberOf (b ∷ r) = numberFrom 0 (b ∷ r)
+numberOf (b ∷ r) = cond (eqb b 43) (digitsOf r) (digitsOf (b ∷ r))
 
--- has a number no needless leading zero
+-- has a number no needless leading zero and no plus
 unfoldable pub plainNumber : List ℕ → Bool
 plainNumber [] = true
 plainNumber (b ∷ []) = true
-plainNumber (b ∷ x ∷ r) = not (eqb b 48)
+plainNumber (b ∷ x ∷ r) = not (eqb b 43 || eqb b 48)
 
 -- ---- writing
 

@@ -2,7 +2,7 @@
 use Prim.Native.Nat.{ℕ, zero, suc, _+_, _-_, _*_, _/_, _%_, _^_, _≤_, _<_}
 use mathlib.Core.Path.{_≡_, refl, sym, ap, _∙_}
 use mathlib.Core.List.{List, [], _∷_}
-use mathlib.Core.Bool.{Bool, true, false, cond, not, _&&_, true≢false}
+use mathlib.Core.Bool.{Bool, true, false, cond, not, _&&_, _||_, true≢false}
 use native.Mathlib.Omega.{arith}
 use native.Mathlib.Numerals.{add-one}
 use native.Mathlib.Nat.{pow-succ', pow-le-pow-right, one-le-pow, add-mul, mul-assoc, mul-le-mul-right, mod-eq-of-lt, div-eq-of-lt-le, div-div-eq-div-mul, lt-of-not-le, le-trans, add-zero, suc-add, add-suc, le-div-iff-mul-le, div-lt-iff-lt-mul, mul-comm}
@@ -10,21 +10,21 @@ use lib.Arith.{mod-mul}
 use lib.ListN.{length, getD, drop, drop-of-length-le}
 use lib.Seq.{drop-cons}
 use lib.Dec.{ltb, leb, eqb, lit<}
-use borrow.Author.Tests.{lt-ltb, le-ltb, ltb-true, ltb-false, le-leb, lt-leb, leb-true, ne-eqb, eqb-false, not-true}
+use borrow.Author.Tests.{lt-ltb, le-ltb, ltb-true, ltb-false, le-leb, lt-leb, leb-true, eq-eqb, ne-eqb, eqb-false}
 use Rattle.index_line.specs.declared.Number.the-variants.{Value, Bad}
-use Rattle.index_line.specs.Decimal.{allDigits, valueFrom, numberFrom, numberOf, plainNumber, digits, widthFrom, width, decimalOf}
+use Rattle.index_line.specs.Decimal.{allDigits, valueFrom, numberFrom, digitsOf, numberOf, plainNumber, digits, widthFrom, width, decimalOf}
 
 -- ---- reading, from a place on
 
-pub number-none : (s : List ℕ) → length s ≡ 0 → Bad ≡ numberOf s
-unfolding numberOf
-number-none [] h = refl
-number-none (b ∷ r) h = absurd (omega arith)
+pub digits-none : (s : List ℕ) → length s ≡ 0 → Bad ≡ digitsOf s
+unfolding digitsOf
+digits-none [] h = refl
+digits-none (b ∷ r) h = absurd (omega arith)
 
-pub number-start : (s : List ℕ) → (length s ≡ 0 → ⊥) → numberFrom 0 (drop 0 s) ≡ numberOf s
-unfolding numberOf
-number-start [] h = absurd (h refl)
-number-start (b ∷ r) h = refl
+pub digits-start : (s : List ℕ) → (length s ≡ 0 → ⊥) → numberFrom 0 (drop 0 s) ≡ digitsOf s
+unfolding digitsOf
+digits-start [] h = absurd (h refl)
+digits-start (b ∷ r) h = refl
 
 module _ (s : List ℕ) (a i : ℕ) where
   pub number-end : length s ≤ i → a < 2 ^ 64 → numberFrom a (drop i s) ≡ Value a
@@ -63,11 +63,34 @@ plain-short [] h = refl
 plain-short (b ∷ []) h = refl
 plain-short (b ∷ x ∷ r) h = absurd (omega arith)
 
-pub plain-first : (s : List ℕ) → 2 ≤ length s → not (eqb (getD s 0 0) 48) ≡ plainNumber s
+pub plain-plus : (s : List ℕ) → 2 ≤ length s → getD s 0 0 ≡ 43 → false ≡ plainNumber s
 unfolding plainNumber
-plain-first [] h = absurd (omega arith)
-plain-first (b ∷ []) h = absurd (omega arith)
-plain-first (b ∷ x ∷ r) h = refl
+plain-plus [] h p = absurd (omega arith)
+plain-plus (b ∷ []) h p = absurd (omega arith)
+plain-plus (b ∷ x ∷ r) h p = rw (eq-eqb b 43 p)
+
+pub plain-first : (s : List ℕ) → 2 ≤ length s → (getD s 0 0 ≡ 43 → ⊥) → not (eqb (getD s 0 0) 48) ≡ plainNumber s
+unfolding plainNumber
+plain-first [] h p = absurd (omega arith)
+plain-first (b ∷ []) h p = absurd (omega arith)
+plain-first (b ∷ x ∷ r) h p = rw (ne-eqb b 43 p)
+
+-- ---- a number, with a plus and without
+
+pub number-none : (s : List ℕ) → length s ≡ 0 → Bad ≡ numberOf s
+unfolding numberOf
+number-none [] h = refl
+number-none (b ∷ r) h = absurd (omega arith)
+
+pub number-plus : (s : List ℕ) → 1 ≤ length s → getD s 0 0 ≡ 43 → digitsOf (drop 1 s) ≡ numberOf s
+unfolding numberOf
+number-plus [] h p = absurd (omega arith)
+number-plus (b ∷ r) h p = rw (eq-eqb b 43 p)
+
+pub number-digits : (s : List ℕ) → (getD s 0 0 ≡ 43 → ⊥) → digitsOf s ≡ numberOf s
+unfolding digitsOf numberOf
+number-digits [] p = refl
+number-digits (b ∷ r) p = rw (ne-eqb b 43 p)
 
 -- ---- the number of digits
 
@@ -178,15 +201,23 @@ from-digits k n g d =
     let e : valueFrom 0 (digits k n) ≡ n = value-digits k n 0 ∙ (rw (mod-eq-of-lt g) (omega arith)) in
     rw (digits-all k n, e, lt-ltb _ _ d)
 
-number-some : (s : List ℕ) → 1 ≤ length s → numberOf s ≡ numberFrom 0 s
-unfolding numberOf
-number-some [] h = absurd (omega arith)
-number-some (b ∷ r) h = refl
+digits-some : (s : List ℕ) → 1 ≤ length s → digitsOf s ≡ numberFrom 0 s
+unfolding digitsOf
+digits-some [] h = absurd (omega arith)
+digits-some (b ∷ r) h = refl
+
+-- no plus is written
+digits-first : (k n : ℕ) → getD (digits k n) 0 0 ≡ 43 → ⊥
+unfolding digits
+digits-first zero n e = absurd (omega arith)
+digits-first (suc k) n e = absurd (omega arith)
 
 -- a number that is written reads back as itself
 pub read-written : (n : ℕ) → n < 2 ^ 64 → numberOf (decimalOf n) ≡ Value n
 unfolding decimalOf
-read-written n b = number-some _ (rw (digits-length (width n) n) (wide n .some)) ∙ from-digits (width n) n (wide n .enough) b
+read-written n b =
+    sym (number-digits _ (digits-first (width n) n))
+    ∙ (digits-some _ (rw (digits-length (width n) n) (wide n .some)) ∙ from-digits (width n) n (wide n .enough) b)
 
 plain-digits : (w n : ℕ) → Wide n w → plainNumber (digits w n) ≡ true
 unfolding digits plainNumber
@@ -196,7 +227,7 @@ plain-digits (suc (suc k)) n x =
     let q : 10 ^ suc k ≤ n = x .least (suc k) (omega arith) (omega arith) in
     let low : 1 ≤ n / 10 ^ suc k = le-div-iff-mul-le {k = 10 ^ suc k} {x = 1} {y = n} (ten-pos (suc k)) .1 (omega arith) in
     let up : n / 10 ^ suc k < 10 = div-lt-iff-lt-mul {k = 10 ^ suc k} {x = n} {y = 10} (ten-pos (suc k)) .1 (rw (← pow-succ' 10 (suc k)) (x .enough)) in
-    rw (ne-eqb (48 + n / 10 ^ suc k % 10) 48 (λ e. omega arith))
+    rw (ne-eqb (48 + n / 10 ^ suc k % 10) 43 (λ e. omega arith), ne-eqb (48 + n / 10 ^ suc k % 10) 48 (λ e. omega arith))
 
 -- and is plain
 pub written-plain : (n : ℕ) → plainNumber (decimalOf n) ≡ true
@@ -247,19 +278,49 @@ number-is s v h = go (allDigits s) (ltb (valueFrom 0 s) (2 ^ 64)) refl refl h
     go true false e g k = let z : _≡_ {A = ℕ} 0 1 = cc in absurd (omega arith)
     go false u e g k = let z : _≡_ {A = ℕ} 0 1 = cc in absurd (omega arith)
 
+-- digits that are read are one or more
+digits-are : (s : List ℕ) (v : ℕ) → digitsOf s ≡ Value v → (1 ≤ length s) × (numberFrom 0 s ≡ Value v)
+unfolding digitsOf
+digits-are [] v h = let z : _≡_ {A = ℕ} 0 1 = cc in absurd (omega arith)
+digits-are (b ∷ r) v h = (omega arith, h)
+
 -- a number that is read fits 64 bits
 pub number-fits : (s : List ℕ) (v : ℕ) → numberOf s ≡ Value v → v < 2 ^ 64
 unfolding numberOf
 number-fits [] v h = let z : _≡_ {A = ℕ} 0 1 = cc in absurd (omega arith)
-number-fits (b ∷ r) v h = number-is (b ∷ r) v h .1 .1
+number-fits (b ∷ r) v h = go (eqb b 43) h
+  where
+    go : (t : Bool) → cond t (digitsOf r) (digitsOf (b ∷ r)) ≡ Value v → v < 2 ^ 64
+    go true k = number-is r v (digits-are r v k .1) .1 .1
+    go false k = number-is (b ∷ r) v (digits-are (b ∷ r) v k .1) .1 .1
+
+-- a plain number begins with no plus, and where it has more than one byte with no zero
+plain-front : (b x : ℕ) (r : List ℕ) → plainNumber (b ∷ x ∷ r) ≡ true → (eqb b 43 ≡ false) × (eqb b 48 ≡ false)
+unfolding plainNumber
+plain-front b x r p = go (eqb b 43) (eqb b 48) refl refl p
+  where
+    go : (t u : Bool) → eqb b 43 ≡ t → eqb b 48 ≡ u → not (t || u) ≡ true → (eqb b 43 ≡ false) × (eqb b 48 ≡ false)
+    go true u e g k = absurd (true≢false (sym k))
+    go false true e g k = absurd (true≢false (sym k))
+    go false false e g k = (e, g)
+
+-- so it is its digits
+plain-digits-are : (b : ℕ) (r : List ℕ) (v : ℕ) → numberOf (b ∷ r) ≡ Value v → plainNumber (b ∷ r) ≡ true → numberFrom 0 (b ∷ r) ≡ Value v
+unfolding numberOf
+plain-digits-are b [] v h p = go (eqb b 43) h
+  where
+    go : (t : Bool) → cond t (digitsOf []) (digitsOf (b ∷ [])) ≡ Value v → numberFrom 0 (b ∷ []) ≡ Value v
+    go true k = absurd (omega (arith, digits-are [] v k .0))
+    go false k = digits-are (b ∷ []) v k .1
+plain-digits-are b (x ∷ r) v h p = digits-are (b ∷ x ∷ r) v (rw (plain-front b x r p .0) at h) .1
 
 wide-value : (b : ℕ) (r : List ℕ) → allDigits (b ∷ r) ≡ true → plainNumber (b ∷ r) ≡ true → Wide (valueFrom 0 (b ∷ r)) (length (b ∷ r))
-unfolding plainNumber valueFrom
+unfolding valueFrom
 wide-value b [] h p = wide-by _ 0 (omega (arith, value-span 0 (b ∷ []) h .1)) (λ g. absurd (omega arith))
 wide-value b (x ∷ r) h p =
     let k : ℕ = suc (length r) in
     let d : ℕ = 0 * 10 + (b - 48) in
-    let e : 1 * 10 ^ k ≤ d * 10 ^ k = mul-le-mul-right (10 ^ k) (omega (arith, digit-in b (x ∷ r) h, eqb-false b 48 (not-true _ p))) in
+    let e : 1 * 10 ^ k ≤ d * 10 ^ k = mul-le-mul-right (10 ^ k) (omega (arith, digit-in b (x ∷ r) h, eqb-false b 48 (plain-front b x r p .1))) in
     wide-by _ k (omega (arith, value-span 0 (b ∷ x ∷ r) h .1)) (λ _. omega (arith, e, value-span d (x ∷ r) (digit-in b (x ∷ r) h .1 .1)))
 
 -- a plain number is written as it was read
@@ -267,5 +328,5 @@ pub write-read : (s : List ℕ) (v : ℕ) → numberOf s ≡ Value v → plainNu
 unfolding numberOf decimalOf
 write-read [] v h p = let z : _≡_ {A = ℕ} 0 1 = cc in absurd (omega arith)
 write-read (b ∷ r) v h p =
-    let n = number-is (b ∷ r) v h in
+    let n = number-is (b ∷ r) v (plain-digits-are b r v h p) in
     rw (← n .1 .0, wide-is _ _ (wide-value b r (n .0) p)) (digits-value 0 (b ∷ r) (n .0))

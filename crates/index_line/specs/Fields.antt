@@ -37,7 +37,7 @@ placed line place n plain (Value v) = cond (zeroBarred place v) (field.Refused (
 unfoldable pub fieldSays : ℕ → ℕ → List ℕ → FieldRead
 fieldSays line place f = placed line place (length f) (plainNumber f) (numberOf f)
 
--- some numbers, and whether none has a needless leading zero; or why they are refused
+-- some numbers, and whether none has a needless leading zero or a plus; or why they are refused
 pub data Numbers : Type 0 where
   Are : List ℕ → Bool → Numbers
   Not : Refusal → Numbers

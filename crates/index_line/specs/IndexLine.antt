@@ -57,7 +57,7 @@ onlyIf p (read.Row e) = read.Row (record { «record» = e .«record»; plain = p
 onlyIf p (read.Refused r) = read.Refused r
 
 -- what a line says: a final LF, and one CR before it, come off. It is plain if it reads, ends in LF with no CR before it, and no
--- number has a needless leading zero
+-- number has a needless leading zero or a plus
 unfoldable pub lineSays : ℕ → List ℕ → LineRead
 lineSays line l = onlyIf (plainEnd l) (contentSays line (contentOf l))
 

@@ -1,11 +1,11 @@
 // Decimal numbers, read from bytes and written as bytes. A number is one or more digits 0 to 9, at most 18,446,744,073,709,551,615;
-// leading zeros are read, and none is written.
+// one plus may stand before them. A plus and leading zeros are read, and none is written.
 use crate::Number;
 ghost use mathlib.Core.Path.{_≡_};
 ghost use Prim.Native.Nat.{_+_, _*_, _^_, _≤_};
 ghost use lib.ListN.{length};
 ghost use lib.Dec.{ltb};
-ghost use Rattle.index_line.specs.Decimal.{numberOf, plainNumber, digits, decimalOf, NumberWritten};
+ghost use Rattle.index_line.specs.Decimal.{digitsOf, numberOf, plainNumber, digits, decimalOf, NumberWritten};
 ghost use Rattle.index_line.specs.Bytes.{overlaid};
 
 // The largest number.
@@ -32,9 +32,9 @@ fn may_follow(value: u64, digit: u64) -> bool
     value <= (LARGEST - digit) / 10
 }
 
-// Reads a number that is all of `s`.
-pub fn read_number(s: &[u8]) -> Number
-    ensures { λ r. ⌜ r ≡ numberOf (now (s .entry)) ⌝ }
+// Reads one or more digits that are all of `s`.
+fn read_digits(s: &[u8]) -> Number
+    ensures { λ r. ⌜ r ≡ digitsOf (now (s .entry)) ⌝ }
 {
     if s.len() == 0 {
         return Number::Bad;
@@ -59,12 +59,28 @@ pub fn read_number(s: &[u8]) -> Number
     Number::Value(value)
 }
 
-// Has a number no needless leading zero.
+// Reads a number that is all of `s`.
+pub fn read_number(s: &[u8]) -> Number
+    ensures { λ r. ⌜ r ≡ numberOf (now (s .entry)) ⌝ }
+{
+    if s.len() == 0 {
+        return Number::Bad;
+    }
+    if s[0] == 43 {
+        return read_digits(&s[1..]);
+    }
+    read_digits(s)
+}
+
+// Has a number no needless leading zero and no plus.
 pub(crate) fn plain_number(s: &[u8]) -> bool
     ensures { λ r. ⌜ r ≡ plainNumber (now (s .entry)) ⌝ }
 {
     if s.len() < 2 {
         return true;
+    }
+    if s[0] == 43 {
+        return false;
     }
     s[0] != 48
 }

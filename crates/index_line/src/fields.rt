@@ -12,7 +12,7 @@ ghost use Rattle.index_line.specs.Fields.{zeroBarred, fieldSays, numbers
 ghost use Rattle.index_line.specs.Reading.{fieldLen, behind, told};
 ghost use Rattle.index_line.specs.Writing.{NumbersPut};
 
-// A field that is a number: its value, how many bytes it has, and whether it has no needless leading zero.
+// A field that is a number: its value, how many bytes it has, and whether it has no needless leading zero and no plus.
 pub struct Field {
     pub value: u64,
     pub length: usize,
@@ -25,7 +25,7 @@ pub enum FieldRead {
     Refused(Refusal),
 }
 
-// All numbers are read, and none has a needless leading zero or some have; or why they are not.
+// All numbers are read, and none has a needless leading zero or a plus, or some have; or why they are not.
 pub enum NumbersRead {
     All { plain: bool },
     Refused(Refusal),
