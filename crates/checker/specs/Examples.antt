@@ -10,7 +10,7 @@ use Rattle.lines.specs.Same.{sameBytes}
 use Rattle.definition.specs.Definition.{isSpace, run, keep, contentSays, refusalOf}
 use Rattle.definition.specs.Definition as definition
 use Rattle.record.specs.Place.{placeOf}
-use Rattle.index_line.specs.Decimal.{allDigits, valueFrom, numberFrom, numberOf, plainNumber}
+use Rattle.index_line.specs.Decimal.{allDigits, valueFrom, numberFrom, digitsOf, numberOf, plainNumber}
 use Rattle.index_line.specs.Fields.{cutAt, fieldSays, numbersFrom}
 use Rattle.index_line.specs.IndexLine.{fieldsOf, plainEnd, nameOf}
 use Rattle.index_line.specs.IndexLine as index
@@ -57,6 +57,9 @@ pairs =
     ∷ record { fasta = (62 ∷ 115 ∷ 10 ∷ []); index = (115 ∷ 9 ∷ 48 ∷ 9 ∷ 51 ∷ 9 ∷ 48 ∷ 9 ∷ 48 ∷ 10 ∷ []) }
     -- `>s\nA\n` with `s\t1\t3\t1\t2\n\n`
     ∷ record { fasta = (62 ∷ 115 ∷ 10 ∷ 65 ∷ 10 ∷ []); index = (115 ∷ 9 ∷ 49 ∷ 9 ∷ 51 ∷ 9 ∷ 49 ∷ 9 ∷ 50 ∷ 10 ∷ 10 ∷ []) }
+    -- numbers with a plus (K2): `>s\nA\n` with `s\t+1\t3\t+1\t+2\n`, and with `s\t1\t3\t+0\t2\n`
+    ∷ record { fasta = (62 ∷ 115 ∷ 10 ∷ 65 ∷ 10 ∷ []); index = (115 ∷ 9 ∷ 43 ∷ 49 ∷ 9 ∷ 51 ∷ 9 ∷ 43 ∷ 49 ∷ 9 ∷ 43 ∷ 50 ∷ 10 ∷ []) }
+    ∷ record { fasta = (62 ∷ 115 ∷ 10 ∷ 65 ∷ 10 ∷ []); index = (115 ∷ 9 ∷ 49 ∷ 9 ∷ 51 ∷ 9 ∷ 43 ∷ 48 ∷ 9 ∷ 50 ∷ 10 ∷ []) }
     -- an empty one with `\n`
     ∷ record { fasta = []; index = (10 ∷ []) }
     -- an empty one with an empty one
@@ -79,10 +82,12 @@ verdicts =
     ∷ Accepted
     ∷ Refused (refusal.ZeroField 1 4)
     ∷ Refused (refusal.BytesLeft 1)
+    ∷ Accepted
+    ∷ Refused (refusal.ZeroField 1 4)
     ∷ Refused (refusal.BytesLeft 0)
     ∷ Accepted
     ∷ []
 
 come-out : map verdictOf pairs ≡ verdicts
-unfolding pairs verdicts overLimit lines chop ends contentOf sumBases sumWidths upFrom basesAt groups sameBytes isSpace run keep contentSays refusalOf definition.lineSays placeOf allDigits valueFrom numberFrom numberOf plainNumber cutAt fieldSays numbersFrom fieldsOf plainEnd nameOf index.contentSays index.lineSays firstElsewhere sequenceSays entrySays againstLines recordSays recordsSay checkOf
+unfolding pairs verdicts overLimit lines chop ends contentOf sumBases sumWidths upFrom basesAt groups sameBytes isSpace run keep contentSays refusalOf definition.lineSays placeOf allDigits valueFrom numberFrom digitsOf numberOf plainNumber cutAt fieldSays numbersFrom fieldsOf plainEnd nameOf index.contentSays index.lineSays firstElsewhere sequenceSays entrySays againstLines recordSays recordsSay checkOf
 come-out = refl

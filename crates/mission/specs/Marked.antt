@@ -21,7 +21,7 @@ use Rattle.record.specs.Row.{rowCount, rowAt, soundRow, heldAt}
 use Rattle.sequence.specs.Scan.{endsLine, skipped, scanFrom, scanAt, scanAll}
 use Rattle.table.specs.declared.Stop.{Stop}
 use Rattle.table.specs.declared.Stop.the-variants as stop
-use Rattle.index_line.specs.Decimal.{allDigits, valueFrom, numberFrom, numberOf, plainNumber, digits, widthFrom, width, decimalOf}
+use Rattle.index_line.specs.Decimal.{allDigits, valueFrom, numberFrom, digitsOf, numberOf, plainNumber, digits, widthFrom, width, decimalOf}
 use Rattle.index_line.specs.Fields.{cutAt, fieldSays, numbersFrom, tabbed, textOf}
 use Rattle.index_line.specs.IndexLine.{fieldsOf, plainEnd, nameOf, nameIn, lineOf}
 use Rattle.index_line.specs.IndexLine as index
@@ -142,5 +142,5 @@ answers =
     ∷ []
 
 pub marked : asked ≡ answers
-unfolding asked answers indexLines numbersOf overLimit lines chop ends contentOf seqOf sumBases sumWidths upFrom basesAt groups sameBytes partner firstOr faults reverseComplementOf isSpace run keep refusalOf definition.contentSays definition.lineSays placeOf placesFrom offsetOf hasPlace addressOf rowCount rowAt soundRow heldAt endsLine skipped scanFrom scanAt scanAll allDigits valueFrom numberFrom numberOf plainNumber digits widthFrom width decimalOf cutAt fieldSays numbersFrom tabbed textOf fieldsOf plainEnd nameOf nameIn lineOf index.contentSays index.lineSays fitsLast restOf judge sequenceSays fileOf fileAt refuses gives isZero crossed badBounds boundedRow startOf endOf inFile pastLength bytesAt basesFrom regionOf exactIn exactOf exactRead scanTo pours rawAt rawIn rawOf rawRead firstElsewhere checker.sequenceSays entrySays againstLines recordSays recordsSay checkOf
+unfolding asked answers indexLines numbersOf overLimit lines chop ends contentOf seqOf sumBases sumWidths upFrom basesAt groups sameBytes partner firstOr faults reverseComplementOf isSpace run keep refusalOf definition.contentSays definition.lineSays placeOf placesFrom offsetOf hasPlace addressOf rowCount rowAt soundRow heldAt endsLine skipped scanFrom scanAt scanAll allDigits valueFrom numberFrom digitsOf numberOf plainNumber digits widthFrom width decimalOf cutAt fieldSays numbersFrom tabbed textOf fieldsOf plainEnd nameOf nameIn lineOf index.contentSays index.lineSays fitsLast restOf judge sequenceSays fileOf fileAt refuses gives isZero crossed badBounds boundedRow startOf endOf inFile pastLength bytesAt basesFrom regionOf exactIn exactOf exactRead scanTo pours rawAt rawIn rawOf rawRead firstElsewhere checker.sequenceSays entrySays againstLines recordSays recordsSay checkOf
 marked = refl
