@@ -203,14 +203,15 @@ fn fill(table: &mut [u64], rows: impl Iterator<Item = Result<Row, No>>) -> Told 
 
 // ---- index lines ----
 
-/// One or more digits, of a value that 64 bits hold.
+/// One or more digits, of a value that 64 bits hold; one plus may stand before them.
 fn number(field: &[u8]) -> Option<u64> {
+    let digits = field.strip_prefix(b"+").unwrap_or(field);
     let mut value: u64 = 0;
-    for b in field {
+    for b in digits {
         let digit = b.is_ascii_digit().then(|| u64::from(b - b'0'))?;
         value = value.checked_mul(10)?.checked_add(digit)?;
     }
-    (!field.is_empty()).then_some(value)
+    (!digits.is_empty()).then_some(value)
 }
 
 /// The row that an index line's content says, its name starting at `start`; refusals name this line or record.
@@ -236,9 +237,9 @@ fn index_content(content: &[u8], start: u64, line: u64) -> Result<Row, No> {
     Ok(row)
 }
 
-/// Ends in LF with no CR before it, and no number has a needless leading zero.
+/// Ends in LF with no CR before it, and no number has a needless leading zero or a plus.
 fn is_plain(line: &[u8]) -> bool {
-    let needless = |field: &[u8]| field.len() > 1 && field[0] == b'0';
+    let needless = |field: &[u8]| field.starts_with(b"+") || field.len() > 1 && field[0] == b'0';
     match line.strip_suffix(b"\n") {
         None => false,
         Some(rest) => rest.last() != Some(&b'\r') && !rest.splitn(5, |b| *b == b'\t').skip(1).any(needless),

@@ -24,8 +24,6 @@ pub enum Kind {
     Skipped,
     /// Ours wasn't asked: there is no program to run.
     NotAsked,
-    /// Listed: a plus before a number, which the original takes.
-    Plus,
     /// Listed: the program ends at its limits of bytes and rows.
     ProgramLimit,
     /// Listed: an absent end is no limit, where the original stops at the greatest base position.
@@ -43,7 +41,6 @@ impl Kind {
             Self::Added => "no answer, an added refusal",
             Self::Skipped => "no answer",
             Self::NotAsked => "not asked",
-            Self::Plus => "listed: plus",
             Self::ProgramLimit => "listed: program's limits",
             Self::NoLimit => "listed: no limit",
             Self::Different => "DIFFERENT",
@@ -94,21 +91,10 @@ fn against_original(question: &str, original: &str, ours: &str) -> Kind {
     }
     let arguments: Vec<&str> = question.split(' ').skip(1).collect();
     match family {
-        "ixc" | "ixt" if is_plus(&arguments, &mine) => Kind::Plus,
         "prg" if is_program_limit(&arguments, original, ours) => Kind::ProgramLimit,
         "rar" if is_no_limit(&arguments, &theirs, &mine) => Kind::NoLimit,
         _ => Kind::Different,
     }
-}
-
-/// Ours refuses a number, and the field that it names begins with a plus.
-fn is_plus(arguments: &[&str], mine: &[&str]) -> bool {
-    let [_, "11", line, field, ..] = mine else { return false };
-    let (Ok(line), Ok(field)) = (line.parse::<usize>(), field.parse::<usize>()) else { return false };
-    let text = arguments.first().and_then(|word| form::bytes(word)).unwrap_or_default();
-    // a content that is read alone is one line, whatever is in it
-    let line = if arguments.len() == 1 { Some(&text[..]) } else { text.split(|b| *b == b'\n').nth(line - 1) };
-    line.and_then(|line| line.splitn(5, |b| *b == b'\t').nth(field - 1)).is_some_and(|field| field.starts_with(b"+"))
 }
 
 /// Ours ends with refusal 8 at 1,024 rows, and all before it is the beginning of the original's.

@@ -36,14 +36,11 @@ fn memory_after_a_refusal() {
 }
 
 #[test]
-fn plus() {
+fn a_plus_is_no_difference() {
     // `s`, tab, `+4`, and so on
     let question = "ixc x73092b34093309340935";
-    assert_eq!(original(question, "ok t0,1,4,3,4,5", "no 11 1 2"), Kind::Plus);
-    assert_eq!(original(question, "ok t0,1,4,3,4,5", "no 11 1 3"), Kind::Different);
-    assert_eq!(original(question, "ok t0,1,4,3,4,5", "no 10 1 2"), Kind::Different);
-    let plain = "ixc x730934093309340935";
-    assert_eq!(original(plain, "ok t0,1,4,3,4,5", "no 11 1 2"), Kind::Different);
+    assert_eq!(original(question, "ok t0,1,4,3,4,5", "ok t0,1,4,3,4,5"), Kind::Same);
+    assert_eq!(original(question, "ok t0,1,4,3,4,5", "no 11 1 2"), Kind::Different);
 }
 
 #[test]

@@ -123,6 +123,8 @@ pub fn index_record(fasta: &[u8], at: u64) -> Result<Option<(Record<'_>, u64)>, 
 /// ```
 /// let (record, plain) = wakeluri::index_line(b"s\t4\t3\t060\t61\n")?;
 /// assert_eq!((record.name, record.line_bases, plain), (&b"s"[..], 60, false));
+/// let (record, plain) = wakeluri::index_line(b"s\t4\t3\t+60\t+61\n")?;
+/// assert_eq!((record.line_bases, record.line_width, plain), (60, 61, false));
 /// # Ok::<(), wakeluri::Refusal>(())
 /// ```
 pub fn index_line(line: &[u8]) -> Result<(Record<'_>, bool), Refusal> {
