@@ -1,0 +1,127 @@
+//! What is put in an output: sequences, regions, complements.
+
+use crate::lines::scan;
+use crate::rows::row;
+use crate::{n, no, within_limit};
+use questions::form::{Bounds, No, Row, Rows, Told};
+
+// ---- outputs ----
+
+pub(crate) fn counted(answer: Result<u64, No>) -> Told {
+    match answer {
+        Ok(count) => Told { no: None, count, next: 0 },
+        Err(no) => Told { no: Some(no), count: 0, next: 0 },
+    }
+}
+
+/// Puts an answer at the front of an output; 14 where it is too short.
+pub(crate) fn put(answer: &[u8], out: &mut [u8]) -> Result<u64, No> {
+    match out.get_mut(..answer.len()) {
+        None => no(14, n(answer.len()), 0),
+        Some(front) => {
+            front.copy_from_slice(answer);
+            Ok(n(answer.len()))
+        }
+    }
+}
+
+pub(crate) fn sequence(file: &[u8], at: u64, limit: Option<u64>, out: &mut [u8]) -> Told {
+    if let Err(no) = within_limit(&[file]) {
+        return counted(Err(no));
+    }
+    let (found, place) = scan(file, at, limit);
+    match put(&found, out) {
+        Ok(count) => Told { no: None, count, next: place },
+        Err(no) => counted(Err(no)),
+    }
+}
+
+// ---- reads ----
+
+/// Where base p lies, over whole numbers: at most 128 bits are needed.
+pub(crate) fn offset(row: &Row, p: u64) -> u128 {
+    let [_, _, _, position, line_bases, line_width] = row.map(u128::from);
+    let i = u128::from(p) - 1;
+    position + i / line_bases * line_width + i % line_bases
+}
+
+/// Refusal 16 judges the bounds that are given.
+pub(crate) fn judge_bounds((start, end): Bounds) -> Result<(), No> {
+    let crossed = matches!((start, end), (Some(start), Some(end)) if start > end);
+    if start == Some(0) || end == Some(0) || crossed { no(16, 0, 0) } else { Ok(()) }
+}
+
+pub(crate) fn exact(file: &[u8], rows: &Rows, r: u64, bounds: Bounds, out: &mut [u8]) -> Result<u64, No> {
+    within_limit(&[file])?;
+    judge_bounds(bounds)?;
+    let row = row(rows, r)?;
+    let length = row[2];
+    let (start, end) = (bounds.0.unwrap_or(1), bounds.1.unwrap_or(length));
+    if start > length || end > length {
+        return no(17, length, 0);
+    }
+    let needed = end - start + 1;
+    if n(out.len()) < needed {
+        return no(14, needed, 0);
+    }
+    let mut found = vec![];
+    for p in start..=end {
+        let at = offset(&row, p);
+        if at >= file.len() as u128 {
+            return no(18, p, 0);
+        }
+        found.push(file[at as usize]);
+    }
+    put(&found, out)
+}
+
+pub(crate) fn raw(file: &[u8], rows: &Rows, r: u64, bounds: Bounds, out: &mut [u8]) -> Result<u64, No> {
+    within_limit(&[file])?;
+    judge_bounds(bounds)?;
+    let row = row(rows, r)?;
+    let start = bounds.0.unwrap_or(1);
+    let Ok(at) = u64::try_from(offset(&row, start)) else {
+        return no(18, start, 0);
+    };
+    let limit = bounds.1.map(|end| end - start + 1);
+    put(&scan(file, at, limit).0, out)
+}
+
+// ---- complement ----
+
+pub(crate) fn complement_of(base: u8) -> Option<u8> {
+    const PAIRS: [&[u8; 2]; 6] = [b"AT", b"CG", b"MK", b"RY", b"BV", b"DH"];
+    let upper = base.to_ascii_uppercase();
+    let mut partner = match upper {
+        b'W' | b'S' | b'N' => Some(upper),
+        b'U' => Some(b'A'),
+        _ => None,
+    };
+    for [a, b] in PAIRS {
+        if upper == *a {
+            partner = Some(*b);
+        } else if upper == *b {
+            partner = Some(*a);
+        }
+    }
+    partner.map(|p| if base.is_ascii_lowercase() { p.to_ascii_lowercase() } else { p })
+}
+
+pub(crate) fn complemented(text: &[u8], back: bool, out: &mut [u8]) -> Result<u64, No> {
+    within_limit(&[text])?;
+    if out.len() < text.len() {
+        return no(14, n(text.len()), 0);
+    }
+    let mut order: Vec<usize> = (0..text.len()).collect();
+    if back {
+        order.reverse();
+    }
+    let mut found = vec![];
+    for place in order {
+        match complement_of(text[place]) {
+            None => return no(24, n(place), u64::from(text[place])),
+            Some(base) => found.push(base),
+        }
+    }
+    put(&found, out)
+}

@@ -1,0 +1,154 @@
+//! The rows of a file and of an index text, and those of a table that was lent.
+
+use crate::lines::{bases, content, definition, first_line, from};
+use crate::reads::put;
+use crate::{n, no, within_limit};
+use questions::form::{No, Row, Rows, Told};
+
+// ---- the indexer ----
+
+/// The lines of a record's sequence: all up to one that begins with '>', or to the end.
+pub(crate) fn sequence_lines(text: &[u8]) -> Vec<&[u8]> {
+    text.split_inclusive(|b| *b == b'\n').take_while(|line| line[0] != b'>').collect()
+}
+
+/// The row of the record at an offset, and the offset behind it.
+pub(crate) fn record(file: &[u8], at: u64) -> Result<Option<(Row, u64)>, No> {
+    let rest = from(file, at);
+    let Some(line) = first_line(rest) else { return Ok(None) };
+    let [name_start, name_length, ..] = definition(content(line))?;
+    let lines = sequence_lines(&rest[line.len()..]);
+    let position = at + n(line.len());
+
+    let (width, count) = lines.first().map_or((0, 0), |first| (first.len(), bases(first).len()));
+    if count == 0 {
+        return no(5, position + n(width), 0);
+    }
+    for k in 1.. {
+        let (this_width, this_count) = lines.get(k).map_or((0, 0), |line| (line.len(), bases(line).len()));
+        let nothing_follows = k + 1 >= lines.len();
+        if nothing_follows && this_width <= width && this_count <= count {
+            break;
+        } else if this_count != count {
+            return no(6, n(this_count), n(count));
+        } else if this_width != width {
+            return no(7, n(this_width), n(width));
+        }
+    }
+    let length = lines.iter().map(|line| bases(line).len()).sum();
+    let next = position + lines.iter().map(|line| n(line.len())).sum::<u64>();
+    Ok(Some(([at + name_start, name_length, n(length), position, n(count), n(width)], next)))
+}
+
+/// Writes a row at a count of rows, or refuses where none is free.
+pub(crate) fn put_row(table: &mut [u64], count: usize, row: Row) -> Result<(), No> {
+    let whole = table.len() / 6;
+    if count >= whole {
+        return no(8, n(whole), 0);
+    }
+    table[6 * count..6 * count + 6].copy_from_slice(&row);
+    Ok(())
+}
+
+/// Rows from a source of them, until it ends or refuses.
+pub(crate) fn fill(table: &mut [u64], rows: impl Iterator<Item = Result<Row, No>>) -> Told {
+    let mut count = 0;
+    for row in rows {
+        if let Err(no) = row.and_then(|row| put_row(table, count, row)) {
+            return Told { no: Some(no), count: n(count), next: 0 };
+        }
+        count += 1;
+    }
+    Told { no: None, count: n(count), next: 0 }
+}
+
+// ---- index lines ----
+
+/// One or more digits, of a value that 64 bits hold; one plus may stand before them.
+pub(crate) fn number(field: &[u8]) -> Option<u64> {
+    let digits = field.strip_prefix(b"+").unwrap_or(field);
+    let mut value: u64 = 0;
+    for b in digits {
+        let digit = b.is_ascii_digit().then(|| u64::from(b - b'0'))?;
+        value = value.checked_mul(10)?.checked_add(digit)?;
+    }
+    (!digits.is_empty()).then_some(value)
+}
+
+/// The row that an index line's content says, its name starting at `start`; refusals name this line or record.
+pub(crate) fn index_content(content: &[u8], start: u64, line: u64) -> Result<Row, No> {
+    if content.is_empty() {
+        return no(9, line, 0);
+    }
+    let mut fields = content.splitn(5, |b| *b == b'\t');
+    let name = fields.next().expect("a first field");
+    let mut row = [start, n(name.len()), 0, 0, 0, 0];
+    for field in 2..=5 {
+        let Some(text) = fields.next() else {
+            return no(10, line, field);
+        };
+        let Some(value) = number(text) else {
+            return no(11, line, field);
+        };
+        if field >= 4 && value == 0 {
+            return no(12, line, field);
+        }
+        row[field as usize] = value;
+    }
+    Ok(row)
+}
+
+/// Ends in LF with no CR before it, and no number has a needless leading zero or a plus.
+pub(crate) fn is_plain(line: &[u8]) -> bool {
+    let needless = |field: &[u8]| field.starts_with(b"+") || field.len() > 1 && field[0] == b'0';
+    match line.strip_suffix(b"\n") {
+        None => false,
+        Some(rest) => rest.last() != Some(&b'\r') && !rest.splitn(5, |b| *b == b'\t').skip(1).any(needless),
+    }
+}
+
+// ---- rows of a table that was lent ----
+
+/// The numbers of row r; 25 where it isn't in the table, or the table has fewer rows than are said to be in use.
+pub(crate) fn row(rows: &Rows, r: u64) -> Result<Row, No> {
+    let whole = n(rows.numbers.len() / 6);
+    if whole < rows.in_use {
+        no(25, whole, 0)
+    } else if r >= rows.in_use {
+        no(25, r, 0)
+    } else {
+        let r = r as usize;
+        let row: Row = rows.numbers[6 * r..6 * r + 6].try_into().expect("six numbers");
+        if row[4] == 0 || row[5] == 0 { no(25, n(r), 0) } else { Ok(row) }
+    }
+}
+
+/// A row with its name; 25 also where the name lies outside the bytes.
+pub(crate) fn named_row<'n>(names: &'n [u8], rows: &Rows, r: u64) -> Result<(&'n [u8], Row), No> {
+    let row = row(rows, r)?;
+    let (start, end) = (u128::from(row[0]), u128::from(row[0]) + u128::from(row[1]));
+    if end > names.len() as u128 { no(25, r, 0) } else { Ok((&names[start as usize..end as usize], row)) }
+}
+
+pub(crate) fn find(names: &[u8], rows: &Rows, wanted: &[u8]) -> Result<u64, No> {
+    let whole = n(rows.numbers.len() / 6);
+    if whole < rows.in_use {
+        return no(25, whole, 0);
+    }
+    for r in 0..rows.in_use {
+        if named_row(names, rows, r)?.0 == wanted {
+            return Ok(r);
+        }
+    }
+    no(15, 0, 0)
+}
+
+pub(crate) fn write_line(names: &[u8], rows: &Rows, r: u64, out: &mut [u8]) -> Result<u64, No> {
+    within_limit(&[names])?;
+    let (name, [_, _, length, position, line_bases, line_width]) = named_row(names, rows, r)?;
+    if let Some(place) = name.iter().position(|b| matches!(b, b'\t' | b'\n')) {
+        return no(13, n(place), 0);
+    }
+    let numbers = format!("\t{length}\t{position}\t{line_bases}\t{line_width}\n");
+    put(&[name, numbers.as_bytes()].concat(), out)
+}
