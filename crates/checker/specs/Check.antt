@@ -20,9 +20,9 @@ use Rattle.index_line.specs.IndexLine.{nameOf}
 use Rattle.index_line.specs.IndexLine as index
 use Rattle.index_line.specs.declared.LineRead.{LineRead}
 use Rattle.index_line.specs.declared.LineRead.the-variants as read
-use Rattle.checker.specs.Places.{firstElsewhere}
-use Rattle.checker.specs.declared.walk.Placed.{Placed}
-use Rattle.checker.specs.declared.walk.Placed.the-variants.{There, Elsewhere}
+use Rattle.walking.specs.Places.{firstElsewhere}
+use Rattle.walking.specs.declared.Placed.{Placed}
+use Rattle.walking.specs.declared.Placed.the-variants.{There, Elsewhere}
 use Rattle.checker.specs.declared.Verdict.{Verdict}
 use Rattle.checker.specs.declared.Verdict.the-variants.{Accepted, Refused}
 
@@ -33,7 +33,7 @@ spanOf l s = take (s .length) (drop (s .start) l)
 -- 23: every base of record n is where its line says, or the first that is not
 abbrev pub placesSay : ℕ → Placed → Verdict
 placesSay n There = Accepted
-placesSay n (Elsewhere p) = Refused (refusal.BaseElsewhere n (p .0))
+placesSay n (Elsewhere p o) = Refused (refusal.BaseElsewhere n (p .0))
 
 -- 22, 23: the sequence of record n, which begins at an offset, against the numbers of its line
 unfoldable pub sequenceSays : ℕ → ℕ → List (List ℕ) → Record → Verdict

@@ -14,7 +14,7 @@ use Rattle.index_line.specs.Decimal.{allDigits, valueFrom, numberFrom, digitsOf
 use Rattle.index_line.specs.Fields.{cutAt, fieldSays, numbersFrom}
 use Rattle.index_line.specs.IndexLine.{fieldsOf, plainEnd, nameOf}
 use Rattle.index_line.specs.IndexLine as index
-use Rattle.checker.specs.Places.{firstElsewhere}
+use Rattle.walking.specs.Places.{firstElsewhere}
 use Rattle.checker.specs.Check.{sequenceSays, entrySays, againstLines, recordSays, recordsSay, checkOf}
 use Rattle.checker.specs.declared.Verdict.{Verdict}
 use Rattle.checker.specs.declared.Verdict.the-variants.{Accepted, Refused}

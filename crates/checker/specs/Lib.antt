@@ -1,7 +1,3 @@
-pub mod Places
-pub mod PlaceLaws
-pub mod Walk
-pub mod Rows
 pub mod Check
 pub mod Steps
 pub mod Examples

@@ -24,17 +24,17 @@ use Rattle.index_line.specs.IndexLine.{fieldsOf, nameOf}
 use Rattle.index_line.specs.IndexLine as index
 use Rattle.index_line.specs.declared.LineRead.{LineRead}
 use Rattle.index_line.specs.declared.LineRead.the-variants as read
-use Rattle.checker.specs.Places.{firstElsewhere}
-use Rattle.checker.specs.PlaceLaws.{PlacesSaid, places-said, places-only}
-use Rattle.checker.specs.PlaceLaws.PlacesSaid.{all, one}
+use Rattle.walking.specs.Places.{firstElsewhere}
+use Rattle.walking.specs.PlaceLaws.{PlacesSaid, places-said, places-only}
+use Rattle.walking.specs.PlaceLaws.PlacesSaid.{all, one}
 use Rattle.checker.specs.Check.{spanOf, placesSay, sequenceSays, entrySays, lineSays, againstLines, definedSays, recordSays, andThen, recordsSay, checkOf}
 use Rattle.checker.specs.Accepts.{bytesOf, recordAt, sequenceAt, BothRead, SameName, SameLength, Matches, limit, Fit, MatchesAt, Accepts}
 use Rattle.checker.specs.FirstFault.{LineFault, RecordFault, FirstFault}
 use Rattle.checker.specs.FirstFault.LineFault.{bad-line, other-name, other-length, other-place}
 use Rattle.checker.specs.FirstFault.RecordFault.{bad-definition, no-line, wrong-line}
 use Rattle.checker.specs.FirstFault.FirstFault.{long-fasta, long-index, wrong-record, lines-left}
-use Rattle.checker.specs.declared.walk.Placed.{Placed}
-use Rattle.checker.specs.declared.walk.Placed.the-variants.{There, Elsewhere}
+use Rattle.walking.specs.declared.Placed.{Placed}
+use Rattle.walking.specs.declared.Placed.the-variants.{There, Elsewhere}
 use Rattle.checker.specs.declared.Verdict.{Verdict}
 use Rattle.checker.specs.declared.Verdict.the-variants.{Accepted, Refused}
 
@@ -58,7 +58,7 @@ module _ (n start : ℕ) (g : Group) (l : List ℕ) where
   module _ (b : BothRead n g l) where
     said-places : SameName b → SameLength b → (p : Placed) → PlacesSaid (placeIn (b .entry .«record»)) 0 (basesAt start (g .seq)) p → LineSaid n start g l (placesSay n p)
     said-places s c p (all h) = matches (record { both = b; name = s; count = c; places = λ j m. rw zero-add at (h j (rw length-basesAt m)) })
-    said-places s c p (one q j e m h k) =
+    said-places s c p (one q o j e y m h k) =
         rw (e, zero-add) (faulty (other-place b s c j (rw length-basesAt at m) (λ r u. rw zero-add at (h r u)) (λ z. k (rw zero-add z))))
 
     said-length : SameName b → LineSaid n start g l (sequenceSays n start (g .seq) (b .entry .«record»))
@@ -111,8 +111,8 @@ module _ (n start : ℕ) (g : Group) (l : List ℕ) where
     line-only v d h (faulty (other-name b k)) = both-read b ∙ rw (differ-false _ _ k)
     line-only v d h (faulty (other-length b s k)) = same-name b s ∙ rw (ne-eqb _ _ k)
     line-only v d h (faulty (other-place b s c j m u k)) =
-        same-length b s c (Elsewhere (record { 0 = suc j }))
-        (one _ j (ap suc (sym (zero-add j))) (rw length-basesAt m) (λ r q. rw zero-add (u r q)) (λ z. k (rw zero-add at z)))
+        same-length b s c (Elsewhere (record { 0 = suc j }) _)
+        (one _ (record { 0 = getD (basesAt start (g .seq)) j 0 }) j (ap suc (sym (zero-add j))) refl (rw length-basesAt m) (λ r q. rw zero-add (u r q)) (λ z. k (rw zero-add at z)))
 
 -- ---- one record
 

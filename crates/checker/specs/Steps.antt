@@ -28,16 +28,17 @@ use Rattle.definition.specs.declared.Parsed.the-variants.{Named, Bad}
 use Rattle.record.specs.Place.{placeIn}
 use Rattle.record.specs.declared.Record.{Record}
 use Rattle.record.specs.declared.Position.{Position}
+use Rattle.record.specs.declared.Offset.{Offset}
 use Rattle.index_line.specs.IndexLine.{nameIn}
 use Rattle.index_line.specs.IndexLine as index
 use Rattle.index_line.specs.Laws.{line-sound}
 use Rattle.index_line.specs.declared.Entry.{Entry}
 use Rattle.index_line.specs.declared.LineRead.the-variants as read
-use Rattle.checker.specs.Places.{firstElsewhere, walkedAs}
+use Rattle.walking.specs.Places.{firstElsewhere, walkedAs}
 use Rattle.lines.specs.Sums.{widths-within}
 use Rattle.checker.specs.Check.{spanOf, sequenceSays, entrySays, lineSays, againstLines, definedSays, recordSays, andThen, recordsSay, checkOf}
-use Rattle.checker.specs.declared.walk.Placed.the-variants.{There, Elsewhere}
-use Rattle.checker.specs.declared.walk.Walked.{Walked}
+use Rattle.walking.specs.declared.Placed.the-variants.{There, Elsewhere}
+use Rattle.walking.specs.declared.Walked.{Walked}
 use Rattle.checker.specs.declared.Verdict.{Verdict}
 use Rattle.checker.specs.declared.Verdict.the-variants.{Accepted, Refused}
 use Rattle.checker.specs.declared.Place.{Place}
@@ -113,9 +114,9 @@ module _ (n at : ℕ) (seq : List (List ℕ)) (x : Record) (v : Walked) (h : v �
     unfolding judgedAs sequenceSays
     judged-there g = rw (eq-eqb (sumBases seq) (x .length) (sym bases-are ∙ e), ← placed-are, g, next-is)
 
-    pub judged-elsewhere : (p : Position) → v .placed ≡ Elsewhere p → judged.Refused (BaseElsewhere n (p .0)) ≡ judgedAs (sequenceSays n at seq x) (at + sumWidths seq)
+    pub judged-elsewhere : (p : Position) (o : Offset) → v .placed ≡ Elsewhere p o → judged.Refused (BaseElsewhere n (p .0)) ≡ judgedAs (sequenceSays n at seq x) (at + sumWidths seq)
     unfolding judgedAs sequenceSays
-    judged-elsewhere p g = rw (eq-eqb (sumBases seq) (x .length) (sym bases-are ∙ e), ← placed-are, g)
+    judged-elsewhere p o g = rw (eq-eqb (sumBases seq) (x .length) (sym bases-are ∙ e), ← placed-are, g)
 
 -- ---- a record, stage by stage
 

@@ -2,14 +2,12 @@
 // every base. Refuses inputs over the size limit (1), a definition line that does not read (2 to 4), a record without a line (19), a
 // line that does not read (9 to 12), another name (21), another length (22), a base that is not where the line says (23), and what is
 // left of the index behind the last record (20). Refusals tell the record, from 1.
-mod walk;
-
 use definition::Parsed;
 use index_line::LineRead;
 use lines::Span;
 use record::Record;
 use refusal::Refusal;
-use walk::Placed;
+use walking::Placed;
 ghost use mathlib.Core.Path.{_≡_};
 ghost use Prim.Native.Nat.{_+_, _≤_, _<_};
 ghost use lib.ListN.{length};
@@ -61,14 +59,14 @@ fn judge_sequence(fasta: &[u8], start: usize, x: Record, record: u64) -> Judged
     requires { ⌜ 0 < x .«line_bases» ⌝ }
     ensures { λ r. ⌜ r ≡ judgedAs (sequenceSays «record» start (seqAt (now (fasta .entry)) start) x) (behindAt (now (fasta .entry)) start) ⌝ }
 {
-    let found = walk::walk_sequence(fasta, start, x);
+    let found = walking::walk_sequence(fasta, start, x);
     if found.bases != x.length {
         return Judged::Refused(Refusal::LengthDiffers { record });
     }
     let placed = found.placed;
     match placed {
         Placed::There => Judged::Behind(found.next),
-        Placed::Elsewhere(p) => Judged::Refused(Refusal::BaseElsewhere { record, base: p.0 }),
+        Placed::Elsewhere(p, _) => Judged::Refused(Refusal::BaseElsewhere { record, base: p.0 }),
     }
 }
 

@@ -5,6 +5,7 @@
 ghost use Prim.Native.Nat.{_≤_};
 use checker::Verdict;
 use complement::Complemented;
+use fitting::Rule;
 use libc::STDIN_FILENO;
 use libc::STDOUT_FILENO;
 use refusal::Refusal;
@@ -40,6 +41,17 @@ fn index(fasta: &[u8]) {
     let stop = told.stop;
     match stop {
         Stop::Ended => say(b"index", told.rows),
+        Stop::Refused(why) => say_refused(why),
+    }
+}
+
+// Indexes a file by the complete rule.
+fn fit(fasta: &[u8]) {
+    let mut table = [0u64; 6144];
+    let told = fitting::index_file(fasta, &mut table, Rule::Complete);
+    let stop = told.stop;
+    match stop {
+        Stop::Ended => say(b"fit", told.rows),
         Stop::Refused(why) => say_refused(why),
     }
 }
@@ -83,6 +95,7 @@ fn reverse(bases: &[u8]) {
 fn work(letter: u8, file: &[u8]) {
     match letter {
         b'i' => index(file),
+        b'f' => fit(file),
         b'c' => check_input(file),
         b'r' => reverse(file),
         _ => {}

@@ -119,8 +119,8 @@ fn index_sequence(s: &[u8], at: usize, e: usize, name: Span) -> Step
     }
 }
 
-// Indexes the record at `at`.
-fn index_at(s: &[u8], at: usize) -> Step
+// Indexes the record at `at` of a file that is not too long.
+pub fn index_at(s: &[u8], at: usize) -> Step
     ensures { λ r. ⌜ r ≡ recordAt (now (s .entry)) at ⌝ }
 {
     if s.len() <= at {

@@ -147,7 +147,7 @@ pub record FirstGroup (f : List ℕ) (at : ℕ) (g : Group) (gs : List Group) : 
   pub sequence : seqOf others ≡ g .seq
   pub behind : groups (lines (drop (at + length (g .def) + sumWidths (g .seq)) f)) ≡ gs
 
-first-group : (f : List ℕ) (at : ℕ) (g : Group) (gs : List Group) → groups (lines (drop at f)) ≡ g ∷ gs → FirstGroup f at g gs
+pub first-group : (f : List ℕ) (at : ℕ) (g : Group) (gs : List Group) → groups (lines (drop at f)) ≡ g ∷ gs → FirstGroup f at g gs
 unfolding groups
 first-group f at g gs h = go (lines (drop at f)) refl h
   where
@@ -170,13 +170,13 @@ fits-known last l first h =
 
 -- the lines after the first are even
 rest-even : (first : Line) (ls : List (List ℕ)) → restOf first ls ≡ good → EvenLines (first .bases) (first .width) ls
-unfolding restOf
-rest-even first [] h = no-more
+unfolding restOf sumBases
+rest-even first [] h = no-more refl
 rest-even first (l ∷ ls) h =
     go (fitsLast (none ls) (lineOf l) first) refl (eqb (length (basesOf l)) (first .bases)) refl (eqb (length l) (first .width)) refl (rest-even first ls) h
   where
     only : (m : List (List ℕ)) → none m ≡ true → length (basesOf l) ≤ first .bases → EvenLines (first .bases) (first .width) (l ∷ m)
-    only [] e k = last-line k
+    only [] e k = last-line k refl
     only (x ∷ m) e k = absurd (true≢false (sym e))
 
     go : (a : Bool) → fitsLast (none ls) (lineOf l) first ≡ a → (b : Bool) → eqb (length (basesOf l)) (first .bases) ≡ b → (c : Bool) → eqb (length l) (first .width) ≡ c
@@ -259,6 +259,13 @@ module _ (P : ℕ → Group → Record → Type 0) (f : List ℕ)
   unfolding fileAt
   along-file = along-groups (groups (lines f)) 0 refl
 
+-- what follows of each row
+pub along-map : {P Q : ℕ → Group → Record → Type 0} → ((start : ℕ) (g : Group) (x : Record) → P start g x → Q start g x)
+    → {at : ℕ} {gs : List Group} {xs : List Record} {s : Stop} → Along P at gs xs s → Along Q at gs xs s
+along-map m at-end = at-end
+along-map m refused = refused
+along-map m (row d h) = row (m _ _ _ d) (along-map m h)
+
 module _ {P : ℕ → Group → Record → Type 0} where
   -- by the number of a row
   pub along-at : {at : ℕ} {gs : List Group} {xs : List Record} {s : Stop} → Along P at gs xs s
@@ -315,7 +322,7 @@ module _ (name : List ℕ) (x : Record) where
 
 -- ---- a file that the call takes to its end
 
-held-ended : (n : ℕ) (r : Found) → heldIn n n r .stop ≡ stop.Ended → length (r .rows) ≤ n
+pub held-ended : (n : ℕ) (r : Found) → heldIn n n r .stop ≡ stop.Ended → length (r .rows) ≤ n
 unfolding heldIn
 held-ended n r h = go (ltb n (length (r .rows))) refl h
   where
@@ -323,7 +330,7 @@ held-ended n r h = go (ltb n (length (r .rows))) refl h
     go true e k = let z : _≡_ {A = ℕ} 0 1 = cc in absurd (omega arith)
     go false e k = ltb-false _ _ e
 
-within-ended : (m : ℕ) (r : Found) → cond (overLimit m) (nothing (stop.Refused TooLong)) r .stop ≡ stop.Ended → (m ≤ limit) × (r .stop ≡ stop.Ended)
+pub within-ended : (m : ℕ) (r : Found) → cond (overLimit m) (nothing (stop.Refused TooLong)) r .stop ≡ stop.Ended → (m ≤ limit) × (r .stop ≡ stop.Ended)
 unfolding overLimit
 within-ended m r h = go (ltb limit m) refl h
   where

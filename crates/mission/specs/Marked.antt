@@ -36,7 +36,7 @@ use Rattle.region.specs.Exact.{inFile, pastLength, bytesAt, basesFrom, regionOf
 use Rattle.region.specs.Raw.{scanTo, pours, rawAt, rawIn, rawOf, rawRead}
 use Rattle.checker.specs.declared.Verdict.{Verdict}
 use Rattle.checker.specs.declared.Verdict.the-variants as verdict
-use Rattle.checker.specs.Places.{firstElsewhere}
+use Rattle.walking.specs.Places.{firstElsewhere}
 use Rattle.checker.specs.Check as checker
 use Rattle.checker.specs.Check.{entrySays, againstLines, recordSays, recordsSay, checkOf}
 

@@ -13,10 +13,10 @@ use Rattle.lines.specs.Lines.{basesOf, allBases, sumBases, upFrom, basesAt}
 use Rattle.record.specs.Place.{placeOf, placesFrom}
 use Rattle.record.specs.Laws.{place-first, place-row, length-places, getD-places}
 
--- some lines are even: each but the last has b bases and w bytes, and the last, which may be blank, at most b bases
+-- some lines are even: each but the last has b bases and w bytes, and the last at most b bases; lines without a base may follow
 pub data EvenLines (b w : ℕ) : List (List ℕ) → Type 0 where
-  none : EvenLines b w []
-  last : {l : List ℕ} → length (basesOf l) ≤ b → EvenLines b w (l ∷ [])
+  none : {ls : List (List ℕ)} → sumBases ls ≡ 0 → EvenLines b w ls
+  last : {l : List ℕ} {ls : List (List ℕ)} → length (basesOf l) ≤ b → sumBases ls ≡ 0 → EvenLines b w (l ∷ ls)
   more : {l : List ℕ} {ls : List (List ℕ)} → length (basesOf l) ≡ b → length l ≡ w → EvenLines b w ls → EvenLines b w (l ∷ ls)
 
 -- ---- as many offsets as bases
@@ -72,9 +72,9 @@ behind-place p b w i rest n z e h r = go (ltb i n) refl
 pub even-place : (b w : ℕ) → 0 < b → (p : ℕ) (ls : List (List ℕ)) → EvenLines b w ls
     → (i : ℕ) → i < length (basesAt p ls) → getD (basesAt p ls) i 0 ≡ placeOf p b w i
 unfolding basesAt
-even-place b w z p [] none i h = absurd (omega arith)
-even-place b w z p (l ∷ []) (last k) i h =
-    first-place p b w (length (basesOf l)) i [] k (omega (arith, rw (length-append, length-upFrom) at h))
+even-place b w z p ls (none e) i h = absurd (omega (arith, length-basesAt p ls, e))
+even-place b w z p (l ∷ ls) (last k e) i h =
+    first-place p b w (length (basesOf l)) i (basesAt (p + length l) ls) k (omega (arith, rw (length-append, length-upFrom) at h, length-basesAt (p + length l) ls, e))
 even-place b w z p (l ∷ ls) (more k e r) i h =
     behind-place p b w i (basesAt (p + length l) ls) (length (basesOf l)) z k (rw (length-append, length-upFrom) at h)
     (λ j m. even-place b w z (p + length l) ls r j m ∙ ap (λ (n : ℕ). placeOf (p + n) b w j) e)

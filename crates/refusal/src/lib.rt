@@ -30,6 +30,7 @@ pub enum Refusal {
     BaseElsewhere { record: u64, base: u64 },
     NoComplement { place: u64, byte: u64 },
     BadRow { row: u64 },
+    NoIndexFits { offset: u64, base: u64 },
 }
 
 // A refusal as a host is told it.
@@ -90,6 +91,7 @@ impl Refusal {
             Refusal::BaseElsewhere { record, base } => told(23, record, base),
             Refusal::NoComplement { place, byte } => told(24, place, byte),
             Refusal::BadRow { row } => told(25, row, 0),
+            Refusal::NoIndexFits { offset, base } => told(42, offset, base),
         }
     }
 }

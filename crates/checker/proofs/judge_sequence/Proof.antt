@@ -21,7 +21,7 @@ returns-2 : tie.Need-returns-2
 returns-2 c = judged-there _ _ _ _ _ (c .before .before .before .before .before .walk-sequence .ensures) (c .before .before .if1 .left) (c .enum-told .given .1)
 
 returns-3 : tie.Need-returns-3
-returns-3 c = judged-elsewhere _ _ _ _ _ (c .before .before .before .before .before .before .walk-sequence .ensures) (c .before .before .before .if1 .left) _ (c .before .placed .given .1)
+returns-3 c = judged-elsewhere _ _ _ _ _ (c .before .before .before .before .before .before .walk-sequence .ensures) (c .before .before .before .if1 .left) _ _ (c .before .placed .given .1)
 
 pub judge-sequence-spec : {M : Type 1} → statement M
 judge-sequence-spec =

@@ -158,6 +158,12 @@ enum-known-self-22 c = search needs
 told-requires-25 : tie.Need-told-requires-25
 told-requires-25 c κs = search needs
 
+enum-known-self-23 : tie.Need-enum-known-self-23
+enum-known-self-23 c = search needs
+
+told-requires-26 : tie.Need-told-requires-26
+told-requires-26 c κs = search needs
+
 returns : tie.Need-returns
 unfolding numbersOf
 returns c = rw (c .before .enum-told .given .1) (c .told .ensures)
@@ -258,6 +264,10 @@ returns-25 : tie.Need-returns-25
 unfolding numbersOf
 returns-25 c = rw (c .before .before .self22 .given .1) (c .told25 .ensures)
 
+returns-26 : tie.Need-returns-26
+unfolding numbersOf
+returns-26 c = rw (c .before .before .self23 .given .1) (c .told26 .ensures)
+
 pub numbers-spec : {M : Type 1} → statement M
 numbers-spec =
     tie.close
@@ -312,6 +322,8 @@ numbers-spec =
     told-requires-24
     enum-known-self-22
     told-requires-25
+    enum-known-self-23
+    told-requires-26
     returns
     returns-2
     returns-3
@@ -336,4 +348,5 @@ numbers-spec =
     returns-22
     returns-23
     returns-24
-    returns-25)
+    returns-25
+    returns-26)

@@ -1,0 +1,13 @@
+pub mod Fit
+pub mod FitFile
+pub mod Marked
+pub mod Leads
+pub mod Sound
+pub mod FirstLine
+pub mod Even
+pub mod Lay
+pub mod Laws
+pub mod EvenLaws
+pub mod FileLaws
+pub mod Fold
+pub mod Rules

@@ -1,0 +1,273 @@
+// The complete indexer: a row for each record of a FASTA file for which any index line's numbers lead to every base, blank lines or not.
+// The row's position is the first base's offset, its line bases are how many bases lie side by side from there, and its line width is how
+// far the first base behind those is from the first of all. Refuses a file over the size limit (1), a bad definition line (2 to 4), a
+// base that no numbers can lead to (42), and a table without a free row (8).
+use definition::Parsed;
+use indexer::Indexed;
+use indexer::Indexer;
+use indexer::Step;
+use lines::Line;
+use lines::Span;
+use record::Offset;
+use record::Record;
+use record::Stored;
+use refusal::Refusal;
+use table::Filled;
+use table::Stop;
+use walking::Placed;
+ghost use mathlib.Core.Path.{_≡_};
+ghost use Prim.Native.Nat.{_+_, _-_, _≤_, _<_};
+ghost use lib.ListN.{length};
+ghost use Rattle.lines.specs.Lines.{firstLine, seqAt};
+ghost use Rattle.record.specs.Row.{rowCount};
+ghost use Rattle.table.specs.Fill.{FilledAs, heldIn};
+ghost use Rattle.fitting.specs.Fit.{sequenceSays, fittedAt};
+ghost use Rattle.fitting.specs.Rules.{stepBy, rowsBy, rowsIn};
+ghost use Rattle.fitting.specs.Lay.{BasedAt, NumbersAt};
+ghost use Rattle.fitting.specs.EvenLaws.{EvenSaid};
+
+// Position, line bases and line width.
+pub struct Numbers {
+    pub position: usize,
+    pub bases: usize,
+    pub width: usize,
+}
+
+// A place of a sequence, and the line there; 0 and 0 where there is none.
+struct Based {
+    at: usize,
+    line: Line,
+}
+
+// The first line from `at` on that has a base; where there is none, where the sequence ends.
+fn first_based(s: &[u8], at: usize) -> Based
+    requires { ⌜ at ≤ length (now s) ⌝ }
+    ensures { λ r. ⌜ BasedAt (now (s .entry)) at r ⌝ }
+{
+    let mut i = at;
+    loop {
+        let line = lines::sequence_line(s, i);
+        if line.bases != 0 {
+            return Based { at: i, line };
+        }
+        if line.width == 0 {
+            return Based { at: i, line };
+        }
+        i += line.width;
+    }
+}
+
+// Even lines: how many bases they have, and where they end. Or lines that may be uneven.
+enum Even {
+    Lines { bases: usize, next: usize },
+    Not,
+}
+
+// The fast way over the sequence from `at` on, whose first line is at hand: the lines like it are passed, one line that has no more bases
+// may follow, and then blank lines.
+fn even_lines(s: &[u8], at: usize, first: Line) -> Even
+    requires { ⌜ (at ≤ length (now s)) × (first ≡ firstLine (seqAt (now s) at)) ⌝ }
+    ensures { λ r. ⌜ EvenSaid (now (s .entry)) at r ⌝ }
+{
+    if first.bases == 0 {
+        return Even::Not;
+    }
+    let next = at + first.width;
+    let alike = lines::lines_like(s, next, first);
+    let i = next + alike * first.width;
+    let n = first.bases + alike * first.bases;
+    let last = lines::sequence_line(s, i);
+    if first.bases < last.bases {
+        return Even::Not;
+    }
+    let behind = first_based(s, i + last.width);
+    let line = behind.line;
+    if line.bases != 0 {
+        return Even::Not;
+    }
+    Even::Lines {
+        bases: n + last.bases,
+        next: behind.at,
+    }
+}
+
+// The numbers of the sequence from `at` on.
+fn numbers_at(s: &[u8], at: usize) -> Numbers
+    requires { ⌜ at ≤ length (now s) ⌝ }
+    ensures { λ r. ⌜ NumbersAt (now (s .entry)) at r ⌝ }
+{
+    let first = first_based(s, at);
+    let line = first.line;
+    if line.bases == 0 {
+        return Numbers {
+            position: at,
+            bases: 1,
+            width: 2,
+        };
+    }
+    let next = first_based(s, first.at + line.width);
+    let behind = next.line;
+    if behind.bases == 0 {
+        return Numbers {
+            position: first.at,
+            bases: line.bases,
+            width: line.width,
+        };
+    }
+    Numbers {
+        position: first.at,
+        bases: line.bases,
+        width: next.at - first.at,
+    }
+}
+
+// The record at `at`, whose definition line ends at `e` and gives a name, whatever its lines.
+fn fit_lines(s: &[u8], at: usize, e: usize, name: Span) -> Step
+    requires { ⌜ (at < e) × (e ≤ length (now s)) × (name .start ≤ e - at) ⌝ }
+    ensures { λ r. ⌜ r ≡ sequenceSays at (e - at) name (seqAt (now (s .entry)) e) ⌝ }
+{
+    let n = numbers_at(s, e);
+    let p = n.position;
+    let x = Record::unnamed(0, Offset(p as u64), n.bases as u64, n.width as u64);
+    let found = walking::walk_sequence(s, p, x);
+    let placed = found.placed;
+    match placed {
+        Placed::There => {
+            let y = Record::unnamed(
+                found.bases,
+                Offset(p as u64),
+                n.bases as u64,
+                n.width as u64,
+            );
+            Step {
+                answer: Indexed::Row(y.named((at + name.start) as u64, name.length as u64)),
+                next: Indexer { at: found.next },
+            }
+        }
+        Placed::Elsewhere(base, offset) => Step {
+            answer: Indexed::Refused(Refusal::NoIndexFits {
+                offset: offset.0,
+                base: base.0,
+            }),
+            next: Indexer { at },
+        },
+    }
+}
+
+// The record at `at`, whose definition line ends at `e` and gives a name.
+fn fit_sequence(s: &[u8], at: usize, e: usize, name: Span) -> Step
+    requires { ⌜ (at < e) × (e ≤ length (now s)) × (name .start ≤ e - at) ⌝ }
+    ensures { λ r. ⌜ r ≡ sequenceSays at (e - at) name (seqAt (now (s .entry)) e) ⌝ }
+{
+    let first = lines::sequence_line(s, e);
+    let found = even_lines(s, e, first);
+    match found {
+        Even::Lines { bases, next } => {
+            let x = Record::unnamed(
+                bases as u64,
+                Offset(e as u64),
+                first.bases as u64,
+                first.width as u64,
+            );
+            Step {
+                answer: Indexed::Row(x.named((at + name.start) as u64, name.length as u64)),
+                next: Indexer { at: next },
+            }
+        }
+        Even::Not => fit_lines(s, at, e, name),
+    }
+}
+
+// The record at `at`.
+fn fit_at(s: &[u8], at: usize) -> Step
+    ensures { λ r. ⌜ r ≡ fittedAt (now (s .entry)) at ⌝ }
+{
+    if s.len() <= at {
+        return Step {
+            answer: Indexed::End,
+            next: Indexer { at },
+        };
+    }
+    let e = lines::line_end(s, at);
+    let d = definition::parse_line(&s[at..e]);
+    match d {
+        Parsed::Named(x) => {
+            let name = x.name;
+            fit_sequence(s, at, e, name)
+        }
+        Parsed::Bad(f) => Step {
+            answer: Indexed::Refused(f.refusal(0)),
+            next: Indexer { at },
+        },
+    }
+}
+
+// The rule that a file is indexed by: the original's, or the complete one.
+pub enum Rule {
+    Strict,
+    Complete,
+}
+
+// The record at `at`, by a rule.
+fn step_at(s: &[u8], at: usize, rule: Rule) -> Step
+    ensures { λ r. ⌜ r ≡ stepBy rule (now (s .entry)) at ⌝ }
+{
+    match rule {
+        Rule::Strict => indexer::index_at(s, at),
+        Rule::Complete => fit_at(s, at),
+    }
+}
+
+// A row for each record of the file, from the table's first row on.
+fn index_rows(s: &[u8], table: &mut [u64], rule: Rule) -> Filled
+    ensures { λ r. ⌜ FilledAs (heldIn (rowCount (now (table .entry))) (rowCount (now (table .entry))) (rowsBy rule (now (s .entry)) 0)) (now (table .entry)) (now (table .exit)) r ⌝ }
+{
+    let mut at = 0;
+    let mut n = 0;
+    loop {
+        let step = step_at(s, at, rule);
+        let answer = step.answer;
+        match answer {
+            Indexed::Row(x) => {
+                let stored = x.store(table, n);
+                match stored {
+                    Stored::Kept => {
+                        n += 1;
+                        at = step.next.at;
+                    }
+                    Stored::Refused(f) => {
+                        return Filled {
+                            rows: n,
+                            stop: Stop::Refused(f),
+                        };
+                    }
+                }
+            }
+            Indexed::End => {
+                return Filled {
+                    rows: n,
+                    stop: Stop::Ended,
+                };
+            }
+            Indexed::Refused(f) => {
+                return Filled {
+                    rows: n,
+                    stop: Stop::Refused(f),
+                };
+            }
+        }
+    }
+}
+
+// Indexes a whole file by a rule into a lent table, from its first row on.
+pub fn index_file(s: &[u8], table: &mut [u64], rule: Rule) -> Filled
+    ensures { λ r. ⌜ FilledAs (rowsIn rule (now (s .entry)) (rowCount (now (table .entry)))) (now (table .entry)) (now (table .exit)) r ⌝ }
+{
+    if refusal::over_limit(s.len()) {
+        return Filled {
+            rows: 0,
+            stop: Stop::Refused(Refusal::TooLong),
+        };
+    }
+    index_rows(s, table, rule)
+}
