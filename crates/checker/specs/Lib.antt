@@ -7,3 +7,4 @@ pub mod Said
 pub mod Exactly
 pub mod Faults
 pub mod Sequences
+pub mod Mended

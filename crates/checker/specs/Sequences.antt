@@ -64,11 +64,14 @@ getD-bytes f [] j h = absurd (omega arith)
 getD-bytes f (o ∷ os) zero h = refl
 getD-bytes f (o ∷ os) (suc j) h = getD-bytes f os j (omega arith)
 
-pub base-byte : (f : List ℕ) (k n : ℕ) (l : List ℕ) → k < length (groups (lines f)) → (m : Matches n (sequenceAt (groups (lines f)) k) (recordAt (groups (lines f)) k) l)
-    → (j : ℕ) → j < sumBases (recordAt (groups (lines f)) k .seq) → byteAt f (placeIn (m .both .entry .«record») j) ≡ getD (allBases (recordAt (groups (lines f)) k .seq)) j 0
-base-byte f k n l h m j q =
+pub base-here : (f : List ℕ) (k : ℕ) → k < length (groups (lines f)) → (j : ℕ) → j < sumBases (recordAt (groups (lines f)) k .seq)
+    → byteAt f (getD (basesAt (sequenceAt (groups (lines f)) k) (recordAt (groups (lines f)) k .seq)) j 0) ≡ getD (allBases (recordAt (groups (lines f)) k .seq)) j 0
+base-here f k h j q =
     let start = sequenceAt (groups (lines f)) k in
     let seq = recordAt (groups (lines f)) k .seq in
-    ap (byteAt f) (sym (m .places j q))
-    ∙ sym (getD-bytes f (basesAt start seq) j (rw length-basesAt q))
+    sym (getD-bytes f (basesAt start seq) j (rw length-basesAt q))
     ∙ ap (λ (bs : List ℕ). getD bs j 0) (bases-bytes f seq start (sequence-inside f k h) (sequence-here f k h))
+
+pub base-byte : (f : List ℕ) (k n : ℕ) (l : List ℕ) → k < length (groups (lines f)) → (m : Matches n (sequenceAt (groups (lines f)) k) (recordAt (groups (lines f)) k) l)
+    → (j : ℕ) → j < sumBases (recordAt (groups (lines f)) k .seq) → byteAt f (placeIn (m .both .entry .«record») j) ≡ getD (allBases (recordAt (groups (lines f)) k .seq)) j 0
+base-byte f k n l h m j q = ap (byteAt f) (sym (m .places j q)) ∙ base-here f k h j q

@@ -57,26 +57,26 @@ rest-shift n at l ls good = rw (add-assoc n (length (basesOf l)) (sumBases ls), 
 rest-shift n at l ls (bad x) = refl
 
 module _ (first : Line) (n at : ℕ) where
-  rest-done : (ls : List (List ℕ)) → fitsLast (none (tailOf ls)) (firstLine ls) first ≡ true
+  pub rest-done : (ls : List (List ℕ)) → fitsLast (none (tailOf ls)) (firstLine ls) first ≡ true
       → rest.Done (n + firstLine ls .bases) (at + firstLine ls .width) ≡ restSays first n at ls
   unfolding fitsLast restSays restOf sumBases sumWidths
   rest-done [] f = refl
   rest-done (l ∷ []) f = rw (f, add-zero (length l), add-zero (length (basesOf l)))
   rest-done (l ∷ m ∷ ls) f = absurd (true≢false (sym f))
 
-  rest-bases : (ls : List (List ℕ)) → fitsLast (none (tailOf ls)) (firstLine ls) first ≡ false
+  pub rest-bases : (ls : List (List ℕ)) → fitsLast (none (tailOf ls)) (firstLine ls) first ≡ false
       → (firstLine ls .bases ≡ first .bases → ⊥) → rest.Refused (LineBases (firstLine ls .bases) (first .bases)) ≡ restSays first n at ls
   unfolding restSays restOf
   rest-bases [] f h = absurd (true≢false (sym (fits-none first) ∙ f))
   rest-bases (l ∷ ls) f h = rw (f, ne-eqb (length (basesOf l)) (first .bases) h)
 
-  rest-width : (ls : List (List ℕ)) → fitsLast (none (tailOf ls)) (firstLine ls) first ≡ false
+  pub rest-width : (ls : List (List ℕ)) → fitsLast (none (tailOf ls)) (firstLine ls) first ≡ false
       → firstLine ls .bases ≡ first .bases → (firstLine ls .width ≡ first .width → ⊥) → rest.Refused (LineWidth (firstLine ls .width) (first .width)) ≡ restSays first n at ls
   unfolding restSays restOf
   rest-width [] f h k = absurd (true≢false (sym (fits-none first) ∙ f))
   rest-width (l ∷ ls) f h k = rw (f, eq-eqb (length (basesOf l)) (first .bases) h, ne-eqb (length l) (first .width) k)
 
-  rest-on : (ls : List (List ℕ)) → fitsLast (none (tailOf ls)) (firstLine ls) first ≡ false
+  pub rest-on : (ls : List (List ℕ)) → fitsLast (none (tailOf ls)) (firstLine ls) first ≡ false
       → firstLine ls .bases ≡ first .bases → firstLine ls .width ≡ first .width
       → restSays first (n + firstLine ls .bases) (at + firstLine ls .width) (tailOf ls) ≡ restSays first n at ls
   unfolding fitsLast restSays restOf sumBases sumWidths
@@ -170,13 +170,13 @@ answerAs at name p x (rest.Done m e) =
 answerAs at name p x (rest.Refused r) = record { answer = indexed.Refused r; next = record { at = at } }
 
 module _ (at n : ℕ) (name : Span) where
-  judge-none : (ls : List (List ℕ)) → firstLine ls .bases ≡ 0
+  pub judge-none : (ls : List (List ℕ)) → firstLine ls .bases ≡ 0
       → record { answer = indexed.Refused (NoBases (at + n + firstLine ls .width)); next = record { at = at } } ≡ sequenceSays at n name ls
   unfolding judge sequenceSays
   judge-none [] h = rw (add-zero (at + n))
   judge-none (l ∷ ls) h = rw (eq-eqb (length (basesOf l)) 0 h)
 
-  judge-some : (ls : List (List ℕ)) → (firstLine ls .bases ≡ 0 → ⊥)
+  pub judge-some : (ls : List (List ℕ)) → (firstLine ls .bases ≡ 0 → ⊥)
       → answerAs at name (at + n) (firstLine ls) (restSays (firstLine ls) (firstLine ls .bases) (at + n + firstLine ls .width) (tailOf ls)) ≡ sequenceSays at n name ls
   unfolding judge sequenceSays restSays sumBases sumWidths
   judge-some [] h = absurd (h refl)

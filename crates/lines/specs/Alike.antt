@@ -149,7 +149,7 @@ alike-ends s x at h =
 
 -- ---- a line that has the width and the bases, but no LF, is the last
 
-open-last : (s : List ℕ) → ends 10 (take (lineLen s) s) ≡ false → lineLen s ≡ length s
+pub open-last : (s : List ℕ) → ends 10 (take (lineLen s) s) ≡ false → lineLen s ≡ length s
 unfolding ends lineLen
 open-last [] e = refl
 open-last (b ∷ []) e = go (eqb b 10)

@@ -2,6 +2,9 @@ pub mod Lines
 pub mod Groups
 pub mod Laws
 pub mod GroupLaws
+pub mod Mending
+pub mod Pieces
+pub mod Feeding
 pub mod Same
 pub mod Sums
 pub mod Alike

@@ -5,4 +5,6 @@ pub mod Fitted
 pub mod ReadsLaws
 pub mod Reads
 pub mod FittedReads
+pub mod Tables
+pub mod Mending
 pub mod Marked

@@ -213,6 +213,18 @@ sets-append (v ∷ vs) ws t i = sets-append vs ws (set t i v) (suc i) ∙ ap (λ
     q : suc i + length vs ≡ i + length (v ∷ vs)
     q = omega arith
 
+-- rows stored one after another
+words-append : (xs ys : List Record) → words (xs ++ ys) ≡ words xs ++ words ys
+unfolding words
+words-append [] ys = refl
+words-append (x ∷ xs) ys = rw (words-append xs ys) (sym (append-assoc (wordsOf x) (words xs) (words ys)))
+
+pub rows-append : (t : List ℕ) (n : ℕ) (xs ys : List Record) → withRows t n (xs ++ ys) ≡ withRows (withRows t n xs) (n + length xs) ys
+rows-append t n xs ys = rw (words-append xs ys) (sets-append (words xs) (words ys) t (n * rowWords) ∙ ap (λ (k : ℕ). sets (withRows t n xs) k (words ys)) q)
+  where
+    q : n * rowWords + length (words xs) ≡ (n + length xs) * rowWords
+    q = omega (arith, length-words xs)
+
 -- a number outside of those stored is as it was
 pub sets-before : (vs t : List ℕ) (i j : ℕ) → j < i → getD (sets t i vs) j 0 ≡ getD t j 0
 sets-before [] t i j h = refl

@@ -3,3 +3,4 @@ pub mod Row
 pub mod EvenLines
 pub mod Bases
 pub mod Laws
+pub mod BasePlaces

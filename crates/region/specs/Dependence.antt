@@ -27,13 +27,13 @@ use Rattle.region.specs.Laws.{good-bounds, within-length, past-none, bas
 
 -- ---- some offsets, by each of them
 
-map-same : (f g : ℕ → ℕ) (os : List ℕ) → ((k : ℕ) → k < length os → f (getD os k 0) ≡ g (getD os k 0)) → map f os ≡ map g os
+pub map-same : (f g : ℕ → ℕ) (os : List ℕ) → ((k : ℕ) → k < length os → f (getD os k 0) ≡ g (getD os k 0)) → map f os ≡ map g os
 map-same f g [] h = refl
 map-same f g (o ∷ os) h = let r : map f os ≡ map g os = map-same f g os (λ k m. h (suc k) (omega arith)) in rw (h 0 (omega arith), r)
 
 -- the offsets of a region are those of its bases
 module _ (x : Record) (a e : ℕ) (z : 0 < a) (l : a ≤ e) where
-  offset-at : (k : ℕ) → k < basesTo a e → getD (offsetsOf x a (basesTo a e)) k 0 ≡ placeIn x (a + k - 1)
+  pub offset-at : (k : ℕ) → k < basesTo a e → getD (offsetsOf x a (basesTo a e)) k 0 ≡ placeIn x (a + k - 1)
   offset-at k h = getD-places (x .position .0) (x .«line_bases») (x .«line_width») (a - 1) (basesTo a e) k h ∙ ap (placeIn x) q
     where
       q : a - 1 + k ≡ a + k - 1
@@ -63,6 +63,13 @@ regionOffsets x a e = offsetsOf x (startOf a) (basesTo (startOf a) (endOf (x .le
 
 abbrev pub regionCount : Record → Bound → Bound → ℕ
 regionCount x a e = basesTo (startOf a) (endOf (x .length) e)
+
+-- base number p of a record is one of a region
+pub record InRegion (x : Record) (a e : Bound) (p : ℕ) : Type 0 where
+  pub from-one : 0 < p
+  pub from : startOf a ≤ p
+  pub to : p ≤ endOf (x .length) e
+  pub within : p ≤ x .length
 
 -- a region of a record can be read from a file of so many bytes, where so many are free in the output
 pub record Readable (bytes : ℕ) (x : Record) (a e : Bound) (free : ℕ) : Type 0 where
@@ -177,7 +184,7 @@ module _ (bytes : ℕ) (h : Held) (a e : Bound) (out : List ℕ) where
         some r = rw (r .holds, exact-reads bytes f (r .row) a e out (r .readable), exact-reads bytes g (r .row) a e out (r .readable))
 
     -- and the output only on those at the offsets of the region's bases, which are in the file
-    pub exact-same : ((x : Record) → h ≡ held.Row x → (p : ℕ) → startOf a ≤ p → p ≤ endOf (x .length) e → placeIn x (p - 1) < bytes → f (placeIn x (p - 1)) ≡ g (placeIn x (p - 1)))
+    pub exact-same : ((x : Record) → h ≡ held.Row x → (p : ℕ) → InRegion x a e p → placeIn x (p - 1) < bytes → f (placeIn x (p - 1)) ≡ g (placeIn x (p - 1)))
         → exactOf bytes f h a e out ≡ exactOf bytes g h a e out
     exact-same s = ⊎-elim (λ r. r .always f ∙ sym (r .always g)) some (exact-either bytes h a e out)
       where
@@ -188,7 +195,7 @@ module _ (bytes : ℕ) (h : Held) (a e : Bound) (out : List ℕ) where
             let b = good-bounds a e (x .length) (k .bounds) in
             let m : map f (regionOffsets x a e) ≡ map g (regionOffsets x a e) =
             map-same f g (regionOffsets x a e)
-            (each-offset x (startOf a) (endOf (x .length) e) (b .from-one) (b .in-order (k .start)) (λ o. f o ≡ g o) (λ p l n. s x (r .holds) p l n (k .inside p l n))) in
+            (each-offset x (startOf a) (endOf (x .length) e) (b .from-one) (b .in-order (k .start)) (λ o. f o ≡ g o) (λ p l n. s x (r .holds) p (record { from-one = omega (arith, b .from-one); from = l; to = n; within = omega (arith, k .end) }) (k .inside p l n))) in
             rw (r .holds, exact-reads bytes f x a e out k, exact-reads bytes g x a e out k, m)
 
 -- two records of one length, whose bases lie at the same offsets, are read alike

@@ -6,4 +6,5 @@ pub mod Inside
 pub mod Copy
 pub mod Laws
 pub mod Dependence
+pub mod Changed
 pub mod Examples

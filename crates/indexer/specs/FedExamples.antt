@@ -1,0 +1,54 @@
+-- The fed indexer on small files, cut between CR and LF, in a name, behind an LF and byte by byte, each with the rows that it has before the
+-- end call and those of the end: one table, one proof.
+use Prim.Native.Nat.{ℕ}
+use mathlib.Core.Path.{_≡_, refl}
+use mathlib.Core.List.{List, [], _∷_, map}
+use Rattle.refusal.specs.declared.Refusal.the-variants.{NoBases, TableFull}
+use Rattle.lines.specs.Lines.{lines, chop, ends}
+use Rattle.lines.specs.Feeding.{FedSum, absorbSum, absorbSums, feedSum, feedSums, finishSum}
+use Rattle.definition.specs.Definition.{isSpace, run}
+use Rattle.record.specs.Row.{wordsOf, words}
+use Rattle.table.specs.declared.Stop.{Stop}
+use Rattle.table.specs.declared.Stop.the-variants.{Ended, Refused}
+use Rattle.indexer.specs.Index.{fitsLast}
+use Rattle.indexer.specs.ByLines.{definitionOut, firstOut, lineOut, State, start, found}
+use Rattle.indexer.specs.LineSums.{Sum, sumOf, grow, sumSays, stepSum, sums}
+
+record Answer : Type 0 where
+  before : List ℕ
+  numbers : List ℕ
+  stop : Stop
+
+abbrev fed : ℕ → List (List ℕ) → FedSum State Sum
+fed all ps = feedSums (sums all) (record { state = start all; held = sumOf [] }) ps
+
+abbrev answerOf : ℕ → List (List ℕ) → Answer
+answerOf all ps = record {
+  before = words (fed all ps .state .rows);
+  numbers = words (found (finishSum (sums all) (fed all ps)) .rows);
+  stop = found (finishSum (sums all) (fed all ps)) .stop;
+}
+
+unfoldable files : List (List (List ℕ))
+files =
+    -- >s ACGT CR | LF AC
+    ((62 ∷ 115 ∷ 10 ∷ 65 ∷ 67 ∷ 71 ∷ 84 ∷ 13 ∷ []) ∷ (10 ∷ 65 ∷ 67 ∷ []) ∷ [])
+    -- >s | q x, A; | nothing | >t, C
+    ∷ ((62 ∷ 115 ∷ []) ∷ (113 ∷ 32 ∷ 120 ∷ 10 ∷ 65 ∷ 10 ∷ []) ∷ [] ∷ (62 ∷ 116 ∷ 10 ∷ 67 ∷ 10 ∷ []) ∷ [])
+    -- >s, | >t: the missing line shows with the byte behind the LF
+    ∷ ((62 ∷ 115 ∷ 10 ∷ []) ∷ (62 ∷ []) ∷ [])
+    -- > | s | LF | A | LF | >
+    ∷ ((62 ∷ []) ∷ (115 ∷ []) ∷ (10 ∷ []) ∷ (65 ∷ []) ∷ (10 ∷ []) ∷ (62 ∷ []) ∷ (116 ∷ []) ∷ (10 ∷ []) ∷ (67 ∷ []) ∷ [])
+    ∷ []
+
+unfoldable answers : List Answer
+answers =
+    record { before = []; numbers = 1 ∷ 1 ∷ 6 ∷ 3 ∷ 4 ∷ 6 ∷ []; stop = Ended }
+    ∷ record { before = 1 ∷ 2 ∷ 1 ∷ 6 ∷ 1 ∷ 2 ∷ []; numbers = 1 ∷ 2 ∷ 1 ∷ 6 ∷ 1 ∷ 2 ∷ []; stop = Refused (TableFull 1) }
+    ∷ record { before = []; numbers = []; stop = Refused (NoBases 3) }
+    ∷ record { before = 1 ∷ 1 ∷ 1 ∷ 3 ∷ 1 ∷ 2 ∷ []; numbers = 1 ∷ 1 ∷ 1 ∷ 3 ∷ 1 ∷ 2 ∷ []; stop = Refused (TableFull 1) }
+    ∷ []
+
+fed-marked : map (answerOf 1) files ≡ answers
+unfolding files answers lines chop ends absorbSum absorbSums feedSum feedSums finishSum isSpace run wordsOf words fitsLast definitionOut firstOut lineOut sumOf grow sumSays stepSum
+fed-marked = refl
