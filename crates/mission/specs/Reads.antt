@@ -23,9 +23,12 @@ use Rattle.table.specs.declared.Filled.{Filled}
 use Rattle.table.specs.Fill.{FilledAs}
 use Rattle.index_line.specs.Laws.{line-sound}
 use Rattle.index.specs.Index.{placedAt, indexAt, indexIn}
+use Rattle.region.specs.declared.Bound.{Bound}
 use Rattle.region.specs.declared.Bound.the-variants.{Given}
 use Rattle.region.specs.declared.RegionRead.the-variants.{Bytes}
-use Rattle.region.specs.Region.{leaves, startOf, endOf, basesTo}
+use mathlib.Core.Bool.{false}
+use Rattle.region.specs.Laws.{good-bounds}
+use Rattle.region.specs.Region.{leaves, badBounds, startOf, endOf, basesTo}
 use Rattle.region.specs.Exact.{offsetsOf, exactOf, exactRead}
 use Rattle.record.specs.Bases.{byteAt}
 use Rattle.region.specs.Dependence.{readable-given, exact-reads}
@@ -49,6 +52,22 @@ pub record Asked (f : List ℕ) (r a e : ℕ) (out : List ℕ) : Type 0 where
   pub inside : e ≤ sumBases (recordAt (groups (lines f)) r .seq)
   pub room : basesTo a e ≤ length out
 
+-- the same by bounds that may be absent
+abbrev pub lastOf : List ℕ → ℕ → Bound → ℕ
+lastOf f r e = endOf (sumBases (recordAt (groups (lines f)) r .seq)) e
+
+pub record AskedBy (f : List ℕ) (r : ℕ) (a e : Bound) (out : List ℕ) : Type 0 where
+  pub record′ : r < length (groups (lines f))
+  pub bounds : badBounds a e ≡ false
+  pub start : startOf a ≤ sumBases (recordAt (groups (lines f)) r .seq)
+  pub end : lastOf f r e ≤ sumBases (recordAt (groups (lines f)) r .seq)
+  pub room : basesTo (startOf a) (lastOf f r e) ≤ length out
+
+pub asked-of : (f : List ℕ) (r : ℕ) (a e : Bound) (out : List ℕ) → AskedBy f r a e out → Asked f r (startOf a) (lastOf f r e) out
+asked-of f r a e out q =
+    let g = good-bounds a e (sumBases (recordAt (groups (lines f)) r .seq)) (q .bounds) in
+    record { record′ = q .record′; from-one = g .from-one; in-order = g .in-order (q .start); inside = q .end; room = q .room }
+
 module _ (f i : List ℕ) (accepted : Accepts f i) where
   all-read : AllRead 1 (lines i)
   all-read k h =
@@ -56,20 +75,20 @@ module _ (f i : List ℕ) (accepted : Accepts f i) where
       record { entry = m .both .entry; reads = rw (one-add k) (m .both .reads) }
 
   -- the rows that the whole-index call finds
-  found : RowsOf 1 (lines i) (indexAt i 1 0)
+  pub found : RowsOf 1 (lines i) (indexAt i 1 0)
   unfolding indexAt
   found = rows-of (lines i) 1 0 all-read
 
   module _ (r : ℕ) (h : r < length (groups (lines f))) where
-    match : Matches (suc r) (sequenceAt (groups (lines f)) r) (recordAt (groups (lines f)) r) (getD (lines i) r [])
+    pub match : Matches (suc r) (sequenceAt (groups (lines f)) r) (recordAt (groups (lines f)) r) (getD (lines i) r [])
     match = accepted .each r h
 
     -- the record in row r
-    abbrev x : Record
+    abbrev pub x : Record
     x = placedAt (found .place r) (match .both .entry .«record»)
 
     -- row r holds the numbers of line r
-    row-held : (t : List ℕ) → length (lines i) ≤ rowCount t → heldAt (withRows t 0 (indexAt i 1 0 .rows)) (length (indexAt i 1 0 .rows)) r ≡ held.Row x
+    pub row-held : (t : List ℕ) → length (lines i) ≤ rowCount t → heldAt (withRows t 0 (indexAt i 1 0 .rows)) (length (indexAt i 1 0 .rows)) r ≡ held.Row x
     row-held t enough =
         let n : r < length (indexAt i 1 0 .rows) = omega (arith, found .count, accepted .count) in
         let m : length (indexAt i 1 0 .rows) ≤ rowCount t = omega (arith, found .count) in
@@ -102,6 +121,18 @@ module _ (f i : List ℕ) (accepted : Accepts f i) where
           (readable-given (length f) x a e (length out) (q .from-one) (q .in-order) l (q .room) in-file)
           ∙ ap (λ (bs : List ℕ). leaves (Bytes (basesTo a e)) (bs ++ drop (basesTo a e) out)) bytes
 
+    module _ (a e : Bound) (out : List ℕ) (q : AskedBy f r a e out) where
+      by-reads : exactOf (length f) (byteAt f) (held.Row x) a e out
+          ≡ leaves (Bytes (basesTo (startOf a) (lastOf f r e))) (basesBetween f r (startOf a) (lastOf f r e) ++ drop (basesTo (startOf a) (lastOf f r e)) out)
+      by-reads =
+          let w = asked-of f r a e out q in
+          let c : x .length ≡ sumBases (recordAt (groups (lines f)) r .seq) = sym (match .count) in
+          let k = exact-reads (length f) (byteAt f) x a e out
+          (record { bounds = q .bounds; start = rw c (q .start); end = rw c (q .end); room = rw c (q .room); inside = rw c (in-file (startOf a) (lastOf f r e) out w) }) in
+          k
+          ∙ ap (λ (n : ℕ). leaves (Bytes (basesTo (startOf a) (endOf n e))) (map (byteAt f) (offsetsOf x (startOf a) (basesTo (startOf a) (endOf n e))) ++ drop (basesTo (startOf a) (endOf n e)) out)) c
+          ∙ ap (λ (bs : List ℕ). leaves (Bytes (basesTo (startOf a) (lastOf f r e))) (bs ++ drop (basesTo (startOf a) (lastOf f r e)) out)) (bytes (startOf a) (lastOf f r e) out w)
+
 -- the theorem
 pub accepted-reads : (f i t t′ : List ℕ) (told : Filled) (r a e : ℕ) (out : List ℕ) → Accepts f i → FilledAs (indexIn i (rowCount t)) t t′ told → length (lines i) ≤ rowCount t
     → Asked f r a e out
@@ -120,3 +151,15 @@ pub checked-reads : (f i t t′ : List ℕ) (told : Filled) (r a e : ℕ) (out :
     → exactRead f t′ (told .rows) r (Given (record { 0 = a })) (Given (record { 0 = e })) out
     ≡ leaves (Bytes (basesTo a e)) (basesBetween f r a e ++ drop (basesTo a e) out)
 checked-reads f i t t′ told r a e out h = accepted-reads f i t t′ told r a e out (accepted-only-if f i h)
+
+-- by any bounds
+pub accepted-reads-by : (f i t t′ : List ℕ) (told : Filled) (r : ℕ) (a e : Bound) (out : List ℕ) → Accepts f i → FilledAs (indexIn i (rowCount t)) t t′ told → length (lines i) ≤ rowCount t
+    → AskedBy f r a e out
+    → exactRead f t′ (told .rows) r a e out
+    ≡ leaves (Bytes (basesTo (startOf a) (lastOf f r e))) (basesBetween f r (startOf a) (lastOf f r e) ++ drop (basesTo (startOf a) (lastOf f r e)) out)
+unfolding exactRead overLimit
+accepted-reads-by f i t t′ told r a e out accepted filled enough q =
+    let n : length (indexAt i 1 0 .rows) ≤ rowCount t = omega (arith, found f i accepted .count) in
+    let w = index-whole i (rowCount t) (accepted .limits .index) n in
+    rw (le-ltb 1099511627776 (length f) (accepted .limits .fasta), rw w at (filled .table), rw w at (filled .rows), row-held f i accepted r (q .record′) t enough)
+    (by-reads f i accepted r (q .record′) a e out q)
