@@ -44,7 +44,7 @@ module _ (s : List ℕ) (a i : ℕ) where
   unfolding numberFrom allDigits valueFrom
   number-more h l u = rw (drop-cons s i 0, le-leb _ _ l, le-leb _ _ u, add-one)
 
-from-ge : (a : ℕ) (l : List ℕ) → a ≤ valueFrom a l
+pub from-ge : (a : ℕ) (l : List ℕ) → a ≤ valueFrom a l
 unfolding valueFrom
 from-ge a [] = omega arith
 from-ge a (b ∷ r) = omega (arith, from-ge (a * 10 + (b - 48)) r)
@@ -237,7 +237,7 @@ written-plain n = plain-digits (width n) n (wide n)
 -- ---- read, then written
 
 -- a digit in front
-digit-in : (b : ℕ) (r : List ℕ) → allDigits (b ∷ r) ≡ true → (48 ≤ b) × ((b ≤ 57) × (allDigits r ≡ true))
+pub digit-in : (b : ℕ) (r : List ℕ) → allDigits (b ∷ r) ≡ true → (48 ≤ b) × ((b ≤ 57) × (allDigits r ≡ true))
 unfolding allDigits
 digit-in b r h = go (leb 48 b) (leb b 57) refl refl h
   where

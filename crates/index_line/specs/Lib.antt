@@ -12,3 +12,4 @@ pub mod Numbers
 pub mod Laws
 pub mod RoundTrip
 pub mod Examples
+pub mod Quick

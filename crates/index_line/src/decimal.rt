@@ -12,10 +12,10 @@ ghost use Rattle.index_line.specs.Bytes.{overlaid};
 const LARGEST: u64 = 18446744073709551615;
 
 // Up to this number every digit may follow.
-const ROOMY: u64 = 1844674407370955160;
+pub(crate) const ROOMY: u64 = 1844674407370955160;
 
 // A byte as a number.
-fn wide(b: u8) -> u64
+pub(crate) fn wide(b: u8) -> u64
     ensures { λ r. ⌜ r ≡ b ⌝ }
 {
     b as u64

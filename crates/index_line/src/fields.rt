@@ -5,11 +5,13 @@ use crate::Written;
 use crate::decimal;
 use refusal::Refusal;
 ghost use mathlib.Core.Path.{_≡_};
+ghost use mathlib.Core.Bool.{true};
 ghost use Prim.Native.Nat.{_+_, _*_, _^_, _<_, _≤_};
 ghost use lib.ListN.{length, take, drop};
 ghost use Rattle.index_line.specs.Bytes.{is, firstWhere, overlaid};
 ghost use Rattle.index_line.specs.Fields.{zeroBarred, fieldSays, numbersFrom, numbersText, textOf, splits, wrote, textWritten};
 ghost use Rattle.index_line.specs.Reading.{fieldLen, behind, told};
+ghost use Rattle.index_line.specs.Quick.{FrontDigits, endsAt, Quick, ReadAll};
 ghost use Rattle.index_line.specs.Writing.{NumbersPut};
 
 // A field that is a number: its value, how many bytes it has, and whether it has no needless leading zero and no plus.
@@ -96,13 +98,8 @@ fn number_field(rest: &[u8], tabs: usize, line: u64, place: u64) -> FieldRead
     whole_field(&rest[..length], line, place)
 }
 
-// Reads as many numbers as the table has, each behind a tab; the first tab stands behind a name of `name` bytes, or there is the end.
-pub(crate) fn read_numbers(
-    content: &[u8],
-    name: usize,
-    line: u64,
-    numbers: &mut [u64],
-) -> NumbersRead
+// Reads as many numbers as the table has, one by one, and tells which is refused and why.
+fn read_each(content: &[u8], name: usize, line: u64, numbers: &mut [u64]) -> NumbersRead
     requires { ⌜ length (now numbers) ≤ 5 ⌝ }
     ensures { λ r. ⌜ told r (now (numbers .exit)) ≡ numbersFrom line 2 (length (now (numbers .entry))) (behind (length (now (numbers .entry))) (drop name (now (content .entry)))) ⌝ }
 {
@@ -128,6 +125,109 @@ pub(crate) fn read_numbers(
         i += 1;
     }
     NumbersRead::All { plain }
+}
+
+// Some digits: their value, and how many they are.
+struct Digits {
+    value: u64,
+    count: usize,
+}
+
+// The digits at the front of `s`, up to those that are no more than the largest number whatever follows.
+fn front_digits(s: &[u8]) -> Digits
+    ensures { λ r. ⌜ FrontDigits (now (s .entry)) (r .value) (r .count) ⌝ }
+{
+    let mut value: u64 = 0;
+    let mut i = 0;
+    while i < s.len() {
+        let b = decimal::wide(s[i]);
+        if b < 48 {
+            return Digits { value, count: i };
+        }
+        if 57 < b {
+            return Digits { value, count: i };
+        }
+        if decimal::ROOMY <= value {
+            return Digits { value, count: i };
+        }
+        value = value * 10 + (b - 48);
+        i += 1;
+    }
+    Digits { value, count: i }
+}
+
+// Does a field end at a place: at a tab where more tabs cut, else at the end.
+fn field_ends(s: &[u8], at: usize, tabs: usize) -> bool
+    ensures { λ r. ⌜ r ≡ endsAt (now (s .entry)) at tabs ⌝ }
+{
+    if tabs == 0 {
+        return at == s.len();
+    }
+    if s.len() <= at {
+        return false;
+    }
+    s[at] == 9
+}
+
+// A number at the front of `s`, as most are written: its first digit is 1 to 9. The length is 0 where there is none.
+fn quick_field(s: &[u8], tabs: usize) -> Field
+    ensures { λ r. ⌜ Quick (now (s .entry)) tabs r ⌝ }
+{
+    let d = front_digits(s);
+    if 0 < d.count {
+        if s[0] != 48 {
+            if field_ends(s, d.count, tabs) {
+                return Field {
+                    value: d.value,
+                    length: d.count,
+                    plain: true,
+                };
+            }
+        }
+    }
+    Field {
+        value: 0,
+        length: 0,
+        plain: true,
+    }
+}
+
+// Reads as many numbers as the table has, if all are as most are written; else the table holds any numbers.
+fn read_quickly(content: &[u8], name: usize, numbers: &mut [u64]) -> bool
+    requires { ⌜ length (now numbers) ≤ 5 ⌝ }
+    ensures { λ r. ⌜ (r ≡ true → ReadAll (now (content .entry)) name (now (numbers .exit))) ⌝ }
+{
+    let mut tab = name;
+    let mut i = 0;
+    while tab < content.len() {
+        if numbers.len() <= i {
+            return false;
+        }
+        let f = quick_field(&content[tab + 1..], numbers.len() - i - 1);
+        if f.length == 0 {
+            return false;
+        }
+        numbers[i] = f.value;
+        tab = tab + 1 + f.length;
+        i += 1;
+    }
+    i == numbers.len()
+}
+
+// Reads as many numbers as the table has, each behind a tab; the first tab stands behind a name of `name` bytes, or there is the end.
+pub(crate) fn read_numbers(
+    content: &[u8],
+    name: usize,
+    line: u64,
+    numbers: &mut [u64],
+) -> NumbersRead
+    requires { ⌜ length (now numbers) ≤ 5 ⌝ }
+    ensures { λ r. ⌜ told r (now (numbers .exit)) ≡ numbersFrom line 2 (length (now (numbers .entry))) (behind (length (now (numbers .entry))) (drop name (now (content .entry)))) ⌝ }
+{
+    if read_quickly(content, name, numbers) {
+        return NumbersRead::All { plain: true };
+    }
+    read_each(content, name, line, numbers)
 }
 
 // The place of the first tab or LF of a name; the length where there is none.
