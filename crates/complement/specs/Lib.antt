@@ -5,3 +5,4 @@ pub mod Laws
 pub mod KindLaws
 pub mod Inverse
 pub mod Examples
+pub mod Table

@@ -9,7 +9,7 @@
 // but for the kind, which stays the same: so the compiler does 16 bases and more at once.
 use refusal::Refusal;
 ghost use mathlib.Core.Path.{_≡_};
-ghost use mathlib.Core.Bool.{true, false, cond};
+ghost use mathlib.Core.Bool.{true, false};
 ghost use mathlib.Core.List.{map, reverse};
 ghost use Prim.Native.Nat.{_≤_};
 ghost use lib.ListN.{length};
@@ -17,6 +17,7 @@ ghost use Rattle.refusal.specs.declared.Refusal.the-variants.{NoRoom, NoComplem
 ghost use Rattle.complement.specs.Pairing.{partner};
 ghost use Rattle.complement.specs.Complement.{given, complementOf, reverseComplementOf, answerOf, outputOf, Told};
 ghost use Rattle.complement.specs.Kinds.{isOf, allOf, outcomeOf};
+ghost use Rattle.complement.specs.Table.{IsTable};
 
 // How many bytes were written, or why none were.
 pub enum Complemented {
@@ -77,39 +78,282 @@ fn flipped_plain(b: u8) -> u8
     b ^ 21 ^ ((b / 2) & 5) ^ ((b & 2) * 8)
 }
 
-// Some bits where a test holds, else none.
-fn bits_if(test: bool, bits: u8) -> u8
-    ensures { λ r. ⌜ r ≡ cond test bits 0 ⌝ }
-{
-    if test { bits } else { 0 }
-}
+// The complement of each byte; 0 where it has none.
+const TABLE: [u8; 256] = [
+    0,
+    0,
+    0,
+    0,
+    0,
+    0,
+    0,
+    0,
+    0,
+    0,
+    0,
+    0,
+    0,
+    0,
+    0,
+    0,
+    0,
+    0,
+    0,
+    0,
+    0,
+    0,
+    0,
+    0,
+    0,
+    0,
+    0,
+    0,
+    0,
+    0,
+    0,
+    0,
+    0,
+    0,
+    0,
+    0,
+    0,
+    0,
+    0,
+    0,
+    0,
+    0,
+    0,
+    0,
+    0,
+    0,
+    0,
+    0,
+    0,
+    0,
+    0,
+    0,
+    0,
+    0,
+    0,
+    0,
+    0,
+    0,
+    0,
+    0,
+    0,
+    0,
+    0,
+    0,
+    0,
+    84,
+    86,
+    71,
+    72,
+    0,
+    0,
+    67,
+    68,
+    0,
+    0,
+    77,
+    0,
+    75,
+    78,
+    0,
+    0,
+    0,
+    89,
+    83,
+    65,
+    65,
+    66,
+    87,
+    0,
+    82,
+    0,
+    0,
+    0,
+    0,
+    0,
+    0,
+    0,
+    116,
+    118,
+    103,
+    104,
+    0,
+    0,
+    99,
+    100,
+    0,
+    0,
+    109,
+    0,
+    107,
+    110,
+    0,
+    0,
+    0,
+    121,
+    115,
+    97,
+    97,
+    98,
+    119,
+    0,
+    114,
+    0,
+    0,
+    0,
+    0,
+    0,
+    0,
+    0,
+    0,
+    0,
+    0,
+    0,
+    0,
+    0,
+    0,
+    0,
+    0,
+    0,
+    0,
+    0,
+    0,
+    0,
+    0,
+    0,
+    0,
+    0,
+    0,
+    0,
+    0,
+    0,
+    0,
+    0,
+    0,
+    0,
+    0,
+    0,
+    0,
+    0,
+    0,
+    0,
+    0,
+    0,
+    0,
+    0,
+    0,
+    0,
+    0,
+    0,
+    0,
+    0,
+    0,
+    0,
+    0,
+    0,
+    0,
+    0,
+    0,
+    0,
+    0,
+    0,
+    0,
+    0,
+    0,
+    0,
+    0,
+    0,
+    0,
+    0,
+    0,
+    0,
+    0,
+    0,
+    0,
+    0,
+    0,
+    0,
+    0,
+    0,
+    0,
+    0,
+    0,
+    0,
+    0,
+    0,
+    0,
+    0,
+    0,
+    0,
+    0,
+    0,
+    0,
+    0,
+    0,
+    0,
+    0,
+    0,
+    0,
+    0,
+    0,
+    0,
+    0,
+    0,
+    0,
+    0,
+    0,
+    0,
+    0,
+    0,
+    0,
+    0,
+    0,
+    0,
+    0,
+    0,
+    0,
+    0,
+    0,
+    0,
+    0,
+    0,
+    0,
+    0,
+    0,
+    0,
+    0,
+    0,
+    0,
+    0,
+    0,
+    0,
+    0,
+    0,
+    0,
+    0,
+    0,
+];
 
-// The complement of a base that has one. A and T differ in 21, C and G in 4, K and M in 6, R and Y in 11, D and H in 12, B and V
-// in 20, as U and A do; W, S and N are their own. One test finds C and G, which differ in one bit; so K and M with I and O, and D
-// and H with L, which have no complement.
-fn flipped(b: u8) -> u8
-    requires { ⌜ isOf false b ≡ true ⌝ }
-    ensures { λ r. ⌜ r ≡ partner b ⌝ }
+// The table as a value: a loop looks into a copy that is made before it, since the constant would be made anew at each look.
+fn table() -> [u8; 256]
+    ensures { λ r. ⌜ IsTable r ⌝ }
 {
-    let low = b | 32;
-    let at = bits_if((low == b'a') | (low == b't'), 21);
-    let cg = bits_if(low | 4 == b'g', 4);
-    let km = bits_if(low | 6 == b'o', 6);
-    let ry = bits_if((low == b'r') | (low == b'y'), 11);
-    let dh = bits_if(low | 12 == b'l', 12);
-    let bvu = bits_if((low == b'b') | (low == b'v') | (low == b'u'), 20);
-    b ^ at ^ cg ^ km ^ ry ^ dh ^ bvu
+    TABLE
 }
 
 // The complement of a base of the kind.
-fn complement_base(b: u8, plain: bool) -> u8
-    requires { ⌜ isOf plain b ≡ true ⌝ }
+fn complement_base(table: &[u8; 256], b: u8, plain: bool) -> u8
+    requires { ⌜ (isOf plain b ≡ true) × IsTable (now table) ⌝ }
     ensures { λ r. ⌜ r ≡ partner b ⌝ }
 {
     if plain {
         return flipped_plain(b);
     }
-    flipped(b)
+    table[b as usize]
 }
 
 // The refusal of an output that is shorter than its answer.
@@ -166,9 +410,10 @@ fn write(bases: &[u8], out: &mut [u8], plain: bool)
     requires { ⌜ (length (now bases) ≤ length (now out)) × (allOf plain (now bases) ≡ true) ⌝ }
     ensures { λ _. ⌜ now (out .exit) ≡ outputOf (given (map partner (now (bases .entry)))) (now (out .entry)) ⌝ }
 {
+    let table = table();
     let mut i = 0;
     while i < bases.len() {
-        out[i] = complement_base(bases[i], plain);
+        out[i] = complement_base(&table, bases[i], plain);
         i += 1;
     }
 }
@@ -178,11 +423,12 @@ fn write_reversed(bases: &[u8], out: &mut [u8], plain: bool)
     requires { ⌜ (length (now bases) ≤ length (now out)) × (allOf plain (now bases) ≡ true) ⌝ }
     ensures { λ _. ⌜ now (out .exit) ≡ outputOf (given (reverse (map partner (now (bases .entry))))) (now (out .entry)) ⌝ }
 {
+    let table = table();
     let mut i = bases.len();
     let mut at = 0;
     while 0 < i {
         i -= 1;
-        out[at] = complement_base(bases[i], plain);
+        out[at] = complement_base(&table, bases[i], plain);
         at += 1;
     }
 }

@@ -16,11 +16,14 @@ use Rattle.complement.proofs.write.Statement.{statement}
 use Rattle.complement.proofs.write.Tie as tie
 
 abbrev Inv-loop : tie.InvT-loop
-Inv-loop bases out₀ plain i₀ out i =
+Inv-loop bases out₀ plain table i₀ out i =
     (i ≤ length bases) × ((length out ≡ length out₀) × (out ≡ outputOf (given (map partner (take i bases))) out₀))
 
 abbrev μ-loop : tie.MeasureT-loop
-μ-loop bases out₀ plain i₀ out i = length bases - i
+μ-loop bases out₀ plain table i₀ out i = length bases - i
+
+table-requires : tie.Need-table-requires Inv-loop μ-loop
+table-requires c κs = search needs
 
 loop-holds : tie.Need-loop-holds Inv-loop μ-loop
 unfolding outputOf
@@ -30,7 +33,9 @@ shared-slice-read-complement-base : tie.Need-shared-slice-read-complement-base I
 shared-slice-read-complement-base c = search needs
 
 complement-base-requires : tie.Need-complement-base-requires Inv-loop μ-loop
-complement-base-requires c κs = all-at _ _ _ (c .before .loop-test .taken) (c .before .before .before .before .before .pre .1)
+complement-base-requires c κs =
+    let l = c .before .before .before in
+    (all-at _ _ _ (c .before .before .loop-test .taken) (l .before .before .before .before .pre .1), l .before .table .ensures)
 
 slice-write-out : tie.Need-slice-write-out Inv-loop μ-loop
 slice-write-out c = search needs
@@ -43,7 +48,7 @@ loop-less c = search needs
 
 loop-again : tie.Need-loop-again Inv-loop μ-loop
 loop-again c =
-    let t = c .before .before in
+    let t = c .before .before .before in
     (search needs, (simp length-set (omega arith), rw add-one (write-turn _ _ _ _ (t .loop-test .taken) (omega arith) _ (c .complement-base .ensures) (t .before .loop .inv .1 .1))))
 
 same-length : tie.Need-same-length Inv-loop μ-loop
@@ -58,6 +63,7 @@ write-spec =
     (tie.spec
     Inv-loop
     μ-loop
+    table-requires
     loop-holds
     shared-slice-read-complement-base
     complement-base-requires

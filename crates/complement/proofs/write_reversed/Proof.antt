@@ -15,15 +15,18 @@ use Rattle.complement.proofs.write_reversed.Statement.{statement}
 use Rattle.complement.proofs.write_reversed.Tie as tie
 
 abbrev Inv-loop : tie.InvT-loop
-Inv-loop bases out₀ plain i₀ at₀ out i at =
+Inv-loop bases out₀ plain table i₀ at₀ out i at =
     (i + at ≡ length bases) × ((length out ≡ length out₀) × (out ≡ outputOf (given (reverse (map partner (drop i bases)))) out₀))
 
 abbrev μ-loop : tie.MeasureT-loop
-μ-loop bases out₀ plain i₀ at₀ out i at = i
+μ-loop bases out₀ plain table i₀ at₀ out i at = i
+
+table-requires : tie.Need-table-requires Inv-loop μ-loop
+table-requires c κs = search needs
 
 loop-holds : tie.Need-loop-holds Inv-loop μ-loop
 unfolding outputOf
-loop-holds c = (search needs, (refl, rw (drop-length (c .before .before .args .bases .now))))
+loop-holds c = (search needs, (refl, rw (drop-length (c .before .before .before .args .bases .now))))
 
 sub-i : tie.Need-sub-i Inv-loop μ-loop
 sub-i c = search needs
@@ -32,7 +35,9 @@ shared-slice-read-complement-base : tie.Need-shared-slice-read-complement-base I
 shared-slice-read-complement-base c = search needs
 
 complement-base-requires : tie.Need-complement-base-requires Inv-loop μ-loop
-complement-base-requires c κs = all-at _ _ _ (omega arith) (c .before .before .before .before .before .pre .1)
+complement-base-requires c κs =
+    let l = c .before .before .before in
+    (all-at _ _ _ (omega arith) (l .before .before .before .before .pre .1), l .before .table .ensures)
 
 slice-write-out : tie.Need-slice-write-out Inv-loop μ-loop
 slice-write-out c = search needs
@@ -45,7 +50,7 @@ loop-less c = search needs
 
 loop-again : tie.Need-loop-again Inv-loop μ-loop
 loop-again c =
-    let l = c .before .before .before in
+    let l = c .before .before .before .before in
     (search needs, (simp length-set (omega arith), write-reversed-turn _ _ _ _ (omega arith) (omega arith) _ (c .complement-base .ensures) (l .loop .i) (l .loop .at) (omega arith) (omega arith) (l .loop .inv .1 .1)))
 
 same-length : tie.Need-same-length Inv-loop μ-loop
@@ -60,6 +65,7 @@ write-reversed-spec =
     (tie.spec
     Inv-loop
     μ-loop
+    table-requires
     loop-holds
     sub-i
     shared-slice-read-complement-base

@@ -1,0 +1,30 @@
+-- The complements of all bytes as a table, and that it is one: each entry is computed and held to the pairing.
+use Prim.Native.Nat.{ℕ, zero, suc, _+_, _<_}
+use mathlib.Core.Path.{_≡_}
+use mathlib.Core.Bool.{Bool, true, false, cond}
+use mathlib.Core.List.{List, [], _∷_}
+use native.Mathlib.Nat.{add-zero, add-suc, suc-add, zero-add}
+use native.Mathlib.Omega.{arith}
+use lib.Dec.{T, eqb, eqb→eq}
+use lib.ListN.{length, getD}
+use Rattle.complement.specs.Pairing.{partner}
+use Rattle.complement.specs.Laws.{both}
+
+-- a table of the complements: each byte's is at its place
+unfoldable pub IsTable : List ℕ → Type 0
+IsTable t = (b : ℕ) → b < 256 → getD t b 0 ≡ partner b
+
+-- the entries from place i on are what f gives for their places
+abbrev pub right : (ℕ → ℕ) → ℕ → List ℕ → Bool
+right f i [] = true
+right f i (x ∷ xs) = cond (eqb x (f i)) (right f (suc i) xs) false
+
+entries : (f : ℕ → ℕ) (xs : List ℕ) (i : ℕ) → T (right f i xs) → (k : ℕ) → k < length xs → getD xs k 0 ≡ f (i + k)
+entries f [] i t k h = absurd (omega arith)
+entries f (x ∷ xs) i t zero h = rw (add-zero i) (eqb→eq x (f i) (both (eqb x (f i)) (right f (suc i) xs) t .0))
+entries f (x ∷ xs) i t (suc k) h =
+    rw (add-suc i k, ← suc-add i k) (entries f xs (suc i) (both (eqb x (f i)) (right f (suc i) xs) t .1) k (omega arith))
+
+-- what one computed test finds at all entries of a table holds of each
+pub entry : (f : ℕ → ℕ) (xs : List ℕ) → T (right f 0 xs) → (k : ℕ) → k < length xs → getD xs k 0 ≡ f k
+entry f xs t k h = rw (zero-add k) at (entries f xs 0 t k h)
