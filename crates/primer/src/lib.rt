@@ -274,7 +274,7 @@ const CODES: [u8; 256] = [
 ];
 
 // The table, as a value.
-fn codes() -> [u8; 256]
+pub fn codes() -> [u8; 256]
     ensures { λ r. ⌜ ((b : ℕ) → b < 256 → getD r b 0 ≡ setOf b) ⌝ }
 {
     CODES

@@ -35,6 +35,9 @@ numbersOf (is.LengthDiffers record′) = told 22 record′ 0
 numbersOf (is.BaseElsewhere record′ base) = told 23 record′ base
 numbersOf (is.NoComplement place byte) = told 24 place byte
 numbersOf (is.BadRow row) = told 25 row 0
+numbersOf (is.MalformedExercise offset) = told 31 offset 0
+numbersOf (is.UnknownNeededTag offset) = told 32 offset 0
+numbersOf (is.UnknownEdition offset) = told 33 offset 0
 numbersOf (is.NoIndexFits offset base) = told 42 offset base
 
 -- is an input of so many bytes over the limit

@@ -30,6 +30,9 @@ pub enum Refusal {
     BaseElsewhere { record: u64, base: u64 },
     NoComplement { place: u64, byte: u64 },
     BadRow { row: u64 },
+    MalformedExercise { offset: u64 },
+    UnknownNeededTag { offset: u64 },
+    UnknownEdition { offset: u64 },
     NoIndexFits { offset: u64, base: u64 },
 }
 
@@ -91,6 +94,9 @@ impl Refusal {
             Refusal::BaseElsewhere { record, base } => told(23, record, base),
             Refusal::NoComplement { place, byte } => told(24, place, byte),
             Refusal::BadRow { row } => told(25, row, 0),
+            Refusal::MalformedExercise { offset } => told(31, offset, 0),
+            Refusal::UnknownNeededTag { offset } => told(32, offset, 0),
+            Refusal::UnknownEdition { offset } => told(33, offset, 0),
             Refusal::NoIndexFits { offset, base } => told(42, offset, base),
         }
     }

@@ -164,6 +164,24 @@ enum-known-self-23 c = search needs
 told-requires-26 : tie.Need-told-requires-26
 told-requires-26 c κs = search needs
 
+enum-known-self-24 : tie.Need-enum-known-self-24
+enum-known-self-24 c = search needs
+
+told-requires-27 : tie.Need-told-requires-27
+told-requires-27 c κs = search needs
+
+enum-known-self-25 : tie.Need-enum-known-self-25
+enum-known-self-25 c = search needs
+
+told-requires-28 : tie.Need-told-requires-28
+told-requires-28 c κs = search needs
+
+enum-known-self-26 : tie.Need-enum-known-self-26
+enum-known-self-26 c = search needs
+
+told-requires-29 : tie.Need-told-requires-29
+told-requires-29 c κs = search needs
+
 returns : tie.Need-returns
 unfolding numbersOf
 returns c = rw (c .before .enum-told .given .1) (c .told .ensures)
@@ -268,6 +286,18 @@ returns-26 : tie.Need-returns-26
 unfolding numbersOf
 returns-26 c = rw (c .before .before .self23 .given .1) (c .told26 .ensures)
 
+returns-27 : tie.Need-returns-27
+unfolding numbersOf
+returns-27 c = rw (c .before .before .self24 .given .1) (c .told27 .ensures)
+
+returns-28 : tie.Need-returns-28
+unfolding numbersOf
+returns-28 c = rw (c .before .before .self25 .given .1) (c .told28 .ensures)
+
+returns-29 : tie.Need-returns-29
+unfolding numbersOf
+returns-29 c = rw (c .before .before .self26 .given .1) (c .told29 .ensures)
+
 pub numbers-spec : {M : Type 1} → statement M
 numbers-spec =
     tie.close
@@ -324,6 +354,12 @@ numbers-spec =
     told-requires-25
     enum-known-self-23
     told-requires-26
+    enum-known-self-24
+    told-requires-27
+    enum-known-self-25
+    told-requires-28
+    enum-known-self-26
+    told-requires-29
     returns
     returns-2
     returns-3
@@ -349,4 +385,7 @@ numbers-spec =
     returns-23
     returns-24
     returns-25
-    returns-26)
+    returns-26
+    returns-27
+    returns-28
+    returns-29)

@@ -1,0 +1,6 @@
+pub mod Numbers
+pub mod Reading
+pub mod Writing
+pub mod Laws
+pub mod Fields
+pub mod Examples

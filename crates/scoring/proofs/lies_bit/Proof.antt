@@ -1,0 +1,54 @@
+-- `scoring::lies_bit` meets its contract, by the typed byte's set.
+-- Assumes nothing.
+use mathlib.Core.Path.{_≡_, refl, sym, ap, _∙_}
+use native.Mathlib.Omega.{arith}
+use Prim.Native.Nat.{_<_}
+use lib.ListN.{getD}
+use Rattle.primer.specs.Bits.{bit}
+use Rattle.primer.specs.Codes.{setOf}
+use Rattle.scoring.specs.RuleLaws.{lies-none, lies-in, lies-out}
+use borrow.Author.Needs.{needs}
+use Rattle.scoring.proofs.lies_bit.Statement.{statement}
+use Rattle.scoring.proofs.lies_bit.Tie as tie
+use Rattle.scoring.proofs.lies_bit.Reads as reads
+use Rattle.scoring.proofs.lies_bit.Lts as lts
+use Rattle.scoring.proofs.same_bit.Reads as same-bit-reads
+
+typed-set : (c : tie.Start) → getD (c .args .codes .now) (c .args .t) 0 ≡ setOf (c .args .t)
+typed-set c = c .pre (c .args .t) (search needs)
+
+key-set : (c : tie.Start) → getD (c .args .codes .now) (c .args .k) 0 ≡ setOf (c .args .k)
+key-set c = c .pre (c .args .k) (search needs)
+
+element-copy-out-set : tie.Need-element-copy-out-set
+element-copy-out-set c = search needs
+
+same-bit-requires : tie.Need-same-bit-requires
+same-bit-requires c κs = search needs
+
+returns : tie.Need-returns
+returns c = let s = c .before .before .before in c .same-bit .ensures ∙ ap bit (lies-none _ _ (sym (typed-set s) ∙ c .before .if1 .taken))
+
+element-copy-out-if2 : tie.Need-element-copy-out-if2
+element-copy-out-if2 c = search needs
+
+returns-2 : tie.Need-returns-2
+returns-2 c = let s = c .before .before .before .before in ap bit (lies-in _ _ (λ z. c .before .before .if1 .left (typed-set s ∙ z)) (rw (typed-set s, key-set s) at (c .if2 .taken)))
+
+same-bit-requires-2 : tie.Need-same-bit-requires-2
+same-bit-requires-2 c κs = search needs
+
+returns-3 : tie.Need-returns-3
+returns-3 c = let s = c .before .before .before .before .before in c .same-bit2 .ensures ∙ ap bit (lies-out _ _ (λ z. c .before .before .before .if1 .left (typed-set s ∙ z)) (λ z. c .before .if2 .left (rw (typed-set s, key-set s) z)))
+
+pub lies-bit-spec : {M : Type 1} → statement M
+lies-bit-spec =
+    tie.close
+    (tie.spec
+    element-copy-out-set
+    same-bit-requires
+    returns
+    element-copy-out-if2
+    returns-2
+    same-bit-requires-2
+    returns-3)

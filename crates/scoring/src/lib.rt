@@ -1,0 +1,192 @@
+// What was typed against a key: how many places of the key are right, wrong and missing, how much was typed past it, and the score,
+// whose denominator is what was asked. Refused: 1 for bytes over the limit, then 33 for an edition that is not known.
+use refusal::Refusal;
+ghost use mathlib.Core.Path.{_≡_};
+ghost use Prim.Native.Nat.{ℕ, _+_, _≤_, _<_, min};
+ghost use lib.ListN.{length, getD};
+ghost use Rattle.primer.specs.Bits.{bit};
+ghost use Rattle.primer.specs.Codes.{setOf};
+ghost use Rattle.scoring.specs.Rules.{folded, same, lies, ruleFor};
+ghost use Rattle.scoring.specs.Places.{tenths, scoredAs, scoreBy};
+ghost use Rattle.scoring.specs.Counting.{Counted, agrees};
+
+// The counts over a key's places, the typed bytes past it, and the score in tenths of a percent.
+pub struct Score {
+    pub right: u64,
+    pub wrong: u64,
+    pub missing: u64,
+    pub surplus: u64,
+    pub score: u64,
+}
+
+pub enum Scored {
+    Score(Score),
+    Refused(Refusal),
+}
+
+// An ASCII letter in upper case; another byte as it is.
+fn folded(b: u8) -> u8
+    ensures { λ r. ⌜ r ≡ folded b ⌝ }
+{
+    if b < 97 {
+        return b;
+    }
+    if 122 < b {
+        return b;
+    }
+    b - 32
+}
+
+// Is a typed byte right in edition 1, as a number.
+fn same_bit(k: u8, t: u8) -> u8
+    ensures { λ r. ⌜ r ≡ bit (same k t) ⌝ }
+{
+    if folded(k) == folded(t) {
+        return 1;
+    }
+    0
+}
+
+// The same in edition 2.
+fn lies_bit(codes: &[u8; 256], k: u8, t: u8) -> u8
+    requires { ⌜ ((b : ℕ) → b < 256 → getD (now codes) b 0 ≡ setOf b) ⌝ }
+    ensures { λ r. ⌜ r ≡ bit (lies k t) ⌝ }
+{
+    let set = codes[t as usize];
+    if set == 0 {
+        return same_bit(k, t);
+    }
+    if set & codes[k as usize] == set {
+        return 1;
+    }
+    same_bit(k, t)
+}
+
+// How many of 32 places are right in edition 1.
+fn same32(key: &[u8], typed: &[u8], at: usize) -> u8
+    requires { ⌜ (at + 32 ≤ length (now key)) × (at + 32 ≤ length (now typed)) ⌝ }
+    ensures { λ r. ⌜ Counted (agrees same (now (key .entry)) (now (typed .entry))) at 32 r ⌝ }
+{
+    let mut right: u8 = 0;
+    for j in 0..32 {
+        right = right + same_bit(key[at + j], typed[at + j]);
+    }
+    right
+}
+
+fn wide(b: u8) -> usize
+    ensures { λ r. ⌜ r ≡ b ⌝ }
+{
+    b as usize
+}
+
+// How many of n places are right.
+fn run(codes: &[u8; 256], key: &[u8], typed: &[u8], at: usize, n: usize, second: bool) -> usize
+    requires { ⌜ ((b : ℕ) → b < 256 → getD (now codes) b 0 ≡ setOf b) × (at + n ≤ length (now key)) × (at + n ≤ length (now typed)) ⌝ }
+    ensures { λ r. ⌜ Counted (agrees (ruleFor second) (now (key .entry)) (now (typed .entry))) at n r ⌝ }
+{
+    let mut right: usize = 0;
+    let mut j = 0;
+    while j < n {
+        right = right + wide(right_bit(codes, key[at + j], typed[at + j], second));
+        j += 1;
+    }
+    right
+}
+
+fn right_bit(codes: &[u8; 256], k: u8, t: u8, second: bool) -> u8
+    requires { ⌜ ((b : ℕ) → b < 256 → getD (now codes) b 0 ≡ setOf b) ⌝ }
+    ensures { λ r. ⌜ r ≡ bit (ruleFor second k t) ⌝ }
+{
+    if second {
+        return lies_bit(codes, k, t);
+    }
+    same_bit(k, t)
+}
+
+// How many of 32 places are right: what edition 1 takes, edition 2 takes too.
+fn block(codes: &[u8; 256], key: &[u8], typed: &[u8], at: usize, second: bool) -> usize
+    requires { ⌜ ((b : ℕ) → b < 256 → getD (now codes) b 0 ≡ setOf b) × (at + 32 ≤ length (now key)) × (at + 32 ≤ length (now typed)) ⌝ }
+    ensures { λ r. ⌜ Counted (agrees (ruleFor second) (now (key .entry)) (now (typed .entry))) at 32 r ⌝ }
+{
+    let all = same32(key, typed, at);
+    if all == 32 {
+        return 32;
+    }
+    if second {
+        return run(codes, key, typed, at, 32, second);
+    }
+    wide(all)
+}
+
+// How many of the first n places are right.
+fn right_in(key: &[u8], typed: &[u8], n: usize, second: bool) -> usize
+    requires { ⌜ (n ≤ length (now key)) × (n ≤ length (now typed)) ⌝ }
+    ensures { λ r. ⌜ Counted (agrees (ruleFor second) (now (key .entry)) (now (typed .entry))) 0 n r ⌝ }
+{
+    let codes = primer::codes();
+    let mut right: usize = 0;
+    let mut i = 0;
+    while 32 <= n - i {
+        right = right + block(&codes, key, typed, i, second);
+        i += 32;
+    }
+    right + run(&codes, key, typed, i, n - i, second)
+}
+
+// The score of so many right places, of a whole.
+fn tenths(right: u64, whole: u64) -> u64
+    requires { ⌜ right ≤ 1099511627776 ⌝ }
+    ensures { λ r. ⌜ r ≡ tenths right whole ⌝ }
+{
+    if whole == 0 {
+        return 0;
+    }
+    1000 * right / whole
+}
+
+fn smaller(a: usize, b: usize) -> usize
+    ensures { λ r. ⌜ r ≡ min a b ⌝ }
+{
+    if a < b {
+        return a;
+    }
+    b
+}
+
+// The counts and the score of a key and what was typed, in edition 1 or 2.
+fn score_by(key: &[u8], typed: &[u8], second: bool) -> Score
+    requires { ⌜ (length (now key) ≤ 1099511627776) × (length (now typed) ≤ 1099511627776) ⌝ }
+    ensures { λ r. ⌜ r ≡ scoreBy (ruleFor second) (now (key .entry)) (now (typed .entry)) ⌝ }
+{
+    let both = smaller(key.len(), typed.len());
+    let right = right_in(key, typed, both, second);
+    let surplus = typed.len() - both;
+    let score = tenths(right as u64, (key.len() + surplus) as u64);
+    Score {
+        right: right as u64,
+        wrong: (both - right) as u64,
+        missing: (key.len() - both) as u64,
+        surplus: surplus as u64,
+        score,
+    }
+}
+
+// The same, by an edition's number.
+pub fn score_typed(key: &[u8], typed: &[u8], edition: u64) -> Scored
+    ensures { λ r. ⌜ r ≡ scoredAs (now (key .entry)) (now (typed .entry)) edition ⌝ }
+{
+    if refusal::over_limit(key.len()) {
+        return Scored::Refused(Refusal::TooLong);
+    }
+    if refusal::over_limit(typed.len()) {
+        return Scored::Refused(Refusal::TooLong);
+    }
+    if edition == 1 {
+        return Scored::Score(score_by(key, typed, false));
+    }
+    if edition == 2 {
+        return Scored::Score(score_by(key, typed, true));
+    }
+    Scored::Refused(Refusal::UnknownEdition { offset: 0 })
+}
