@@ -158,29 +158,53 @@ enum-known-self-22 c = search needs
 told-requires-25 : tie.Need-told-requires-25
 told-requires-25 c κs = search needs
 
-enum-known-self-23 : tie.Need-enum-known-self-23
-enum-known-self-23 c = search needs
+enum-told-4 : tie.Need-enum-told-4
+enum-told-4 c = search needs
 
 told-requires-26 : tie.Need-told-requires-26
 told-requires-26 c κs = search needs
 
-enum-known-self-24 : tie.Need-enum-known-self-24
-enum-known-self-24 c = search needs
+enum-told-5 : tie.Need-enum-told-5
+enum-told-5 c = search needs
 
 told-requires-27 : tie.Need-told-requires-27
 told-requires-27 c κs = search needs
 
-enum-known-self-25 : tie.Need-enum-known-self-25
-enum-known-self-25 c = search needs
+enum-told-6 : tie.Need-enum-told-6
+enum-told-6 c = search needs
 
 told-requires-28 : tie.Need-told-requires-28
 told-requires-28 c κs = search needs
 
-enum-known-self-26 : tie.Need-enum-known-self-26
-enum-known-self-26 c = search needs
+enum-told-7 : tie.Need-enum-told-7
+enum-told-7 c = search needs
 
 told-requires-29 : tie.Need-told-requires-29
 told-requires-29 c κs = search needs
+
+enum-known-self-23 : tie.Need-enum-known-self-23
+enum-known-self-23 c = search needs
+
+told-requires-30 : tie.Need-told-requires-30
+told-requires-30 c κs = search needs
+
+enum-known-self-24 : tie.Need-enum-known-self-24
+enum-known-self-24 c = search needs
+
+told-requires-31 : tie.Need-told-requires-31
+told-requires-31 c κs = search needs
+
+enum-known-self-25 : tie.Need-enum-known-self-25
+enum-known-self-25 c = search needs
+
+told-requires-32 : tie.Need-told-requires-32
+told-requires-32 c κs = search needs
+
+enum-known-self-26 : tie.Need-enum-known-self-26
+enum-known-self-26 c = search needs
+
+told-requires-33 : tie.Need-told-requires-33
+told-requires-33 c κs = search needs
 
 returns : tie.Need-returns
 unfolding numbersOf
@@ -284,19 +308,35 @@ returns-25 c = rw (c .before .before .self22 .given .1) (c .told25 .ensures)
 
 returns-26 : tie.Need-returns-26
 unfolding numbersOf
-returns-26 c = rw (c .before .before .self23 .given .1) (c .told26 .ensures)
+returns-26 c = rw (c .before .enum-told4 .given .1) (c .told26 .ensures)
 
 returns-27 : tie.Need-returns-27
 unfolding numbersOf
-returns-27 c = rw (c .before .before .self24 .given .1) (c .told27 .ensures)
+returns-27 c = rw (c .before .enum-told5 .given .1) (c .told27 .ensures)
 
 returns-28 : tie.Need-returns-28
 unfolding numbersOf
-returns-28 c = rw (c .before .before .self25 .given .1) (c .told28 .ensures)
+returns-28 c = rw (c .before .enum-told6 .given .1) (c .told28 .ensures)
 
 returns-29 : tie.Need-returns-29
 unfolding numbersOf
-returns-29 c = rw (c .before .before .self26 .given .1) (c .told29 .ensures)
+returns-29 c = rw (c .before .enum-told7 .given .1) (c .told29 .ensures)
+
+returns-30 : tie.Need-returns-30
+unfolding numbersOf
+returns-30 c = rw (c .before .before .self23 .given .1) (c .told30 .ensures)
+
+returns-31 : tie.Need-returns-31
+unfolding numbersOf
+returns-31 c = rw (c .before .before .self24 .given .1) (c .told31 .ensures)
+
+returns-32 : tie.Need-returns-32
+unfolding numbersOf
+returns-32 c = rw (c .before .before .self25 .given .1) (c .told32 .ensures)
+
+returns-33 : tie.Need-returns-33
+unfolding numbersOf
+returns-33 c = rw (c .before .before .self26 .given .1) (c .told33 .ensures)
 
 pub numbers-spec : {M : Type 1} → statement M
 numbers-spec =
@@ -352,14 +392,22 @@ numbers-spec =
     told-requires-24
     enum-known-self-22
     told-requires-25
-    enum-known-self-23
+    enum-told-4
     told-requires-26
-    enum-known-self-24
+    enum-told-5
     told-requires-27
-    enum-known-self-25
+    enum-told-6
     told-requires-28
-    enum-known-self-26
+    enum-told-7
     told-requires-29
+    enum-known-self-23
+    told-requires-30
+    enum-known-self-24
+    told-requires-31
+    enum-known-self-25
+    told-requires-32
+    enum-known-self-26
+    told-requires-33
     returns
     returns-2
     returns-3
@@ -388,4 +436,8 @@ numbers-spec =
     returns-26
     returns-27
     returns-28
-    returns-29)
+    returns-29
+    returns-30
+    returns-31
+    returns-32
+    returns-33)

@@ -1,0 +1,90 @@
+-- The text of a FASTA record, in the words of request K3, and what writing it answers.
+use Prim.Native.Nat.{ℕ, zero, suc, _+_, _-_}
+use mathlib.Core.Path.{_≡_}
+use mathlib.Core.List.{List, [], _∷_, _++_}
+use mathlib.Core.Bool.{Bool, true, false, cond, _&&_, _||_}
+use lib.ListN.{length, take, drop, getD}
+use lib.Dec.{eqb}
+use Rattle.refusal.specs.Numbers.{overLimit}
+use Rattle.refusal.specs.declared.Refusal.the-variants.{TooLong, ZeroWidth, NameUnfit, DescriptionUnfit, BaseUnfit}
+use Rattle.definition.specs.Definition.{isSpace}
+use Rattle.index_line.specs.Bytes.{is, overlaid}
+use Rattle.index_line.specs.Fields.{Wrote, wrote, frontWritten}
+use Rattle.index_line.specs.declared.Written.the-variants.{Refused}
+
+-- ---- the text
+
+-- one space and the description, where there is one
+unfoldable pub describedText : Bool → List ℕ → List ℕ
+describedText false d = []
+describedText true d = 32 ∷ d
+
+-- '>', the name, the description, LF
+unfoldable pub definitionText : List ℕ → Bool → List ℕ → List ℕ
+definitionText name described d = 62 ∷ (name ++ (describedText described d ++ (10 ∷ [])))
+
+-- bases cut into rows of a width; the last has what is left. At most n rows are made
+unfoldable pub rowsUpTo : ℕ → ℕ → List ℕ → List (List ℕ)
+rowsUpTo zero w s = []
+rowsUpTo (suc n) w [] = []
+rowsUpTo (suc n) w (b ∷ s) = take w (b ∷ s) ∷ rowsUpTo n w (drop w (b ∷ s))
+
+-- all of them: there are no more rows than bases
+abbrev pub rowsOf : ℕ → List ℕ → List (List ℕ)
+rowsOf w s = rowsUpTo (length s) w s
+
+-- a row as a line
+abbrev pub lineOf : List ℕ → List ℕ
+lineOf r = r ++ (10 ∷ [])
+
+-- some rows, each with LF
+unfoldable pub rowsText : List (List ℕ) → List ℕ
+rowsText [] = []
+rowsText (r ∷ rs) = lineOf r ++ rowsText rs
+
+-- bases in lines of a width, each with LF
+unfoldable pub sequenceText : ℕ → List ℕ → List ℕ
+sequenceText w s = rowsText (rowsOf w s)
+
+-- a record
+unfoldable pub recordText : List ℕ → Bool → List ℕ → List ℕ → ℕ → List ℕ
+recordText name described d bases w = definitionText name described d ++ sequenceText w bases
+
+-- ---- what is refused
+
+-- does one of some bytes pass a test
+unfoldable pub anyOf : (ℕ → Bool) → List ℕ → Bool
+anyOf p [] = false
+anyOf p (b ∷ s) = p b || anyOf p s
+
+-- 28: empty or with whitespace
+unfoldable pub nameUnfit : List ℕ → Bool
+nameUnfit name = eqb (length name) 0 || anyOf isSpace name
+
+-- 29: empty, with LF, or beginning or ending in whitespace
+unfoldable pub descriptionUnfit : List ℕ → Bool
+descriptionUnfit d = eqb (length d) 0 || (anyOf (is 10) d || (isSpace (getD d 0 0) || isSpace (getD d (length d - 1) 0)))
+
+-- 30: LF, CR or '>'
+unfoldable pub barred : ℕ → Bool
+barred b = eqb b 10 || eqb b 13 || eqb b 62
+
+-- 1: any of what is lent to be written
+unfoldable pub tooLong : ℕ → ℕ → ℕ → Bool
+tooLong name d bases = overLimit name || (overLimit d || overLimit bases)
+
+-- ---- the call
+
+-- the refusals in their order; then the text at the front of the output, if it has room for all of it, and 14 else
+unfoldable pub recordWritten : List ℕ → Bool → List ℕ → List ℕ → ℕ → List ℕ → Wrote
+recordWritten name described d bases w out =
+    cond (tooLong (length name) (length d) (length bases)) (wrote (Refused TooLong) out)
+    (cond (eqb w 0) (wrote (Refused ZeroWidth) out)
+    (cond (nameUnfit name) (wrote (Refused NameUnfit) out)
+    (cond (described && descriptionUnfit d) (wrote (Refused DescriptionUnfit) out)
+    (cond (anyOf barred bases) (wrote (Refused BaseUnfit) out) (frontWritten (recordText name described d bases w) out)))))
+
+-- some bytes put at a place of an output: the place behind them, and the output afterwards
+pub record Put (out : List ℕ) (at : ℕ) (s : List ℕ) (behind : ℕ) (after : List ℕ) : Type 0 where
+  pub place : behind ≡ at + length s
+  pub holds : after ≡ overlaid out at s

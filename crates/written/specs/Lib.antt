@@ -1,0 +1,5 @@
+pub mod RowLines
+pub mod Indexed
+pub mod Scans
+pub mod Files
+pub mod Calls
