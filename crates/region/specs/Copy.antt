@@ -117,6 +117,15 @@ pub record Starts (s : List ℕ) (x : Record) (a n at run : ℕ) : Type 0 where
   pub place : at ≡ placeIn x (a - 1)
   pub column : run ≡ min n (x .«line_bases» - (a - 1) % x .«line_bases»)
 
+-- such a copy, from some base on
+pub record Begins (s : List ℕ) (x : Record) (n at run : ℕ) : Type 0 where
+  pub base : ℕ
+  pub starts : Starts s x base n at run
+
+-- what it leaves, whatever base it is from
+pub record Copies (s : List ℕ) (x : Record) (n at run : ℕ) (before after : List ℕ) : Type 0 where
+  pub from : (a : ℕ) → Starts s x a n at run → after ≡ map (byteAt s) (offsetsOf x a n) ++ drop n before
+
 pub lined-start : (s : List ℕ) (x : Record) (a n : ℕ) (before : List ℕ) (at run : ℕ) → Starts s x a n at run → Lined s x a n before 0 at run before
 lined-start s x a n before at run t =
     record {
@@ -129,10 +138,10 @@ lined-start s x a n before at run t =
     q : run ≡ min (n - 0) (x .«line_bases» - (a + 0 - 1) % x .«line_bases»)
     q = rw (add-zero a, sub-zero n) (t .column)
 
--- the offset of a base of a file fits
-pub starts-fits : (s : List ℕ) (x : Record) (a n : ℕ) → Addressable x a n → inFile (length s) (offsetsOf x a n) ≡ n → placeIn x (a - 1) < length s
-starts-fits s x a n r h =
-    let k : getD (offsetsOf x a n) 0 0 < length s = inside-each (length s) (offsetsOf x a n) (omega (arith, length-offsets x a n)) 0 (omega (arith, length-offsets x a n, r .some)) in
+-- the offset of the first of some bases that all lie in a file fits
+pub starts-fits : (bytes : ℕ) (x : Record) (a n : ℕ) → Addressable x a n → n ≤ inFile bytes (offsetsOf x a n) → placeIn x (a - 1) < bytes
+starts-fits bytes x a n r h =
+    let k : getD (offsetsOf x a n) 0 0 < bytes = inside-each bytes (offsetsOf x a n) (omega (arith, length-offsets x a n)) 0 (omega (arith, length-offsets x a n, r .some)) in
     let p : getD (offsetsOf x a n) 0 0 ≡ placeIn x (a - 1 + 0) = getD-places (x .position .0) (x .«line_bases») (x .«line_width») (a - 1) n 0 (r .some) in
     rw (p, add-zero (a - 1)) at k
 
@@ -181,25 +190,21 @@ module _ (s : List ℕ) (x : Record) (a n : ℕ) (before : List ℕ) (r : Addres
 -- ---- bases of one line
 
 -- n bases of one line, where a file has so many bytes from the first of them on
-module _ (s : List ℕ) (x : Record) (a n : ℕ) (r : Addressable x a n) (one : n ≤ x .«line_bases» - (a - 1) % x .«line_bases») (rest : ℕ) (e : rest ≡ length s - placeIn x (a - 1)) where
+module _ (bytes : ℕ) (x : Record) (a n : ℕ) (r : Addressable x a n) (one : n ≤ x .«line_bases» - (a - 1) % x .«line_bases») (rest : ℕ) (e : rest ≡ bytes - placeIn x (a - 1)) where
   one-turn : Turn x a n 0 n
   one-turn = turn x a n 0 n (r .some-bases) (r .from-one) (r .some) (rw (add-zero a) (omega arith))
 
-  from-start : rest ≡ length s - placeIn x (a + 0 - 1)
+  from-start : rest ≡ bytes - placeIn x (a + 0 - 1)
   from-start = rw (add-zero a) e
 
   -- one is outside
-  pub line-stops : rest < n → rest ≡ inFile (length s) (offsetsOf x a n)
-  line-stops h = sym (rw (bases-start x a n) at (turn-stops x a n 0 n one-turn (length s) rest from-start h))
+  pub line-stops : rest < n → rest ≡ inFile bytes (offsetsOf x a n)
+  line-stops h = sym (rw (bases-start x a n) at (turn-stops x a n 0 n one-turn bytes rest from-start h))
 
   -- all are inside
-  pub line-goes : n ≤ rest → n ≡ inFile (length s) (offsetsOf x a n)
-  line-goes h = omega (arith, rw (bases-start x a n) at (turn-goes x a n 0 n one-turn (length s) rest from-start h), inside-le (length s) (offsetsOf x a n), length-offsets x a n)
+  pub line-goes : n ≤ rest → n ≡ inFile bytes (offsetsOf x a n)
+  line-goes h = omega (arith, rw (bases-start x a n) at (turn-goes x a n 0 n one-turn bytes rest from-start h), inside-le bytes (offsetsOf x a n), length-offsets x a n)
 
-  pub line-copied : (out : List ℕ) → n ≤ length out → n ≤ rest → afterCopy out 0 (drop (length s - rest) s) n ≡ map (byteAt s) (offsetsOf x a n) ++ drop n out
-  line-copied out room h =
-      copy-whole out 0 s (length s - rest) n (omega arith) (omega arith)
-      ∙ lined-end s x a n out r room 0 (length s - rest) n out (lined-start s x a n out (length s - rest) n starts) (omega arith)
-    where
-      starts : Starts s x a n (length s - rest) n
-      starts = record { bases = r; inside = sym (line-goes h); place = omega (arith, r .some); column = omega arith }
+  -- and the first lies so far before the file's end
+  pub line-place : n ≤ rest → bytes - rest ≡ placeIn x (a - 1)
+  line-place h = omega (arith, r .some)

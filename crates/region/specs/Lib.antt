@@ -5,6 +5,7 @@ pub mod Named
 pub mod Inside
 pub mod Copy
 pub mod Laws
+pub mod Judge
 pub mod Dependence
 pub mod Changed
 pub mod Examples

@@ -1,5 +1,6 @@
-// The exact read of a record: the bytes at the offsets of a region's bases. Room is judged before places, so no walk is longer
-// than the output. Where offsets never go back one place is judged, and a copy goes from line to line without the rule.
+// The exact read of a record: the bytes at the offsets of a region's bases. A region is judged first, by numbers alone, and then
+// copied. Room is judged before places, so no walk is longer than the output. Where offsets never go back one place is judged, and a
+// copy goes from line to line without the rule.
 use crate::Bound;
 use crate::RegionRead;
 use crate::bounds;
@@ -9,15 +10,23 @@ use record::Record;
 use refusal::Refusal;
 ghost use mathlib.Core.Path.{_≡_};
 ghost use Prim.Native.Nat.{_+_, _-_, _%_, _^_, _≤_, _<_, min};
-ghost use mathlib.Core.List.{_++_, map};
 ghost use mathlib.Core.Bool.{false, _&&_};
-ghost use lib.ListN.{length, drop};
+ghost use lib.ListN.{length};
 ghost use lib.Dec.{leb, ltb};
 ghost use Rattle.record.specs.Bases.{byteAt};
 ghost use Rattle.record.specs.Place.{placeIn};
 ghost use Rattle.region.specs.Region.{leaves, badBounds, startOf, endOf, basesTo};
-ghost use Rattle.region.specs.Exact.{offsetsOf, inFile, basesFrom, regionOf};
+ghost use Rattle.region.specs.Exact.{offsetsOf, inFile, regionOf};
+ghost use Rattle.region.specs.Judge.{placesJudged, basesJudged, regionJudged};
 ghost use Rattle.region.specs.Inside.{Addressable};
+ghost use Rattle.region.specs.Copy.{Begins, Copies};
+
+// Where the bases of a region lie: the offset of the first, how many of them are in its line, and how many there are. Or why they
+// can't be read.
+pub(crate) enum Judged {
+    Bases { at: usize, run: usize, count: usize },
+    Refused(Refusal),
+}
 
 // The smaller of what is left of a line and what is left of a region.
 fn shorter(line: u64, left: usize) -> usize
@@ -116,17 +125,16 @@ fn next_line(x: Record, end: usize) -> usize
     end + (x.line_width - x.line_bases) as usize
 }
 
-// Copies `n` bases from base `a` on, which all lie in the file, to the front of the output. Only the first is addressed by the
-// rule: each line but the first begins where the one before says.
-fn copy_bases(file: &[u8], x: Record, a: Position, n: usize, out: &mut [u8])
-    requires { ⌜ Addressable x (a .0) n ⌝ }
-    requires { ⌜ inFile (length (now file)) (offsetsOf x (a .0) n) ≡ n ⌝ }
+// Copies `n` bases, which all lie in the file, to the front of the output: the first lies at `at`, and `run` of them are in its line.
+// Each line but the first begins where the one before says.
+fn copy_bases(file: &[u8], x: Record, at: usize, run: usize, n: usize, out: &mut [u8])
+    requires { ⌜ Begins (now file) x n at run ⌝ }
     requires { ⌜ n ≤ length (now out) ⌝ }
-    ensures { λ _. ⌜ now (out .exit) ≡ map (byteAt (now (file .entry))) (offsetsOf x (a .0) n) ++ drop n (now (out .entry)) ⌝ }
+    ensures { λ _. ⌜ Copies (now (file .entry)) x n at run (now (out .entry)) (now (out .exit)) ⌝ }
 {
     let mut k = 0;
-    let mut at = offset_in(x, a);
-    let mut run = in_line(x, a, n);
+    let mut at = at;
+    let mut run = run;
     while run < n - k {
         copying::copy_run(file, at, run, out, k);
         k += run;
@@ -136,54 +144,73 @@ fn copy_bases(file: &[u8], x: Record, a: Position, n: usize, out: &mut [u8])
     copying::copy_run(file, at, run, out, k);
 }
 
-// Reads `n` bases from base `first` on, which are in one line: they lie one behind the other.
-fn read_line(file: &[u8], x: Record, first: Position, n: usize, out: &mut [u8]) -> RegionRead
+// Judges `n` bases from base `first` on, which are in one line: they lie one behind the other.
+fn judge_line(bytes: usize, x: Record, first: Position, n: usize) -> Judged
     requires { ⌜ Addressable x (first .0) n ⌝ }
     requires { ⌜ n ≤ x .«line_bases» - (first .0 - 1) % x .«line_bases» ⌝ }
-    requires { ⌜ n ≤ length (now out) ⌝ }
-    ensures { λ r. ⌜ leaves r (now (out .exit)) ≡ basesFrom (length (now (file .entry))) (byteAt (now (file .entry))) x (first .0) n (now (out .entry)) ⌝ }
+    ensures { λ r. ⌜ r ≡ placesJudged bytes x (first .0) n ⌝ }
 {
-    let rest = bytes_from(file.len(), x, first);
+    let rest = bytes_from(bytes, x, first);
     if rest < n {
         let base = first.0 + rest as u64;
-        return RegionRead::Refused(Refusal::NotInFile { base });
+        return Judged::Refused(Refusal::NotInFile { base });
     }
-    copying::copy_run(file, file.len() - rest, n, out, 0);
-    RegionRead::Bytes(n)
+    Judged::Bases {
+        at: bytes - rest,
+        run: n,
+        count: n,
+    }
 }
 
-// Reads `n` bases from base `first` on, in any number of lines.
-fn read_lines(file: &[u8], x: Record, first: Position, n: usize, out: &mut [u8]) -> RegionRead
+// Judges `n` bases from base `first` on, in any number of lines, of which the first has `run`.
+fn judge_lines(bytes: usize, x: Record, first: Position, run: usize, n: usize) -> Judged
     requires { ⌜ Addressable x (first .0) n ⌝ }
-    requires { ⌜ n ≤ length (now out) ⌝ }
-    ensures { λ r. ⌜ leaves r (now (out .exit)) ≡ basesFrom (length (now (file .entry))) (byteAt (now (file .entry))) x (first .0) n (now (out .entry)) ⌝ }
+    requires { ⌜ run ≡ min n (x .«line_bases» - (first .0 - 1) % x .«line_bases») ⌝ }
+    ensures { λ r. ⌜ r ≡ placesJudged bytes x (first .0) n ⌝ }
 {
-    let inside = count_inside(file.len(), x, first, n);
+    let inside = count_inside(bytes, x, first, n);
     if inside < n {
         let base = first.0 + inside as u64;
-        return RegionRead::Refused(Refusal::NotInFile { base });
+        return Judged::Refused(Refusal::NotInFile { base });
     }
-    copy_bases(file, x, first, n, out);
-    RegionRead::Bytes(n)
+    Judged::Bases {
+        at: offset_in(x, first),
+        run,
+        count: n,
+    }
 }
 
-// Reads the bases from `first` to `last` of a record. A read in one line divides once.
-fn read_bases(file: &[u8], x: Record, first: Position, last: Position, out: &mut [u8]) -> RegionRead
+// Judges the bases from `first` to `last` of a record. A region in one line divides once.
+fn judge_bases(bytes: usize, x: Record, first: Position, last: Position, room: usize) -> Judged
     requires { ⌜ (0 < x .«line_bases») × (0 < x .«line_width») × (0 < first .0) × (first .0 ≤ last .0) ⌝ }
-    ensures { λ r. ⌜ leaves r (now (out .exit)) ≡ basesFrom (length (now (file .entry))) (byteAt (now (file .entry))) x (first .0) (basesTo (first .0) (last .0)) (now (out .entry)) ⌝ }
+    ensures { λ r. ⌜ r ≡ basesJudged bytes x (first .0) (basesTo (first .0) (last .0)) room ⌝ }
 {
     let needed = last.0 - first.0 + 1;
-    if (out.len() as u64) < needed {
-        return RegionRead::Refused(Refusal::NoRoom { needed });
+    if (room as u64) < needed {
+        return Judged::Refused(Refusal::NoRoom { needed });
     }
     let n = needed as usize;
-    if in_line(x, first, n) < n {
-        return read_lines(file, x, first, n, out);
+    let run = in_line(x, first, n);
+    if run < n {
+        return judge_lines(bytes, x, first, run, n);
     }
-    read_line(file, x, first, n, out)
+    judge_line(bytes, x, first, n)
 }
 
-// Reads a region of a record, by bounds that are not bad.
+// Judges a region of a record, by bounds that are not bad, for a file of so many bytes and so much room: no byte is looked at.
+pub(crate) fn judge_region(bytes: usize, x: Record, start: Bound, end: Bound, room: usize) -> Judged
+    requires { ⌜ (0 < x .«line_bases») × (0 < x .«line_width») × (badBounds start end ≡ false) ⌝ }
+    ensures { λ r. ⌜ r ≡ regionJudged bytes x (startOf start) (endOf (x .length) end) room ⌝ }
+{
+    let first = bounds::first_base(start);
+    let last = bounds::last_base(x.length, end);
+    if bounds::past_length(x.length, first, last) {
+        return Judged::Refused(Refusal::PastLength { length: x.length });
+    }
+    judge_bases(bytes, x, first, last, room)
+}
+
+// Reads a region of a record, by bounds that are not bad: it is judged, and then copied.
 pub(crate) fn read_region(
     file: &[u8],
     x: Record,
@@ -194,10 +221,12 @@ pub(crate) fn read_region(
     requires { ⌜ (0 < x .«line_bases») × (0 < x .«line_width») × (badBounds start end ≡ false) ⌝ }
     ensures { λ r. ⌜ leaves r (now (out .exit)) ≡ regionOf (length (now (file .entry))) (byteAt (now (file .entry))) x (startOf start) (endOf (x .length) end) (now (out .entry)) ⌝ }
 {
-    let first = bounds::first_base(start);
-    let last = bounds::last_base(x.length, end);
-    if bounds::past_length(x.length, first, last) {
-        return RegionRead::Refused(Refusal::PastLength { length: x.length });
+    let judged = judge_region(file.len(), x, start, end, out.len());
+    match judged {
+        Judged::Refused(f) => RegionRead::Refused(f),
+        Judged::Bases { at, run, count } => {
+            copy_bases(file, x, at, run, count, out);
+            RegionRead::Bytes(count)
+        }
     }
-    read_bases(file, x, first, last, out)
 }

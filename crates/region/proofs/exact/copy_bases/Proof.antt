@@ -1,6 +1,6 @@
 -- `region::exact::copy_bases` meets its contract: line by line, the output with the bases that are still to be copied is the one
--- that was promised, and the next line begins where the rule says. The loop does not hold the first base, so its invariant is for
--- every base with which a copy can begin there.
+-- that was promised, and the next line begins where the rule says. The code does not hold the first base, so promise and invariant are
+-- for every base with which a copy can begin there; there is one.
 -- Assumes nothing.
 use Prim.Native.Nat.{ℕ, _+_, _-_, _≤_}
 use mathlib.Core.Path.{_≡_, _∙_}
@@ -11,41 +11,31 @@ use native.Mathlib.Omega.{arith}
 use Rattle.copying.specs.Copied.{afterCopy}
 use Rattle.copying.specs.Laws.{copy-whole}
 use Rattle.region.specs.Inside.{turn-less}
-use Rattle.region.specs.Copy.{Starts, Lined, starts-fits, lined-start, lined-inside, lined-next, lined-fits, lined-end}
+use Rattle.region.specs.Copy.{Starts, Lined, lined-start, lined-inside, lined-next, lined-fits, lined-end}
 use Rattle.region.proofs.exact.copy_bases.Statement.{statement}
 use Rattle.region.proofs.exact.copy_bases.Tie as tie
 
 abbrev Inv-loop : tie.InvT-loop
-Inv-loop file x n out₀ k₀ at₀ run₀ out k at run = (a : ℕ) → Starts file x a n at₀ run₀ → Lined file x a n out₀ k at run out
+Inv-loop file x at₀ run₀ n out₀ k₀ at₁ run₁ out k at run = (a : ℕ) → Starts file x a n at₀ run₀ → Lined file x a n out₀ k at run out
 
 abbrev μ-loop : tie.MeasureT-loop
-μ-loop file x n out₀ k₀ at₀ run₀ out k at run = n - k
-
-offset-in-requires : tie.Need-offset-in-requires Inv-loop μ-loop
-offset-in-requires c κs = let s = c .before .before in omega (arith, starts-fits (s .args .file .now) _ _ _ (s .pre .0) (s .pre .1 .0))
-
-in-line-requires : tie.Need-in-line-requires Inv-loop μ-loop
-in-line-requires c κs = search needs
+μ-loop file x at₀ run₀ n out₀ k₀ at₁ run₁ out k at run = n - k
 
 loop-holds : tie.Need-loop-holds Inv-loop μ-loop
 loop-holds c = λ a t. lined-start _ _ _ _ _ _ _ t
 
--- how the copy begins
-starts : (c : tie.After-in-line Inv-loop μ-loop) → let s = c .before .before .before .before in Starts (s .args .file .now) (s .args .x) (s .args .a .0) (s .args .n) (c .before .offset-in .result) (c .in-line .result)
-starts c = let s = c .before .before .before .before in record { bases = s .pre .0; inside = s .pre .1 .0; place = c .before .offset-in .ensures; column = c .in-line .ensures }
-
 -- where it is
-here : (c : tie.At-loop Inv-loop μ-loop) → let s = c .before .before .before .before .before in Lined (s .args .file .now) (s .args .x) (s .args .a .0) (s .args .n) (s .args .out .now) (c .loop .k) (c .loop .at) (c .loop .run) (c .loop .out)
-here c = c .loop .inv _ (starts (c .before))
+here : (c : tie.At-loop Inv-loop μ-loop) → let s = c .before .before .before in Lined (s .args .file .now) (s .args .x) (s .pre .0 .base) (s .args .n) (s .args .out .now) (c .loop .k) (c .loop .at) (c .loop .run) (c .loop .out)
+here c = c .loop .inv _ (c .before .before .before .pre .0 .starts)
 
 -- its line is in the file, and has room
-inside : (c : tie.At-loop Inv-loop μ-loop) → let l = c .loop in (l .at + l .run ≤ length (c .before .before .before .before .before .args .file .now)) × (l .k + l .run ≤ length (l .out))
-inside c = let s = c .before .before .before .before .before in lined-inside _ _ _ _ _ (s .pre .0) (s .pre .1 .1) _ _ _ _ (here c)
+inside : (c : tie.At-loop Inv-loop μ-loop) → let l = c .loop in (l .at + l .run ≤ length (c .before .before .before .args .file .now)) × (l .k + l .run ≤ length (l .out))
+inside c = let s = c .before .before .before in lined-inside _ _ _ _ _ (s .pre .0 .starts .bases) (s .pre .1) _ _ _ _ (here c)
 
 -- and is copied whole
 whole : (c : tie.At-loop Inv-loop μ-loop)
     → let l = c .loop in
-    let s = drop (l .at) (c .before .before .before .before .before .args .file .now) in
+    let s = drop (l .at) (c .before .before .before .args .file .now) in
     afterCopy (l .out) (l .k) s (l .run) ≡ paste (l .out) (l .k) s (l .run)
 whole c = copy-whole _ _ _ _ _ (inside c .0) (inside c .1)
 
@@ -64,8 +54,8 @@ add-next-line c = omega (arith, inside (c .before .before .before .before .befor
 next-line-requires : tie.Need-next-line-requires Inv-loop μ-loop
 next-line-requires c κs =
     let l = c .before .before .before .before in
-    let s = l .before .before .before .before .before .before in
-    omega (arith, lined-fits (s .args .file .now) _ _ _ _ (s .pre .0) (s .pre .1 .1) _ _ _ _ (here (l .before)) (l .loop-test .taken))
+    let s = l .before .before .before .before in
+    omega (arith, lined-fits (s .args .file .now) _ _ _ _ (s .pre .0 .starts .bases) (s .pre .1) _ _ _ _ (here (l .before)) (l .loop-test .taken))
 
 sub-shorter : tie.Need-sub-shorter Inv-loop μ-loop
 sub-shorter c = let l = here (c .before .before .before .before .before .before) in omega arith
@@ -79,9 +69,9 @@ loop-less c = turn-less _ _ _ _ _ (here (c .before .before .before .before .befo
 loop-again : tie.Need-loop-again Inv-loop μ-loop
 loop-again c =
     let l = c .before .before .before .before .before .before in
-    let s = l .before .before .before .before .before .before in
+    let s = l .before .before .before .before in
     λ a t. rw (c .before .before .before .before .copy-run .ensures ∙ whole (l .before))
-    (lined-next _ _ _ _ _ (t .bases) (s .pre .1 .1) _ _ _ _ (l .before .loop .inv a t) (l .loop-test .taken) _ _ (c .before .next-line .ensures) (c .shorter .ensures))
+    (lined-next _ _ _ _ _ (t .bases) (s .pre .1) _ _ _ _ (l .before .loop .inv a t) (l .loop-test .taken) _ _ (c .before .next-line .ensures) (c .shorter .ensures))
 
 copy-run-requires-2 : tie.Need-copy-run-requires-2 Inv-loop μ-loop
 copy-run-requires-2 c κs = search needs
@@ -92,8 +82,13 @@ same-length c = let l = here (c .before .before .before .before .before) in omeg
 returns : tie.Need-returns Inv-loop μ-loop
 returns c =
     let l = c .before .before .before .before .before in
-    let s = l .before .before .before .before .before in
-    c .before .before .copy-run2 .ensures ∙ whole l ∙ lined-end _ _ _ _ _ (s .pre .0) (s .pre .1 .1) _ _ _ _ (here l) (c .before .before .before .before .loop-test .left)
+    let s = l .before .before .before in
+    record {
+      from = λ a t.
+          c .before .before .copy-run2 .ensures
+          ∙ whole l
+          ∙ lined-end _ _ _ _ _ (t .bases) (s .pre .1) _ _ _ _ (l .loop .inv a t) (c .before .before .before .before .loop-test .left);
+    }
 
 pub copy-bases-spec : {M : Type 1} → statement M
 copy-bases-spec =
@@ -101,8 +96,6 @@ copy-bases-spec =
     (tie.spec
     Inv-loop
     μ-loop
-    offset-in-requires
-    in-line-requires
     loop-holds
     sub-loop
     copy-run-requires

@@ -1,53 +1,52 @@
--- `region::exact::read_region` meets its contract: past the test for the length the bounds are in order, from 1 on.
+-- `region::exact::read_region` meets its contract: what is judged fine lies in the file and has room, and is copied; the rest is refused.
 -- Assumes nothing.
-use mathlib.Core.Path.{_≡_, _∙_, sym}
+use mathlib.Core.Path.{_∙_, sym}
 use borrow.Author.Needs.{needs}
-use Rattle.region.specs.Region.{startOf, endOf}
-use Rattle.region.specs.Exact.{pastLength}
-use Rattle.region.specs.Laws.{good-bounds, within-length, region-past, region-within}
+use native.Mathlib.Omega.{arith}
+use Rattle.region.specs.Laws.{good-bounds}
+use Rattle.region.specs.Judge.{judged-fine, refused-read, fine-read, fine-starts}
 use Rattle.region.proofs.exact.read_region.Statement.{statement}
 use Rattle.region.proofs.exact.read_region.Tie as tie
 
-first-base-requires : tie.Need-first-base-requires
-first-base-requires c κs = search needs
+judge-region-requires : tie.Need-judge-region-requires
+judge-region-requires c κs = search needs
 
-last-base-requires : tie.Need-last-base-requires
-last-base-requires c κs = search needs
+enum-known-judged : tie.Need-enum-known-judged
+enum-known-judged c = search needs
 
-past-length-requires : tie.Need-past-length-requires
-past-length-requires c κs = search needs
+enum-known-judged-2 : tie.Need-enum-known-judged-2
+enum-known-judged-2 c = search needs
 
--- the test is of the region's first and last base
-judged : (c : tie.After-past-length) → let a = c .before .before .before .before .before .args in c .past-length .result ≡ pastLength (a .x .length) (startOf (a .start)) (endOf (a .x .length) (a .end))
-judged c = rw (c .past-length .ensures, c .before .before .first-base .ensures, c .before .last-base .ensures)
+copy-bases-requires : tie.Need-copy-bases-requires
+copy-bases-requires c κs =
+    let k = c .before .before in
+    let s = k .before .before .before .before .before in
+    let f = judged-fine _ _ _ _ _ _ _ _ (sym (k .before .before .judge-region .ensures) ∙ k .judged2 .given .1) in
+    let b = good-bounds _ _ (s .args .x .length) (s .pre .2) in
+    (record { base = _; starts = fine-starts _ _ _ _ _ _ _ _ (s .pre .0) (s .pre .1) (b .from-one) (b .in-order) (omega arith) f }, f .enough)
 
 returns : tie.Need-returns
-returns c = region-past _ _ _ _ _ _ (sym (judged (c .before)) ∙ c .if1 .taken)
-
-read-bases-requires : tie.Need-read-bases-requires
-read-bases-requires c κs =
-    let p = c .before .before in
-    let s = p .before .before .before .before .before in
-    let b = good-bounds _ _ (s .args .x .length) (s .pre .2) in
-    (s .pre .0, s .pre .1, rw (p .before .before .first-base .ensures) (b .from-one), rw (p .before .before .first-base .ensures, p .before .last-base .ensures) (b .in-order (within-length _ _ _ (sym (judged p) ∙ c .before .if1 .left) .0)))
+returns c = refused-read _ _ _ _ _ _ _ (sym (c .before .before .before .judge-region .ensures) ∙ c .before .judged .given .1)
 
 same-length : tie.Need-same-length
 same-length c = search needs
 
 returns-2 : tie.Need-returns-2
 returns-2 c =
-    let p = c .before .before .before .before .before in
-    c .before .before .read-bases .ensures
-    ∙ rw (p .before .before .first-base .ensures, p .before .last-base .ensures) (region-within _ _ _ _ _ _ (sym (judged p) ∙ c .before .before .before .before .if1 .left))
+    let k = c .before .before .before .before .before in
+    let s = k .before .before .before .before .before in
+    let f = judged-fine _ _ _ _ _ _ _ _ (sym (k .before .before .judge-region .ensures) ∙ k .judged2 .given .1) in
+    let b = good-bounds _ _ (s .args .x .length) (s .pre .2) in
+    rw (c .before .before .copy-bases .ensures .from _ (fine-starts _ _ _ _ _ _ _ _ (s .pre .0) (s .pre .1) (b .from-one) (b .in-order) (omega arith) f)) (fine-read _ _ _ _ _ _ _ _ _ f)
 
 pub read-region-spec : {M : Type 1} → statement M
 read-region-spec =
     tie.close
     (tie.spec
-    first-base-requires
-    last-base-requires
-    past-length-requires
+    judge-region-requires
+    enum-known-judged
+    enum-known-judged-2
+    copy-bases-requires
     returns
-    read-bases-requires
     same-length
     returns-2)
