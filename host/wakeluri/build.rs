@@ -1,4 +1,4 @@
-//! Finds the static library that `tools/staticlib wakeluri` makes of the proved code, and links it.
+//! Finds the static library that `tools/dev staticlib wakeluri` makes of the proved code, and links it.
 
 use std::env;
 use std::path::PathBuf;
@@ -20,7 +20,7 @@ fn main() {
     else {
         println!("cargo::error=no proved library at {}", library.display());
         println!(
-            "cargo::error=make it with `tools/staticlib {target} wakeluri`, or name a libwakeluri.a in WAKELURI_LIB"
+            "cargo::error=make it with `tools/dev staticlib {target} wakeluri`, or name a libwakeluri.a in WAKELURI_LIB"
         );
         exit(1);
     };

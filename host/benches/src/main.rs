@@ -1,5 +1,5 @@
 //! The proved library and the original in one process, on one buffer, in turns: how many times as fast, beside the goals and the
-//! physical limits. `tools/benches` builds and runs it; what it prints is Markdown. Before anything is timed, both sides must give the
+//! physical limits. `tools/dev benches` builds and runs it; what it prints is Markdown. Before anything is timed, both sides must give the
 //! same answers.
 
 mod files;

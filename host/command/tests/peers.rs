@@ -47,7 +47,7 @@ fn samtools(folder: &Folder, words: &[&str]) -> Option<(bool, Vec<u8>)> {
 fn the_same_index_and_the_same_reads_as_samtools() {
     let folder = Folder::new("samtools");
     if samtools(&folder, &["--version"]).is_none() {
-        eprintln!("skipped: samtools isn't installed; `tools/setup peers` installs it");
+        eprintln!("skipped: samtools isn't installed; `tools/dev setup peers` installs it");
         return;
     }
     let mut numbers = Numbers(7);
@@ -91,7 +91,7 @@ fn no_clipped_read_where_samtools_clips() {
     let folder = Folder::new("clips");
     folder.write("f.fa", ">s\nACGT\nAC\n");
     let Some((_, theirs)) = samtools(&folder, &["faidx", "f.fa", "s:5-100"]) else {
-        eprintln!("skipped: samtools isn't installed; `tools/setup peers` installs it");
+        eprintln!("skipped: samtools isn't installed; `tools/dev setup peers` installs it");
         return;
     };
     assert_eq!(theirs, b">s:5-100\nAC\n");

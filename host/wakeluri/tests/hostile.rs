@@ -1,6 +1,6 @@
 //! Calls with hostile numbers: random lengths, rows and bounds, tables that lie, empty slices, and bytes of all kinds.
 //!
-//! No call may crash, panic, or touch memory that it wasn't lent: tools/hostile runs this under valgrind. After each call the
+//! No call may crash, panic, or touch memory that it wasn't lent: tools/dev hostile runs this under valgrind. After each call the
 //! memory that should have stayed is looked at. WAKELURI_CALLS says how many calls are made.
 
 use questions::generate::Chance;
