@@ -43,7 +43,7 @@ pub enum Written {
 const NUMBERS: usize = 4;
 
 // Reads the content of line number `line`, which has no end. Of content, plain means that no number has a needless leading zero or a plus.
-pub fn parse_record(content: &[u8], line: u64) -> LineRead
+fn parse_record(content: &[u8], line: u64) -> LineRead
     ensures { λ r. ⌜ r ≡ contentSays line (now (content .entry)) ⌝ }
 {
     if content.len() == 0 {
