@@ -11,7 +11,7 @@ use Rattle.refusal.specs.declared.Refusal.the-variants.{TooLong}
 use Rattle.lines.specs.Lines.{contentOf}
 use Rattle.record.specs.declared.Record.{Record}
 use Rattle.record.specs.declared.Held.the-variants as held
-use Rattle.record.specs.Row.{namedAt, heldAt, rowCount, rowAt, withRow}
+use Rattle.record.specs.Row.{namedAt, rowCount, rowAt, withRow}
 use Rattle.record.specs.Laws.{length-withRow, row-stored, held-row, named-row, name-inside}
 use Rattle.index_line.specs.Bytes.{is, firstWhere}
 use Rattle.index_line.specs.Fields.{splits, wrote, textWritten, frontWritten}
@@ -64,26 +64,29 @@ module _ (l : List ℕ) (e : Entry) (h : lineSays 1 l ≡ read.Row e) where
       rw name-front
       (lacks-splits _ (first-lacks (is 9) (contentOf l)) (lacks-take (is 10) (firstWhere (is 9) (contentOf l)) (contentOf l) lf))
 
--- a record that is stored in a row in use is held there
-module _ (t : List ℕ) (n r : ℕ) (x : Record) (some : n ≤ rowCount t) (used : r < n) (bytes : ℕ) where
-  stored-named : Lined x → x .«name_start» + x .«name_length» ≤ bytes → namedAt (withRow t r x) n r bytes ≡ held.Row x
-  unfolding rowCount
-  stored-named lined inside =
-      let row : rowAt (withRow t r x) r ≡ x = row-stored t r x (omega arith) in
-      let fits : n ≤ rowCount (withRow t r x) = rw (length-withRow t r x) some in
-      let here : heldAt (withRow t r x) n r ≡ held.Row x =
-      held-row (withRow t r x) n r fits used (rw row (lined .some-bases)) (rw row (lined .some-width)) ∙ ap held.Row row in
-      named-row (withRow t r x) n r bytes x here ∙ sym (name-inside r x bytes inside)
+-- a record that is in a row in use is held there
+module _ (t : List ℕ) (n r : ℕ) (x : Record) (some : n ≤ rowCount t) (used : r < n) (row : rowAt t r ≡ x) (bytes : ℕ) where
+  row-named : Lined x → x .«name_start» + x .«name_length» ≤ bytes → namedAt t n r bytes ≡ held.Row x
+  row-named lined inside =
+      named-row t n r bytes x (held-row t n r some used (rw row (lined .some-bases)) (rw row (lined .some-width)) ∙ ap held.Row row) ∙ sym (name-inside r x bytes inside)
 
-pub plain-again : (l : List ℕ) (e : Entry) (t : List ℕ) (n r : ℕ) (out : List ℕ) → readLine l ≡ read.Row e → e .plain ≡ true → n ≤ rowCount t → r < n → length l ≤ length out
-    → writtenAs l (withRow t r (e .«record»)) n r out ≡ wrote (written.Bytes (length l)) (l ++ drop (length l) out)
+-- a table that has the record in row r, one of n rows in use
+pub plain-row : (l : List ℕ) (e : Entry) (t : List ℕ) (n r : ℕ) (out : List ℕ) → readLine l ≡ read.Row e → e .plain ≡ true
+    → n ≤ rowCount t → r < n → rowAt t r ≡ e .«record» → length l ≤ length out → writtenAs l t n r out ≡ wrote (written.Bytes (length l)) (l ++ drop (length l) out)
 unfolding writtenAs nameIn textWritten frontWritten lineOf
-plain-again l e t n r out h p some used room =
+plain-row l e t n r out h p some used row room =
     let w = read-alone l e h in
     let x = w .entry .«record» in
     let b = both (oneLine l) (w .entry .plain) (sym (w .plain) ∙ p) in
     let k = line-sound 1 l (w .entry) (w .says) in
     let text : lineOf (take (x .«name_length») l) x ≡ l = plain-writes 1 l (w .entry) (w .says) (b .1) in
     let whole : Lacks splits (take (x .«name_length») l) = unsplit l (w .entry) (w .says) (b .1) (b .0) in
-    let row : namedAt (withRow t r x) n r (length l) ≡ held.Row x = stored-named t n r x some used (length l) (k .lined) (omega (arith, k .start, k .inside)) in
-    rw (w .same, w .small, row, k .start, le-ltb (firstWhere splits (take (x .«name_length») l)) (length (take (x .«name_length») l)) (omega (arith, whole)), text, le-ltb _ _ room)
+    let named : namedAt t n r (length l) ≡ held.Row x = row-named t n r x some used (row ∙ w .same) (length l) (k .lined) (omega (arith, k .start, k .inside)) in
+    rw (w .small, named, k .start, le-ltb (firstWhere splits (take (x .«name_length») l)) (length (take (x .«name_length») l)) (omega (arith, whole)), text, le-ltb _ _ room)
+
+-- the same, where the record was stored there
+pub plain-again : (l : List ℕ) (e : Entry) (t : List ℕ) (n r : ℕ) (out : List ℕ) → readLine l ≡ read.Row e → e .plain ≡ true
+    → n ≤ rowCount t → r < n → length l ≤ length out → writtenAs l (withRow t r (e .«record»)) n r out ≡ wrote (written.Bytes (length l)) (l ++ drop (length l) out)
+unfolding rowCount
+plain-again l e t n r out h p some used room =
+    plain-row l e (withRow t r (e .«record»)) n r out h p (rw (length-withRow t r (e .«record»)) some) used (row-stored t r (e .«record») (omega arith)) room
