@@ -35,7 +35,9 @@ struct wakeluri_span {
     uint64_t found, start, length, next;
 };
 
-/* A record's row: `found` is 0 at the end of a file. `next` is the offset behind the record, `plain` is 1 for a plain index line. */
+/* A record's row: `found` is 0 at the end of a file, and `next` is the offset behind the record. `plain` is 1 for an index line, given with
+ * its end, that wakeluri_write_index_line would write with the same bytes: it ends in LF with no CR before it and no LF in its name, and no
+ * number has a needless leading zero or a plus. It is 0 in every other answer, and so for a content. */
 struct wakeluri_row {
     uint64_t refusal, first, second;
     uint64_t found, next, plain;
@@ -69,7 +71,7 @@ struct wakeluri_answer wakeluri_index_file(const uint8_t *file, size_t file_leng
 /* What an index line says, given with its end; its name starts at 0. Refuses 1, 9 to 12. */
 struct wakeluri_row wakeluri_index_line(const uint8_t *line, size_t line_length);
 
-/* What the content of an index line says, without its end. Refuses 1, 9 to 12. */
+/* What the content of an index line says, without its end; `plain` is 0. Refuses 1, 9 to 12. */
 struct wakeluri_row wakeluri_index_content(const uint8_t *content, size_t content_length);
 
 /* A row for each line of an index, from the table's first on; names are spans of the index. Refuses 1, 9 to 12, 8. */

@@ -82,7 +82,7 @@ fn kept_end(l: &[u8], at: usize) -> usize
 }
 
 // What the content of a definition line says: the line without its end.
-pub fn parse_definition(content: &[u8]) -> Parsed
+fn parse_definition(content: &[u8]) -> Parsed
     ensures { λ r. ⌜ r ≡ contentSays (now (content .entry)) ⌝ }
 {
     if content.len() == 0 {

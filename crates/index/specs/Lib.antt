@@ -1,3 +1,4 @@
 pub mod Index
 pub mod Find
 pub mod Laws
+pub mod FirstNamed

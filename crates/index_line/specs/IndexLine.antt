@@ -1,11 +1,12 @@
 -- What an index line says, and how one is written.
 use Prim.Native.Nat.{ℕ}
 use mathlib.Core.List.{List, [], _∷_}
-use mathlib.Core.Bool.{Bool, cond, not, _&&_}
+use mathlib.Core.Bool.{Bool, false, cond, not, _&&_}
 use lib.ListN.{length, getD, take, drop}
+use lib.Dec.{eqb}
 use Rattle.refusal.specs.declared.Refusal.the-variants.{TooLong, EmptyIndexLine}
 use Rattle.refusal.specs.Numbers.{overLimit}
-use Rattle.lines.specs.Lines.{chop, ends, contentOf}
+use Rattle.lines.specs.Lines.{lineLen, chop, ends, contentOf}
 use Rattle.record.specs.declared.Record.{Record}
 use Rattle.record.specs.declared.Held.{Held}
 use Rattle.record.specs.declared.Held.the-variants as held
@@ -57,7 +58,7 @@ onlyIf p (read.Row e) = read.Row (record { «record» = e .«record»; plain = p
 onlyIf p (read.Refused r) = read.Refused r
 
 -- what a line says: a final LF, and one CR before it, come off. It is plain if it reads, ends in LF with no CR before it, and no
--- number has a needless leading zero or a plus
+-- number has a needless leading zero or a plus. A line of a text has no other LF; bytes that stand alone may have one
 unfoldable pub lineSays : ℕ → List ℕ → LineRead
 lineSays line l = onlyIf (plainEnd l) (contentSays line (contentOf l))
 
@@ -69,12 +70,17 @@ firstOf (f ∷ fs) = f
 unfoldable pub nameOf : List ℕ → List ℕ
 nameOf l = firstOf (fieldsOf (contentOf l))
 
--- the two calls on a line that is read alone: refusal 1 comes first, and the line is line 1
+-- are some bytes one line at most: no LF stands before their last byte, so that their first line is all of them
+unfoldable pub oneLine : List ℕ → Bool
+oneLine l = eqb (lineLen l) (length l)
+
+-- the two calls on a line that is read alone: refusal 1 comes first, and the line is line 1. A content, which has no end, is never plain;
+-- nor is a line that holds an LF before its end
 unfoldable pub readContent : List ℕ → LineRead
-readContent l = cond (overLimit (length l)) (read.Refused TooLong) (contentSays 1 l)
+readContent l = cond (overLimit (length l)) (read.Refused TooLong) (onlyIf false (contentSays 1 l))
 
 unfoldable pub readLine : List ℕ → LineRead
-readLine l = cond (overLimit (length l)) (read.Refused TooLong) (lineSays 1 l)
+readLine l = cond (overLimit (length l)) (read.Refused TooLong) (onlyIf (oneLine l) (lineSays 1 l))
 
 -- ---- writing
 

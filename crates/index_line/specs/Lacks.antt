@@ -1,14 +1,15 @@
--- Bytes of which none passes a test; and that digits, and so the text of numbers, have no tab and no CR among them.
+-- Bytes of which none passes a test: those before the first that does, and parts of such bytes; and that digits, and so the text of
+-- numbers, have no tab, no CR and no LF among them.
 use Prim.Native.Nat.{ℕ, zero, suc, _+_, _/_, _%_, _^_, _≤_}
 use mathlib.Core.Path.{_≡_, refl}
 use mathlib.Core.List.{List, [], _∷_, _++_}
-use mathlib.Core.Bool.{Bool, true, false, cond}
+use mathlib.Core.Bool.{Bool, true, false, cond, _||_, true≢false}
 use native.Mathlib.Omega.{arith}
-use lib.ListN.{length}
+use lib.ListN.{length, take}
 use Rattle.lines.specs.Lines.{ends}
 use Rattle.index_line.specs.Bytes.{is, firstWhere}
 use Rattle.index_line.specs.Decimal.{digits, width, decimalOf}
-use Rattle.index_line.specs.Fields.{tabbed, numbersText}
+use Rattle.index_line.specs.Fields.{tabbed, numbersText, splits}
 
 abbrev pub Lacks : (ℕ → Bool) → List ℕ → Type 0
 Lacks p l = firstWhere p l ≡ length l
@@ -30,9 +31,25 @@ module _ (p : ℕ → Bool) where
   unfolding firstWhere
   lacks-cons b l e h = rw (e, h)
 
-  lacks-append : (l m : List ℕ) → Lacks p l → Lacks p m → Lacks p (l ++ m)
+  pub lacks-append : (l m : List ℕ) → Lacks p l → Lacks p m → Lacks p (l ++ m)
   lacks-append [] m h k = k
   lacks-append (b ∷ l) m h k = lacks-cons b (l ++ m) (lacks-head b l h) (lacks-append l m (lacks-tail b l h) k)
+
+  pub lacks-take : (n : ℕ) (l : List ℕ) → Lacks p l → Lacks p (take n l)
+  unfolding firstWhere
+  lacks-take zero l h = refl
+  lacks-take (suc n) [] h = refl
+  lacks-take (suc n) (b ∷ l) h = lacks-cons b (take n l) (lacks-head b l h) (lacks-take n l (lacks-tail b l h))
+
+  -- none before the first passes
+  pub first-lacks : (l : List ℕ) → Lacks p (take (firstWhere p l) l)
+  unfolding firstWhere
+  first-lacks [] = refl
+  first-lacks (b ∷ l) = go (p b) refl (first-lacks l)
+    where
+      go : (t : Bool) → p b ≡ t → Lacks p (take (firstWhere p l) l) → Lacks p (take (cond t 0 (suc (firstWhere p l))) (b ∷ l))
+      go true e h = refl
+      go false e h = lacks-cons b (take (firstWhere p l) l) e h
 
   pub lacks-less : (q : ℕ → Bool) → ((b : ℕ) → p b ≡ false → q b ≡ false) → (l : List ℕ) → Lacks p l → Lacks q l
   unfolding firstWhere
@@ -61,3 +78,23 @@ unfolding ends
 lacks-ends b [] h = refl
 lacks-ends b (x ∷ []) h = lacks-head (is b) x [] h
 lacks-ends b (x ∷ y ∷ l) h = lacks-ends b (y ∷ l) (lacks-tail (is b) x (y ∷ l) h)
+
+-- bytes without a tab and without an LF
+pub lacks-splits : (l : List ℕ) → Lacks (is 9) l → Lacks (is 10) l → Lacks splits l
+unfolding firstWhere
+lacks-splits [] h k = refl
+lacks-splits (b ∷ l) h k =
+    lacks-cons splits b l (rw (lacks-head (is 9) b l h, lacks-head (is 10) b l k)) (lacks-splits l (lacks-tail (is 9) b l h) (lacks-tail (is 10) b l k))
+
+split-parts : (b : ℕ) → splits b ≡ false → (is 9 b ≡ false) × (is 10 b ≡ false)
+split-parts b h = go (is 9 b) h
+  where
+    go : (t : Bool) → (t || is 10 b) ≡ false → (t ≡ false) × (is 10 b ≡ false)
+    go true k = absurd (true≢false k)
+    go false k = (refl, k)
+
+pub splits-tab : (l : List ℕ) → Lacks splits l → Lacks (is 9) l
+splits-tab = lacks-less splits (is 9) (λ b e. split-parts b e .0)
+
+pub splits-lf : (l : List ℕ) → Lacks splits l → Lacks (is 10) l
+splits-lf = lacks-less splits (is 10) (λ b e. split-parts b e .1)

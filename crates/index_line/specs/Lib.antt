@@ -7,9 +7,11 @@ pub mod Reading
 pub mod Writing
 pub mod Ends
 pub mod Lacks
+pub mod OneLine
 pub mod Cut
 pub mod Numbers
 pub mod Laws
 pub mod RoundTrip
+pub mod PlainAgain
 pub mod Examples
 pub mod Quick

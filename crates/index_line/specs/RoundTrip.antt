@@ -1,9 +1,9 @@
--- The two theorems of index lines: a line that is written reads back as the same name and numbers; and a plain line that is read and written
--- again gives the same bytes.
+-- A line that is written reads back as the same name and numbers, over the two calls too; and what a plain line says is written as the same
+-- bytes, which PlainAgain.antt makes a theorem over the two calls.
 use Prim.Native.Nat.{ℕ, zero, suc, _+_, _^_, _≤_, _<_}
 use mathlib.Core.Path.{_≡_, refl, sym, ap, _∙_}
 use mathlib.Core.List.{List, [], _∷_, _++_, map, append-assoc}
-use mathlib.Core.Bool.{Bool, true, false, cond, _||_, and-false}
+use mathlib.Core.Bool.{Bool, true, false, cond, and-false}
 use native.Mathlib.Omega.{arith}
 use lib.ListN.{length, getD, take, length-append, length-take, length-drop}
 use lib.Seq.{take-at, take-take, length-take-le}
@@ -19,9 +19,10 @@ use Rattle.record.specs.Row.{namedAt, rowAt}
 use Rattle.record.specs.Laws.{HeldRow, held-known, named-known}
 use Rattle.index_line.specs.Bytes.{is}
 use Rattle.index_line.specs.Decimal.{decimalOf}
-use Rattle.index_line.specs.Fields.{cutAt, tabbed, numbersText, textOf, splits, wrote}
+use Rattle.index_line.specs.Fields.{cutAt, tabbed, numbersText, textOf, wrote}
 use Rattle.index_line.specs.Writing.{TextPut, no-bytes, text-known}
-use Rattle.index_line.specs.Lacks.{Lacks, lacks-less, lacks-ends, text-lacks}
+use Rattle.index_line.specs.Lacks.{Lacks, lacks-ends, text-lacks, splits-tab}
+use Rattle.index_line.specs.OneLine.{line-one}
 use Rattle.index_line.specs.Numbers.{Allowed, both, text-reads, reads-say, reads-text, reads-count}
 use Rattle.index_line.specs.Cut.{text-cut, cut-text, cut-most}
 use Rattle.index_line.specs.Ends.{ends-behind, content-lf, plain-lf, plain-content}
@@ -108,13 +109,6 @@ pub record ReadBack (names t : List ℕ) (n r k : ℕ) (after : List ℕ) : Type
   pub read : readLine (take k after) ≡ read.Row (entryOf (row .«name_length») row)
   pub name : take (row .«name_length») after ≡ nameIn names row
 
-tab-splits : (b : ℕ) → splits b ≡ false → is 9 b ≡ false
-tab-splits b h = go (eqb b 9) h
-  where
-    go : (t : Bool) → (t || eqb b 10) ≡ false → t ≡ false
-    go true k = k
-    go false k = refl
-
 -- the front of a line's bytes is its name
 line-front : (name : List ℕ) (x : Record) (k : ℕ) (after : List ℕ) → take k after ≡ textOf name (numbersOf x) → take (length name) after ≡ name
 unfolding textOf
@@ -130,12 +124,12 @@ reads-back names t n r out k after f h m =
     let w = line-written names t n r out k after h in
     let x = w .row in
     let lined = row-lined t n r x f (held-known t n r x (named-known t n r (length names) x (w .held) .0)) in
-    let untabbed = lacks-less splits (is 9) tab-splits (nameIn names x) (w .put .whole) in
+    let untabbed = splits-tab (nameIn names x) (w .put .whole) in
     let small : length (take k after) ≤ 1099511627776 = omega (arith, length-take k after) in
     record {
       row = x;
       held = w .held;
-      read = rw (le-ltb _ _ small, w .put .front, ← w .name) (written-reads 1 (nameIn names x) x untabbed lined);
+      read = rw (le-ltb _ _ small, w .put .front, ← w .name, line-one (nameIn names x) x (w .put .whole), written-reads 1 (nameIn names x) x untabbed lined);
       name = rw (← w .name) (line-front (nameIn names x) x k after (w .put .front));
     }
 
@@ -153,7 +147,7 @@ line-text : (name vs : List ℕ) (n : ℕ) (fs : List (List ℕ)) → length vs 
 unfolding lineOf textOf
 line-text name vs n fs h e = ap (textOf name) (four vs n h) ∙ rw e
 
--- a plain line that is read and written again gives the same bytes
+-- the line of what a plain line says has the same bytes
 pub plain-writes : (line : ℕ) (l : List ℕ) (e : Entry) → lineSays line l ≡ read.Row e → e .plain ≡ true
     → lineOf (take (e .«record» .«name_length») l) (e .«record») ≡ l
 plain-writes line l e h p =

@@ -60,7 +60,7 @@ fn read_digits(s: &[u8]) -> Number
 }
 
 // Reads a number that is all of `s`.
-pub fn read_number(s: &[u8]) -> Number
+pub(crate) fn read_number(s: &[u8]) -> Number
     ensures { λ r. ⌜ r ≡ numberOf (now (s .entry)) ⌝ }
 {
     if s.len() == 0 {
@@ -113,7 +113,7 @@ fn put_digits(n: u64, w: usize, out: &mut [u8], at: usize)
 }
 
 // Writes n from place `at` on, if there is room for all its digits; and tells how many they are.
-pub fn write_number(n: u64, out: &mut [u8], at: usize) -> usize
+pub(crate) fn write_number(n: u64, out: &mut [u8], at: usize) -> usize
     ensures { λ r. ⌜ NumberWritten n (now (out .entry)) at r (now (out .exit)) ⌝ }
 {
     let w = digit_count(n);

@@ -11,10 +11,8 @@ use record::Offset;
 use record::Record;
 use refusal::Refusal;
 ghost use mathlib.Core.Path.{_≡_};
-ghost use Rattle.index_line.specs.IndexLine.{contentSays, lineSays, readContent, readLine, writtenAs};
+ghost use Rattle.index_line.specs.IndexLine.{contentSays, onlyIf, lineSays, readContent, readLine, writtenAs};
 ghost use Rattle.index_line.specs.Fields.{wrote};
-pub use decimal::read_number;
-pub use decimal::write_number;
 
 // A number read: its value, or that it is none.
 pub enum Number {
@@ -22,7 +20,8 @@ pub enum Number {
     Bad,
 }
 
-// What an index line says: a record, whose name's span counts from the line's start; and whether the line is plain.
+// What an index line says: a record, whose name's span counts from the line's start; and whether the line is plain, so that writing
+// its record gives the same bytes.
 pub struct Entry {
     pub record: Record,
     pub plain: bool,
@@ -44,7 +43,7 @@ pub enum Written {
 const NUMBERS: usize = 4;
 
 // Reads the content of line number `line`, which has no end. Of content, plain means that no number has a needless leading zero or a plus.
-pub fn parse_record(content: &[u8], line: u64) -> LineRead
+fn parse_record(content: &[u8], line: u64) -> LineRead
     ensures { λ r. ⌜ r ≡ contentSays line (now (content .entry)) ⌝ }
 {
     if content.len() == 0 {
@@ -62,42 +61,51 @@ pub fn parse_record(content: &[u8], line: u64) -> LineRead
     }
 }
 
-// Reads line number `line` with its end: one final LF, and one CR before it, come off.
-pub fn parse_line(l: &[u8], line: u64) -> LineRead
-    ensures { λ r. ⌜ r ≡ lineSays line (now (l .entry)) ⌝ }
+// A line read, which is plain only if p.
+fn plain_if(p: bool, read: LineRead) -> LineRead
+    ensures { λ r. ⌜ r ≡ onlyIf p read ⌝ }
 {
-    let length = lines::content_length(l);
-    let ended = l.len() - length == 1;
-    match parse_record(&l[..length], line) {
+    match read {
         LineRead::Refused(r) => LineRead::Refused(r),
         LineRead::Row(e) => {
             let record = e.record;
             LineRead::Row(Entry {
                 record,
-                plain: ended & e.plain,
+                plain: p & e.plain,
             })
         }
     }
 }
 
-// Reads the content of a line that stands alone.
+// Reads line number `line` with its end: one final LF, and one CR before it, come off. It does not look for an LF before that: a line
+// of a text has none.
+pub fn parse_line(l: &[u8], line: u64) -> LineRead
+    ensures { λ r. ⌜ r ≡ lineSays line (now (l .entry)) ⌝ }
+{
+    let length = lines::content_length(l);
+    let ended = l.len() - length == 1;
+    plain_if(ended, parse_record(&l[..length], line))
+}
+
+// Reads the content of a line that stands alone. It is not plain: a plain line ends in LF.
 pub fn read_content(content: &[u8]) -> LineRead
     ensures { λ r. ⌜ r ≡ readContent (now (content .entry)) ⌝ }
 {
     if refusal::over_limit(content.len()) {
         return LineRead::Refused(Refusal::TooLong);
     }
-    parse_record(content, 1)
+    plain_if(false, parse_record(content, 1))
 }
 
-// Reads a line, with its end, that stands alone.
+// Reads a line, with its end, that stands alone. An LF before its end is a byte like others, but then it is not plain: it is no line.
 pub fn read_line(l: &[u8]) -> LineRead
     ensures { λ r. ⌜ r ≡ readLine (now (l .entry)) ⌝ }
 {
     if refusal::over_limit(l.len()) {
         return LineRead::Refused(Refusal::TooLong);
     }
-    parse_line(l, 1)
+    let one = lines::line_end(l, 0) == l.len();
+    plain_if(one, parse_line(l, 1))
 }
 
 // Writes the line of row `row` to the front of the output. The table has `in_use` rows in use, and its names are spans of `names`.

@@ -122,7 +122,7 @@ pub fn line_end(s: &[u8], at: usize) -> usize
 }
 
 // How many bytes are left of `l` without a final `b`.
-pub fn chopped(l: &[u8], b: u8) -> usize
+fn chopped(l: &[u8], b: u8) -> usize
     ensures { λ r. ⌜ r ≡ length (chop b (now (l .entry))) ⌝ }
 {
     let n = l.len();

@@ -281,7 +281,7 @@ pub fn codes() -> [u8; 256]
 }
 
 // The set of a byte.
-pub fn set_of(b: u8) -> u8
+fn set_of(b: u8) -> u8
     ensures { λ r. ⌜ r ≡ setOf b ⌝ }
 {
     let all = codes();
@@ -408,7 +408,7 @@ fn find(primer: &[u8], text: &[u8], masks: &[u32; 256], last: u32) -> Found
 }
 
 // The first place of a primer, whose letters are given as sets, in a text.
-pub fn search(primer: &[u8], text: &[u8]) -> Found
+fn search(primer: &[u8], text: &[u8]) -> Found
     requires { ⌜ (1 ≤ length (now primer)) × (length (now primer) ≤ 31) ⌝ }
     ensures { λ r. ⌜ r ≡ firstOf (now (primer .entry)) (now (text .entry)) ⌝ }
 {
@@ -422,15 +422,4 @@ fn last_bit(letters: usize) -> u32
     ensures { λ r. ⌜ r ≡ 2 ^ (letters - 1) ⌝ }
 {
     1 << (letters - 1)
-}
-
-// The same for a host: the text's length where there is none.
-#[no_mangle]
-pub extern "C" fn primer_place(primer: &[u8], text: &[u8]) -> usize
-    requires { ⌜ (1 ≤ length (now primer)) × (length (now primer) ≤ 31) ⌝ }
-{
-    match search(primer, text) {
-        Found::At(i) => i,
-        Found::Nothing => text.len(),
-    }
 }

@@ -1,19 +1,21 @@
 -- Document 01: the line rule and the scanning rule agree from the start of a sequence where its lines hold no '>' and no CR but
--- the one at a line's end.
+-- the one at a line's end; with a limit, and without one.
 use Prim.Native.Nat.{ℕ, zero, suc, _+_, _-_, _≤_, _<_}
 use mathlib.Core.Path.{_≡_, refl, ap, sym, _∙_}
-use mathlib.Core.List.{List, [], _∷_}
+use mathlib.Core.List.{List, [], _∷_, _++_}
 use mathlib.Core.Bool.{Bool, true, false, cond, true≢false}
-use lib.ListN.{length, drop, length-drop}
-use lib.Dec.{eqb}
-use borrow.Author.Tests.{eqb-true}
+use mathlib.Core.Logic.{_⊎_, inl, inr}
+use lib.ListN.{length, take, drop}
+use lib.Seq.{take-append-le, take-append-add}
+use lib.Dec.{eqb, leb}
+use borrow.Author.Tests.{eqb-true, leb-true, leb-false}
 use native.Mathlib.Omega.{arith}
-use native.Mathlib.Nat.{add-zero, add-assoc}
-use Rattle.lines.specs.Lines.{lines, onto, chop, basesOf, begins, seqOf, seqAt, allBases, sumWidths}
-use Rattle.lines.specs.Laws.{chop-le}
-use Rattle.sequence.specs.Scan.{endsLine, skipped, bare, scanFrom, scanAt, scanAll}
-use Rattle.lines.specs.Sums.{widths-seq, widths-lines}
-use Rattle.sequence.specs.Laws.{chop-first, upTo-all}
+use Rattle.lines.specs.Lines.{lines, onto, chop, basesOf, begins, seqOf, seqAt, allBases, sumBases, sumWidths}
+use Rattle.lines.specs.Sums.{bases-within}
+use Rattle.lines.specs.Mending.{BaseOf, base-within}
+use Rattle.lines.specs.Mending.BaseOf.{first, later}
+use Rattle.sequence.specs.Scan.{endsLine, skipped, bare, Scan, nothing, joined, scanFrom, scanAt, scanAll}
+use Rattle.sequence.specs.Laws.{chop-first}
 
 -- does a byte stand among some bytes
 unfoldable pub has : ℕ → List ℕ → Bool
@@ -87,23 +89,47 @@ has-first c b k h = go (eqb b c) h
     go true q = q
     go false q = refl
 
-bare-bases : (l : List ℕ) → CleanLine l → has 10 (chop 10 l) ≡ false → (begins (bare l) ≡ false) × (basesOf (bare l) ≡ basesOf l)
+-- so a line begins with a base, or is blank
+front : (l : List ℕ) → CleanLine l → has 10 (chop 10 l) ≡ false → ((bare l ≡ []) × (basesOf l ≡ [])) ⊎ ((skipped l ≡ 0) × (begins l ≡ false))
 unfolding skipped endsLine chop
-bare-bases [] clean line = (refl, refl)
-bare-bases (b ∷ k) clean line = lf (eqb b 10) refl
+front [] clean line = inl (refl, refl)
+front (b ∷ k) clean line = lf (eqb b 10) refl
   where
-    hidden : (bare (b ∷ k) ≡ []) × (basesOf (b ∷ k) ≡ []) → (begins (bare (b ∷ k)) ≡ false) × (basesOf (bare (b ∷ k)) ≡ basesOf (b ∷ k))
-    hidden z = (ap begins (z .0), ap basesOf (z .0) ∙ sym (z .1))
+    cr : (t : Bool) → eqb b 13 ≡ t → eqb b 10 ≡ false → ((bare (b ∷ k) ≡ []) × (basesOf (b ∷ k) ≡ [])) ⊎ ((skipped (b ∷ k) ≡ 0) × (begins (b ∷ k) ≡ false))
+    cr true e q = inl (rw (eqb-true b 13 e) (blank-cr k (rw (eqb-true b 13 e) at (clean .no-return))))
+    cr false e q = inr (rw (e, q) (refl, has-first 62 b k (clean .no-prefix)))
 
-    cr : (t : Bool) → eqb b 13 ≡ t → eqb b 10 ≡ false → (begins (bare (b ∷ k)) ≡ false) × (basesOf (bare (b ∷ k)) ≡ basesOf (b ∷ k))
-    cr true e q = hidden (rw (eqb-true b 13 e) (blank-cr k (rw (eqb-true b 13 e) at (clean .no-return))))
-    cr false e q = rw (e, q) (has-first 62 b k (clean .no-prefix), refl)
-
-    lf : (t : Bool) → eqb b 10 ≡ t → (begins (bare (b ∷ k)) ≡ false) × (basesOf (bare (b ∷ k)) ≡ basesOf (b ∷ k))
-    lf true e = hidden (rw (eqb-true b 10 e) (blank-lf k (rw (eqb-true b 10 e) at line)))
+    lf : (t : Bool) → eqb b 10 ≡ t → ((bare (b ∷ k) ≡ []) × (basesOf (b ∷ k) ≡ [])) ⊎ ((skipped (b ∷ k) ≡ 0) × (begins (b ∷ k) ≡ false))
+    lf true e = inl (rw (eqb-true b 10 e) (blank-lf k (rw (eqb-true b 10 e) at line)))
     lf false e = cr (eqb b 13) refl e
 
+module _ (l : List ℕ) (clean : CleanLine l) (line : has 10 (chop 10 l) ≡ false) where
+  -- its leading CR and LF hide nothing of it
+  bare-bases : (begins (bare l) ≡ false) × (basesOf (bare l) ≡ basesOf l)
+  unfolding chop
+  bare-bases = go (front l clean line)
+    where
+      go : ((bare l ≡ []) × (basesOf l ≡ [])) ⊎ ((skipped l ≡ 0) × (begins l ≡ false)) → (begins (bare l) ≡ false) × (basesOf (bare l) ≡ basesOf l)
+      go (inl z) = (ap begins (z .0), ap basesOf (z .0) ∙ sym (z .1))
+      go (inr z) = rw (z .0) (z .1, refl)
+
+  -- and where it has bases there are none
+  based : 0 < length (basesOf l) → skipped l ≡ 0
+  based h = go (front l clean line)
+    where
+      go : ((bare l ≡ []) × (basesOf l ≡ [])) ⊎ ((skipped l ≡ 0) × (begins l ≡ false)) → skipped l ≡ 0
+      go (inl z) = absurd (omega (arith, ap length (z .1)))
+      go (inr z) = z .0
+
 -- ---- the rules agree
+
+-- what a scan for so many bases gives of some lines that begin at an offset, by the line rule: the first so many bases of all. It leaves
+-- its place behind the last of them, where it was if none is wanted; if there are fewer, it gives all and leaves the end of the lines
+pub record ByLines (c : Scan) (ls : List (List ℕ)) (limit at : ℕ) : Type 0 where
+  pub bases : c .bases ≡ take limit (allBases ls)
+  pub unmoved : limit ≡ 0 → c .place ≡ at
+  pub reached : (byte base : ℕ) → BaseOf ls byte base → limit ≡ suc base → c .place ≡ at + suc byte
+  pub short : sumBases ls < limit → (c .bases ≡ allBases ls) × (c .place ≡ at + sumWidths ls)
 
 -- a line that begins with '>' has nothing in front of it
 prefix-first : (l : List ℕ) → begins l ≡ true → skipped l ≡ 0
@@ -111,22 +137,77 @@ unfolding skipped endsLine
 prefix-first [] e = refl
 prefix-first (b ∷ k) e = rw (eqb-true b 62 e)
 
-agree : (ls : List (List ℕ)) (m at : ℕ) → Lined ls → Clean (seqOf ls) → sumWidths (seqOf ls) < m → scanFrom ls m at ≡ record { bases = allBases (seqOf ls); place = at + sumWidths (seqOf ls) }
-unfolding scanFrom seqOf sumWidths allBases Clean
-agree [] m at lined clean h = rw (add-zero at)
-agree (l ∷ ls) zero at lined clean h = absurd (omega arith)
-agree (l ∷ ls) (suc n) at lined clean h = go (begins l) refl clean h (agree ls (suc n - length (basesOf l)) (at + length l) (lined .1))
+none-left : (m at place : ℕ) → place ≡ at → ByLines (nothing place) [] m at
+unfolding allBases sumBases sumWidths
+none-left m at place e = record { bases = none m; unmoved = λ z. e; reached = λ c j b q. absurd (omega (arith, base-within b)); short = λ q. (refl, omega arith) }
   where
-    go : (t : Bool) → begins l ≡ t → Clean (cond t [] (l ∷ seqOf ls)) → sumWidths (cond t [] (l ∷ seqOf ls)) < suc n
-        → (Clean (seqOf ls) → sumWidths (seqOf ls) < suc n - length (basesOf l) → scanFrom ls (suc n - length (basesOf l)) (at + length l) ≡ record { bases = allBases (seqOf ls); place = at + length l + sumWidths (seqOf ls) })
-        → scanFrom (l ∷ ls) (suc n) at ≡ record { bases = allBases (cond t [] (l ∷ seqOf ls)); place = at + sumWidths (cond t [] (l ∷ seqOf ls)) }
-    go true e c w hyp = rw (prefix-first l e, e)
-    go false e c w hyp =
-        let z = bare-bases l (c .0) (lined .0) in
-        let k : length (basesOf l) ≤ length l = omega (arith, chop-le 13 (chop 10 l), chop-le 10 l) in
-        rw (z .0, z .1, upTo-all (suc n) (at + skipped l) (basesOf l) _ (omega arith), hyp (c .1) (omega arith), add-assoc at (length l) (sumWidths (seqOf ls)))
+    none : (m : ℕ) → _≡_ {A = List ℕ} [] (take m [])
+    none zero = refl
+    none (suc m) = refl
 
--- from the start of a sequence whose lines are clean, a scan without a limit gives its bases by the line rule, and leaves its end
+none-wanted : (ls : List (List ℕ)) (at : ℕ) → ByLines (nothing at) ls 0 at
+none-wanted ls at = record { bases = refl; unmoved = λ z. refl; reached = λ c j b q. absurd (omega arith); short = λ q. absurd (omega arith) }
+
+module _ (l : List ℕ) (ls : List (List ℕ)) (n at : ℕ) where
+  -- a line that has as many bases as are wanted
+  enough : skipped l ≡ 0 → suc n ≤ length (basesOf l) → ByLines (record { bases = take (suc n) (basesOf l); place = at + skipped l + suc n }) (l ∷ ls) (suc n) at
+  unfolding allBases sumBases
+  enough z h =
+      record {
+        bases = sym (take-append-le (suc n) (basesOf l) (allBases ls) h);
+        unmoved = λ q. absurd (omega arith);
+        reached = reached;
+        short = λ q. absurd (omega arith);
+      }
+    where
+      reached : (c j : ℕ) → BaseOf (l ∷ ls) c j → suc n ≡ suc j → at + skipped l + suc n ≡ at + suc c
+      reached c j (first k e) q = omega arith
+      reached c j (later r p e) q = absurd (omega arith)
+
+  -- a line that has fewer, and what follows
+  fewer : (rest : Scan) → length (basesOf l) < suc n → ByLines rest ls (suc n - length (basesOf l)) (at + length l) → ByLines (joined (basesOf l) rest) (l ∷ ls) (suc n) at
+  unfolding allBases sumBases sumWidths
+  fewer rest h ih =
+      record {
+        bases = rw (ih .bases) (sym (take-append-add (basesOf l) (allBases ls) (suc n - length (basesOf l))) ∙ ap (λ (k : ℕ). take k (basesOf l ++ allBases ls)) whole);
+        unmoved = λ q. absurd (omega arith);
+        reached = reached;
+        short = λ q. (let z = ih .short (omega arith) in (ap (λ (k : List ℕ). basesOf l ++ k) (z .0), z .1 ∙ omega arith));
+      }
+    where
+      whole : length (basesOf l) + (suc n - length (basesOf l)) ≡ suc n
+      whole = omega arith
+
+      reached : (c j : ℕ) → BaseOf (l ∷ ls) c j → suc n ≡ suc j → rest .place ≡ at + suc c
+      reached c j (first k e) q = absurd (omega arith)
+      reached c j (later {d = d} {i = i} r p e) q = ih .reached d i r (omega arith) ∙ omega arith
+
+agree : (ls : List (List ℕ)) (m at : ℕ) → Lined ls → Clean (seqOf ls) → ByLines (scanFrom ls m at) (seqOf ls) m at
+unfolding scanFrom seqOf Clean
+agree [] m at lined clean = none-left m at at refl
+agree (l ∷ ls) zero at lined clean = none-wanted (seqOf (l ∷ ls)) at
+agree (l ∷ ls) (suc n) at lined clean = go (begins l) refl clean (agree ls (suc n - length (basesOf l)) (at + length l) (lined .1))
+  where
+    limited : CleanLine l → (t : Bool) → leb (suc n) (length (basesOf l)) ≡ t → ByLines (scanFrom ls (suc n - length (basesOf l)) (at + length l)) (seqOf ls) (suc n - length (basesOf l)) (at + length l)
+        → ByLines (cond t (record { bases = take (suc n) (basesOf l); place = at + skipped l + suc n }) (joined (basesOf l) (scanFrom ls (suc n - length (basesOf l)) (at + length l)))) (l ∷ seqOf ls) (suc n) at
+    limited c true e ih = let h = leb-true _ _ e in enough l (seqOf ls) n at (based l c (lined .0) (omega arith)) h
+    limited c false e ih = fewer l (seqOf ls) n at _ (leb-false _ _ e) ih
+
+    go : (t : Bool) → begins l ≡ t → Clean (cond t [] (l ∷ seqOf ls))
+        → (Clean (seqOf ls) → ByLines (scanFrom ls (suc n - length (basesOf l)) (at + length l)) (seqOf ls) (suc n - length (basesOf l)) (at + length l))
+        → ByLines (scanFrom (l ∷ ls) (suc n) at) (cond t [] (l ∷ seqOf ls)) (suc n) at
+    go true e c ih = let z = prefix-first l e in rw (z, e) (none-left (suc n) at (at + 0) (omega arith))
+    go false e c ih = let z = bare-bases l (c .0) (lined .0) in rw (z .0, z .1) (limited (c .0) (leb (suc n) (length (basesOf l))) refl (ih (c .1)))
+
+-- from the start of a sequence whose lines are clean, a limited scan gives the first bases by the line rule
+pub limit-agrees : (s : List ℕ) (limit at : ℕ) → Clean (seqAt s at) → ByLines (scanAt s limit at) (seqAt s at) limit at
+unfolding scanAt seqAt
+limit-agrees s limit at clean = agree (lines (drop at s)) limit at (lined (drop at s)) clean
+
+scan-is : (c : Scan) (bs : List ℕ) (place : ℕ) → c .bases ≡ bs → c .place ≡ place → c ≡ record { bases = bs; place = place }
+scan-is c bs place e q = rw (← e, ← q)
+
+-- and a scan without a limit gives all, and leaves the end of the sequence
 pub rules-agree : (s : List ℕ) (at : ℕ) → Clean (seqAt s at) → scanAll s at ≡ record { bases = allBases (seqAt s at); place = at + sumWidths (seqAt s at) }
-unfolding scanAll scanAt seqAt
-rules-agree s at clean = agree (lines (drop at s)) (length s + 1) at (lined (drop at s)) clean (omega (arith, widths-seq (lines (drop at s)), widths-lines (drop at s), length-drop at s))
+unfolding scanAll
+rules-agree s at clean = let z = limit-agrees s (length s + 1) at clean .short (omega (arith, bases-within s at)) in scan-is _ _ _ (z .0) (z .1)

@@ -2,4 +2,5 @@ pub mod Scan
 pub mod Read
 pub mod Laws
 pub mod Agree
+pub mod Limits
 pub mod Examples

@@ -52,7 +52,7 @@ fn skip_ends(s: &[u8], at: usize) -> usize
 }
 
 // One step of the scanning rule from `at`: where its bases begin, and how many they are; none at '>' or the end.
-pub fn next_run(s: &[u8], at: usize) -> Span
+pub(crate) fn next_run(s: &[u8], at: usize) -> Span
     ensures { λ r. ⌜ r ≡ runAt (now (s .entry)) at ⌝ }
 {
     let start = skip_ends(s, at);

@@ -33,7 +33,7 @@ impl<'a> Reader<'a> {
 }
 
 // The first bases from a place, through a view.
-pub fn first_run(s: &[u8], at: usize) -> Span
+pub(crate) fn first_run(s: &[u8], at: usize) -> Span
     ensures { λ r. ⌜ r ≡ runAt (now (s .entry)) at ⌝ }
 {
     Reader::new(s, at).run()

@@ -51,7 +51,8 @@ pub struct SpanAnswer {
     pub next: u64,
 }
 
-// A record's row, and the offset behind the record; `found` is 0 at the end of a file, and `plain` is 1 for a plain index line.
+// A record's row, and the offset behind the record; `found` is 0 at the end of a file, and `plain` is 1 for a plain index line that was
+// given with its end.
 #[repr(C)]
 pub struct RowAnswer {
     pub refusal: u64,

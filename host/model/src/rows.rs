@@ -98,11 +98,12 @@ pub(crate) fn index_content(content: &[u8], start: u64, line: u64) -> Result<Row
     Ok(row)
 }
 
-/// Ends in LF with no CR before it, and no number has a needless leading zero or a plus.
+/// One line: it ends in LF with no CR before it and has no other LF; and no number has a needless leading zero or a plus.
 pub(crate) fn is_plain(line: &[u8]) -> bool {
     let needless = |field: &[u8]| field.starts_with(b"+") || field.len() > 1 && field[0] == b'0';
     match line.strip_suffix(b"\n") {
         None => false,
+        Some(rest) if rest.contains(&b'\n') => false,
         Some(rest) => rest.last() != Some(&b'\r') && !rest.splitn(5, |b| *b == b'\t').skip(1).any(needless),
     }
 }

@@ -42,7 +42,8 @@ pub struct Span {
     pub next: u64,
 }
 
-/// A record's row: `found` is 0 at the end of a file. `next` is the offset behind the record, `plain` is 1 for a plain index line.
+/// A record's row: `found` is 0 at the end of a file. `next` is the offset behind the record, `plain` is 1 for a plain index line that
+/// was given with its end.
 #[repr(C)]
 #[derive(Clone, Copy, Debug, Default, Eq, PartialEq)]
 #[allow(missing_docs)]

@@ -117,8 +117,8 @@ pub fn index_record(fasta: &[u8], at: u64) -> Result<Option<(Record<'_>, u64)>, 
     Ok(if row.found == 0 { None } else { record(fasta, row).map(|record| (record, row.next)) })
 }
 
-/// What an index line says, given with its end, and whether it is plain: then it is just what would be written for it.
-/// Refuses 1, 9 to 12.
+/// What an index line says, given with its end, and whether it is plain: then it is just what would be written for it. It is not if it
+/// holds an LF before its end. Refuses 1, 9 to 12.
 ///
 /// ```
 /// let (record, plain) = wakeluri::index_line(b"s\t4\t3\t060\t61\n")?;

@@ -191,6 +191,27 @@ fn index_lines_by_field_from_the_left() {
 }
 
 #[test]
+fn what_is_no_line_is_not_plain() {
+    let row = entry::index_line(b"a\nb\t4\t3\t2\t3\n");
+    assert_eq!((row.refusal, row.name_length, row.length, row.plain), (0, 3, 4, 0));
+    assert_eq!(entry::index_line(b"\n\t4\t3\t2\t3\n").plain, 0);
+    let row = entry::index_content(b"s\t4\t3\t2\t3");
+    assert_eq!((row.refusal, row.name_length, row.length, row.plain), (0, 1, 4, 0));
+}
+
+#[test]
+fn a_plain_line_is_written_again_as_it_was() {
+    let line = b"s x\t18446744073709551615\t0\t60\t61\n";
+    let read = entry::index_line(line);
+    assert_eq!(read.plain, 1);
+    let numbers = [read.name_start, read.name_length, read.length, read.position, read.line_bases, read.line_width];
+    let mut out = vec![0; line.len()];
+    let answer = entry::write_index_line(line, &row(numbers), 1, 0, &mut out);
+    assert_eq!((no(answer), answer.count), ((0, 0, 0), line.len() as u64));
+    assert_eq!(out, line);
+}
+
+#[test]
 fn names_that_lie_outside() {
     let find = |row_numbers, name: &[u8]| {
         let answer = entry::find(b"ab", &row(row_numbers), 1, name);

@@ -22,12 +22,6 @@ slice-aggregate-parse-record c = rw (c .before .content-length .ensures) (sym (l
 parse-record-requires : tie.Need-parse-record-requires
 parse-record-requires c κs = search needs
 
-enum-known-r : tie.Need-enum-known-r
-enum-known-r c = search needs
-
-enum-known-e : tie.Need-enum-known-e
-enum-known-e c = search needs
-
 -- what the content says
 said : (c : tie.After-parse-record)
     → (let a = c .before .before .before .before .args in c .parse-record .result ≡ contentSays (a .line) (contentOf (a .l .now)))
@@ -35,14 +29,12 @@ said c =
     let a = c .before .before .before .before .args in
     rw (← content-front (a .l .now), ← c .before .before .content-length .ensures) (c .parse-record .ensures)
 
+plain-if-requires : tie.Need-plain-if-requires
+plain-if-requires c κs = search needs
+
 returns : tie.Need-returns
 unfolding lineSays
-returns c = rw (← said (c .before .before .before), c .before .r .given .1)
-
-returns-2 : tie.Need-returns-2
-unfolding lineSays
-returns-2 c =
-    rw (← said (c .before .before .before .before .before), c .before .before .before .e .given .1, ← plain-end, c .before .before .before .before .before .before .before .content-length .ensures)
+returns c = rw (← said (c .before), ← plain-end, ← c .before .before .before .content-length .ensures) (c .plain-if .ensures)
 
 pub parse-line-spec : {M : Type 1} → statement M
 parse-line-spec =
@@ -52,7 +44,5 @@ parse-line-spec =
     sub-ended
     slice-aggregate-parse-record
     parse-record-requires
-    enum-known-r
-    enum-known-e
-    returns
-    returns-2)
+    plain-if-requires
+    returns)

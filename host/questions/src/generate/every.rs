@@ -94,7 +94,7 @@ fn every_index_line() -> Source {
     let few = strings(b"\t01s+\r\n", 5);
     let many = (0..NUMERALS_FOR_ALL.pow(4)).map(|k| {
         let numeral = |place: u32| NUMERALS[k / NUMERALS_FOR_ALL.pow(place) % NUMERALS_FOR_ALL];
-        let name: &[u8] = [&b"s"[..], b"", b"a b", b"\xc3\xa9"][k % 4];
+        let name: &[u8] = [&b"s"[..], b"", b"a b", b"\xc3\xa9", b"a\nb"][k % 5];
         let end: &[u8] = [&b"\n"[..], b"\r\n", b"", b"\r"][k / 4 % 4];
         let fields = [name, numeral(3), numeral(2), numeral(1), numeral(0)];
         [&fields.join(&b'\t')[..], end].concat()
