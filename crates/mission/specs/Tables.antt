@@ -32,8 +32,9 @@ use Rattle.checker.specs.Accepts.{recordAt, Accepts}
 use Rattle.checker.specs.Check.{spanOf, checkOf}
 use Rattle.checker.specs.Exactly.{accepted-only-if}
 use Rattle.checker.specs.declared.Verdict.the-variants.{Accepted}
+use Rattle.mission.specs.IndexedLaws.{Along}
 use Rattle.mission.specs.IndexedLaws as ported-laws
-use Rattle.mission.specs.Leading.{rowIn}
+use Rattle.mission.specs.Leading.{rowIn, LeadsTo}
 use Rattle.mission.specs.Indexed.{file-leads}
 use Rattle.mission.specs.Fitted.{rows-lead}
 use Rattle.mission.specs.Fitted as complete-laws
@@ -53,6 +54,13 @@ fitted-gives f n h =
     let t = complete-laws.taken f n h in
     let e = rw (t .whole) at h in
     rw (t .whole) (record { small = t .fits; stop = e; rows = leading-rows f (complete.fileAt f 0 .rows) (complete.fileAt f 0 .stop) (rows-lead f) e (t .fits); room = t .room })
+
+-- their rows lead to the bases of the file's records
+pub indexed-leads : (f : List ℕ) (n : ℕ) → ported.fileIn f n .stop ≡ Ended → Along (LeadsTo f) 0 (groups (lines f)) (ported.fileIn f n .rows) (ported.fileIn f n .stop)
+indexed-leads f n h = rw (ported-laws.taken f n h .whole) (file-leads f)
+
+pub fitted-leads : (f : List ℕ) (n : ℕ) → complete.fileIn f n .stop ≡ Ended → Along (LeadsTo f) 0 (groups (lines f)) (complete.fileIn f n .rows) (complete.fileIn f n .stop)
+fitted-leads f n h = rw (complete-laws.taken f n h .whole) (rows-lead f)
 
 -- ---- the tables that they leave
 

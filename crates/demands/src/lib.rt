@@ -1,0 +1,1 @@
+// Demand 3 at the entry points: see specs/.
