@@ -18,6 +18,7 @@ use lib.ListN.{length}
 use native.Mathlib.Omega.{arith}
 use native.Mathlib.Nat.{zero-add}
 use Rattle.record.specs.Row.{rowCount}
+use Rattle.table.specs.Fill.{Found}
 use Rattle.index.specs.Index.{indexIn}
 use Rattle.fitting.specs.declared.Rule.{Rule}
 use Rattle.fitting.specs.Rules.{rowsIn}
@@ -32,16 +33,23 @@ use Rattle.mission.specs.TableOf.{recordCount, Gives}
 use Rattle.mission.specs.TableLaws.{accepted-gives}
 use Rattle.mission.specs.Asked.{Asked}
 use Rattle.demands.specs.Calls.{Check, ReadIndex, IndexFile, WriteIndexLine, ReadExact}
-use Rattle.demands.specs.TableBytes.{AreBytes, rows-room}
-use Rattle.demands.specs.Laws.{accepted-zero, zero-accepted, found-ended, left-answer, left-numbers, left-table, JustThose, table-told, rule-gives, rule-leads, joined, joined-lines, row-written}
+use Rattle.demands.specs.Host.{AreBytes, Exactly, Filled, JustThose, joined}
+use Rattle.demands.specs.TableBytes.{rows-room}
+use Rattle.demands.specs.Laws.{accepted-zero, zero-accepted, found-ended, left-answer, left-numbers, left-table, table-told, rule-gives, rule-leads, joined-lines, row-written}
+
+-- how many rows a lent table has, and what the calls that fill it find
+abbrev size : List ℕ → ℕ
+size table = rowCount (numbersIn table)
+
+abbrev indexRows : List ℕ → List ℕ → Found
+indexRows index table = indexIn index (rowCount (numbersIn table))
+
+abbrev fileRows : Rule → List ℕ → List ℕ → Found
+fileRows rule file table = rowsIn rule file (rowCount (numbersIn table))
 
 -- ---- the checker's answer
 
 -- wakeluri_check answers 0 exactly if the index is accepted
-pub record Exactly (file index : List ℕ) (a : Answer) : Type 0 where
-  pub only-if : a .refusal ≡ 0 → Accepts file index
-  pub if′ : Accepts file index → a .refusal ≡ 0
-
 pub check-exactly : (file index : List ℕ) (a : Answer) → Check file index a → Exactly file index a
 check-exactly file index a check =
     record {
@@ -51,60 +59,54 @@ check-exactly file index a check =
 
 -- ---- check, read the index, read bases
 
--- a call that fills a table tells no refusal, and as many rows as the file has records
-pub record Filled (file : List ℕ) (a : Answer) : Type 0 where
-  pub refusal : a .refusal ≡ 0
-  pub count : a .count ≡ recordCount file
-
 module _ (file index table table′ : List ℕ) (checked filled : Answer) (bytes : AreBytes table) (check : Check file index checked) (zero : checked .refusal ≡ 0)
     (read : ReadIndex index table filled table′) (room : recordCount file * 48 ≤ length table) where
-  gives : Gives file (indexIn index (rowCount (numbersIn table))) (rowCount (numbersIn table))
-  gives = accepted-gives file index (check-exactly file index checked check .only-if zero) (rowCount (numbersIn table)) (rows-room table (recordCount file) room)
+  gives : Gives file (indexRows index table) (size table)
+  gives = accepted-gives file index (check-exactly file index checked check .only-if zero) (size table) (rows-room table (recordCount file) room)
 
   pub checked-index : Filled file filled
   checked-index =
-      let a = left-answer file table table′ (indexIn index (rowCount (numbersIn table))) filled bytes gives read in
+      let a = left-answer file table table′ (indexRows index table) filled bytes gives read in
       record { refusal = a .0; count = a .1 ∙ gives .rows .count }
 
   pub checked-read : (row has-start start has-end end : ℕ) (out out′ : List ℕ) (answer : Answer) → Asked file row (boundOf has-start start) (boundOf has-end end) out
       → ReadExact file table′ (filled .count) row has-start start has-end end out answer out′ → JustThose file row (boundOf has-start start) (boundOf has-end end) out answer out′
   checked-read row has-start start has-end end out out′ answer asked exact =
       table-told file (numbersIn table′) (filled .count) row (boundOf has-start start) (boundOf has-end end) out answer out′
-      (left-table file table table′ (indexIn index (rowCount (numbersIn table))) filled bytes gives read) (gives .small) asked exact
+      (left-table file table table′ (indexRows index table) filled bytes gives read) (gives .small) asked exact
 
 -- ---- index, read bases; index, write the lines, check them
 
 module _ (rule : Rule) (file table table′ : List ℕ) (filled : Answer) (bytes : AreBytes table) (indexed : IndexFile rule file table filled table′) (zero : filled .refusal ≡ 0) where
-  found : Gives file (rowsIn rule file (rowCount (numbersIn table))) (rowCount (numbersIn table))
-  found = rule-gives file (rowCount (numbersIn table)) rule (found-ended filled table table′ (rowsIn rule file (rowCount (numbersIn table))) indexed zero)
+  found : Gives file (fileRows rule file table) (size table)
+  found = rule-gives file (size table) rule (found-ended filled table table′ (fileRows rule file table) indexed zero)
 
   pub indexed-count : filled .count ≡ recordCount file
-  indexed-count = left-answer file table table′ (rowsIn rule file (rowCount (numbersIn table))) filled bytes found indexed .1 ∙ found .rows .count
+  indexed-count = left-answer file table table′ (fileRows rule file table) filled bytes found indexed .1 ∙ found .rows .count
 
   pub indexed-read : (row has-start start has-end end : ℕ) (out out′ : List ℕ) (answer : Answer) → Asked file row (boundOf has-start start) (boundOf has-end end) out
       → ReadExact file table′ (filled .count) row has-start start has-end end out answer out′ → JustThose file row (boundOf has-start start) (boundOf has-end end) out answer out′
   indexed-read row has-start start has-end end out out′ answer asked exact =
       table-told file (numbersIn table′) (filled .count) row (boundOf has-start start) (boundOf has-end end) out answer out′
-      (left-table file table table′ (rowsIn rule file (rowCount (numbersIn table))) filled bytes found indexed) (found .small) asked exact
+      (left-table file table table′ (fileRows rule file table) filled bytes found indexed) (found .small) asked exact
 
   module _ (outs outs′ : ℕ → List ℕ) (written : ℕ → Answer)
       (write : (row : ℕ) → row < filled .count → WriteIndexLine file table′ (filled .count) row (outs row) (written row) (outs′ row))
       (all : (row : ℕ) → row < filled .count → written row .refusal ≡ 0) where
-    lines-are : joined written outs′ 0 (filled .count) ≡ indexText file (rowsIn rule file (rowCount (numbersIn table)) .rows)
+    lines-are : joined written outs′ 0 (filled .count) ≡ indexText file (fileRows rule file table .rows)
     lines-are =
-        let n = rowCount (numbersIn table) in
-        let c : filled .count ≡ length (rowsIn rule file (rowCount (numbersIn table)) .rows) = left-answer file table table′ (rowsIn rule file (rowCount (numbersIn table))) filled bytes found indexed .1 in
-        let v = left-numbers file table table′ (rowsIn rule file (rowCount (numbersIn table))) filled bytes found indexed in
+        let c : filled .count ≡ length (fileRows rule file table .rows) = left-answer file table table′ (fileRows rule file table) filled bytes found indexed .1 in
+        let v = left-numbers file table table′ (fileRows rule file table) filled bytes found indexed in
         rw c
-        (joined-lines file (rowsIn rule file (rowCount (numbersIn table)) .rows) written outs′ 0
+        (joined-lines file (fileRows rule file table .rows) written outs′ 0
         (λ j m. rw (zero-add j)
-        (row-written file (numbersIn table) (rowsIn rule file (rowCount (numbersIn table)) .rows) (rowsIn rule file (rowCount (numbersIn table)) .stop)
-        (rule-leads file (rowCount (numbersIn table)) rule (found .stop)) (found .small) (found .room) j m (outs j) (written j) (outs′ j)
+        (row-written file (numbersIn table) (fileRows rule file table .rows) (fileRows rule file table .stop)
+        (rule-leads file (size table) rule (found .stop)) (found .small) (found .room) j m (outs j) (written j) (outs′ j)
         (rw (v, c) at (write j (omega arith))) (all j (omega arith)))))
 
     pub indexed-checked : (checked : Answer) → length (joined written outs′ 0 (filled .count)) ≤ limit → Check file (joined written outs′ 0 (filled .count)) checked → checked .refusal ≡ 0
     indexed-checked checked small check =
         check-exactly file (joined written outs′ 0 (filled .count)) checked check .if′
         (rw lines-are
-        (leading-accepted file (rowsIn rule file (rowCount (numbersIn table)) .rows) (rowsIn rule file (rowCount (numbersIn table)) .stop)
-        (rule-leads file (rowCount (numbersIn table)) rule (found .stop)) (found .stop) (found .small) (rw lines-are at small)))
+        (leading-accepted file (fileRows rule file table .rows) (fileRows rule file table .stop)
+        (rule-leads file (size table) rule (found .stop)) (found .stop) (found .small) (rw lines-are at small)))

@@ -37,10 +37,11 @@ use Rattle.mission.specs.Leading.{lineIn, indexText, noRow, rowIn, LeadsTo, lea
 use Rattle.mission.specs.TableOf.{recordCount, Gives, TableOf}
 use Rattle.mission.specs.TableLaws.{filled-table}
 use Rattle.mission.specs.Tables.{indexed-gives, fitted-gives, indexed-leads, fitted-leads}
-use Rattle.mission.specs.Asked.{askedCount, askedBases, Asked}
+use Rattle.mission.specs.Asked.{Asked}
 use Rattle.mission.specs.Reads.{table-reads}
 use Rattle.demands.specs.NeverZero.{never-zero}
-use Rattle.demands.specs.TableBytes.{AreBytes, rows-back}
+use Rattle.demands.specs.Host.{AreBytes, JustThose, joined}
+use Rattle.demands.specs.TableBytes.{rows-back}
 
 -- ---- an answer with no refusal
 
@@ -88,13 +89,6 @@ module _ (f t t′ : List ℕ) (found : Found) (a : Answer) (bytes : AreBytes t)
       (filled-table f (numbersIn t) (numbersIn t′) found (record { rows = length (found .rows); stop = found .stop }) gives
       (record { rows = refl; stop = refl; table = left-numbers }))
 
--- what a host sees of a read that gives just the bases that are asked for: no refusal, how many they are, they at the front of the output,
--- and the rest of it as it was lent
-pub record JustThose (f : List ℕ) (r : ℕ) (start end : Bound) (out : List ℕ) (a : Answer) (out′ : List ℕ) : Type 0 where
-  pub refusal : a .refusal ≡ 0
-  pub count : a .count ≡ askedCount f r start end
-  pub output : out′ ≡ askedBases f r start end ++ drop (askedCount f r start end) out
-
 pub table-told : (f t : List ℕ) (n r : ℕ) (start end : Bound) (out : List ℕ) (a : Answer) (out′ : List ℕ) → TableOf f t n → length f ≤ limit → Asked f r start end out
     → tells a out′ ≡ regionTold (exactRead f t n r start end out) → JustThose f r start end out a out′
 unfolding regionTold regionAnswer
@@ -116,12 +110,7 @@ module _ (f : List ℕ) (n : ℕ) where
 
 -- ---- index lines that are written one after another
 
--- what a host joins: of the output of each of n rows, from row k on, as many bytes as the call says that it wrote
-unfoldable pub joined : (ℕ → Answer) → (ℕ → List ℕ) → ℕ → ℕ → List ℕ
-joined answers outputs k zero = []
-joined answers outputs k (suc n) = take (answers k .count) (outputs k) ++ joined answers outputs (suc k) n
-
--- they are the rows' index lines, if each is
+-- joined outputs are the rows' index lines, if each is
 pub joined-lines : (f : List ℕ) (xs : List Record) (answers : ℕ → Answer) (outputs : ℕ → List ℕ) (k : ℕ)
     → ((j : ℕ) → j < length xs → take (answers (k + j) .count) (outputs (k + j)) ≡ lineIn f (rowIn xs j)) → joined answers outputs k (length xs) ≡ indexText f xs
 unfolding joined indexText

@@ -11,10 +11,7 @@ use Rattle.byte_table.specs.Numbers.{fromBytes, toBytes, numbersOf, numbersIn, 
 use Rattle.byte_table.specs.Laws.{length-toBytes, from-to, from-fits, length-numbers}
 use Rattle.mission.specs.Leading.{rowIn}
 use Rattle.mission.specs.TableOf.{Fits}
-
--- what is lent: every one is a byte
-abbrev pub AreBytes : List ℕ → Type 0
-AreBytes t = (i : ℕ) → getD t i 0 < 256
+use Rattle.demands.specs.Host.{AreBytes}
 
 -- every number fits 64 bits
 abbrev AreNumbers : List ℕ → Type 0

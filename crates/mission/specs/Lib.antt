@@ -9,4 +9,3 @@ pub mod Asked
 pub mod ReadsLaws
 pub mod Reads
 pub mod Mending
-pub mod Marked
