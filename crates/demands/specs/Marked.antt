@@ -1,11 +1,11 @@
 -- The marked examples of document 01, M1 to M13: one table, one proof. Each asks an entry point's own definition for what a host is told and
 -- for the bytes that it finds afterwards.
 use Prim.Native.Nat.{ℕ, zero, suc}
-use Prim.Native.Char.{code}
-use Prim.Native.String.{String, [] as empty, _∷_ as _◂_}
+use Prim.Native.String.{String}
 use mathlib.Core.Path.{_≡_, refl}
 use mathlib.Core.List.{List, [], _∷_, _++_}
 use lib.ListN.{take}
+use Rattle.ascii.specs.Text.{text}
 use Rattle.refusal.specs.Numbers.{numbersOf, overLimit}
 use Rattle.lines.specs.Lines.{lines, chop, ends, contentOf, seqOf, sumBases, sumWidths, upFrom, basesAt}
 use Rattle.lines.specs.Groups.{groups}
@@ -36,11 +36,6 @@ use Rattle.wakeluri.specs.declared.answer.Answer.{Answer}
 use Rattle.wakeluri.specs.Answer.{fine, answerOf, boundOf, regionAnswer, writtenAnswer, complementAnswer, filledAnswer, verdictAnswer}
 use Rattle.wakeluri.specs.Told.{Told, tells, regionTold, writtenTold, complementTold, filledTold}
 use Rattle.demands.specs.Host.{joined}
-
--- the bytes of a text of ASCII characters
-abbrev pub text : String → List ℕ
-text empty = []
-text (c ◂ s) = code c ∷ text s
 
 -- ---- answers
 

@@ -11,5 +11,4 @@ pub mod Cut
 pub mod Numbers
 pub mod Laws
 pub mod RoundTrip
-pub mod Examples
 pub mod Quick

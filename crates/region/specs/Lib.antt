@@ -7,4 +7,3 @@ pub mod Copy
 pub mod Laws
 pub mod Dependence
 pub mod Changed
-pub mod Examples

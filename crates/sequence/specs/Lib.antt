@@ -2,4 +2,3 @@ pub mod Scan
 pub mod Read
 pub mod Laws
 pub mod Agree
-pub mod Examples
