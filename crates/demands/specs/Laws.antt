@@ -20,9 +20,6 @@ use Rattle.index_line.specs.declared.Written.the-variants as written
 use Rattle.index_line.specs.Fields.{textOf, Wrote, wrote, textWritten}
 use Rattle.index_line.specs.IndexLine.{numbersOf, nameIn, lineOf, writtenAs}
 use Rattle.index_line.specs.Writing.{text-known}
-use Rattle.fitting.specs.declared.Rule.{Rule}
-use Rattle.fitting.specs.declared.Rule.the-variants.{Strict, Complete}
-use Rattle.fitting.specs.Rules.{rowsIn, strict-in, complete-in}
 use Rattle.checker.specs.Accepts.{limit}
 use Rattle.checker.specs.declared.Verdict.{Verdict}
 use Rattle.checker.specs.declared.Verdict.the-variants as verdict
@@ -36,7 +33,6 @@ use Rattle.mission.specs.IndexedLaws.{Along, row-held}
 use Rattle.mission.specs.Leading.{lineIn, indexText, noRow, rowIn, LeadsTo, leading-at}
 use Rattle.mission.specs.TableOf.{recordCount, Gives, TableOf}
 use Rattle.mission.specs.TableLaws.{filled-table}
-use Rattle.mission.specs.Tables.{indexed-gives, fitted-gives, indexed-leads, fitted-leads}
 use Rattle.mission.specs.Asked.{Asked}
 use Rattle.mission.specs.Reads.{table-reads}
 use Rattle.demands.specs.NeverZero.{never-zero}
@@ -96,17 +92,6 @@ table-told f t n r start end out a out′ table small asked told =
     let e = rw (table-reads f t n r start end out table small asked) at told in
     let x = ap (λ (y : Told). y .answer) e in
     record { refusal = ap (λ (y : Answer). y .refusal) x; count = ap (λ (y : Answer). y .count) x; output = ap (λ (y : Told). y .bytes) e }
-
--- ---- by either rule
-
-module _ (f : List ℕ) (n : ℕ) where
-  pub rule-gives : (rule : Rule) → rowsIn rule f n .stop ≡ stop.Ended → Gives f (rowsIn rule f n) n
-  rule-gives Strict h = rw (strict-in f n) (indexed-gives f n (rw (strict-in f n) at h))
-  rule-gives Complete h = rw (complete-in f n) (fitted-gives f n (rw (complete-in f n) at h))
-
-  pub rule-leads : (rule : Rule) → rowsIn rule f n .stop ≡ stop.Ended → Along (LeadsTo f) 0 (groups (lines f)) (rowsIn rule f n .rows) (rowsIn rule f n .stop)
-  rule-leads Strict h = rw (strict-in f n) (indexed-leads f n (rw (strict-in f n) at h))
-  rule-leads Complete h = rw (complete-in f n) (fitted-leads f n (rw (complete-in f n) at h))
 
 -- ---- index lines that are written one after another
 

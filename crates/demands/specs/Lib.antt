@@ -3,5 +3,6 @@ pub mod Host
 pub mod NeverZero
 pub mod TableBytes
 pub mod Laws
+pub mod Chains
 pub mod AtTheEdge
 pub mod Marked

@@ -3,7 +3,7 @@
 --
 -- `Asked` says that the bounds, which may be absent, are inside record r of the file, and that there is room. `givesAsked` says the answer
 -- and the output. The table is what a call left: the whole-index call's of an accepted index (`accepted-reads`, `checked-reads`), or an
--- indexer's own, with no index text between (`indexed-reads`, and `fitted-reads` of the complete rule).
+-- indexer's own, by either rule, with no index text between (`indexed-reads`).
 use Prim.Native.Nat.{ℕ, _≤_}
 use mathlib.Core.Path.{_≡_, sym, _∙_}
 use mathlib.Core.List.{List}
@@ -16,8 +16,8 @@ use Rattle.table.specs.declared.Filled.{Filled}
 use Rattle.table.specs.declared.Stop.the-variants.{Ended}
 use Rattle.table.specs.Fill.{FilledAs}
 use Rattle.index.specs.Index.{indexIn}
-use Rattle.indexer.specs.File as ported
-use Rattle.fitting.specs.FitFile as complete
+use Rattle.fitting.specs.declared.Rule.{Rule}
+use Rattle.fitting.specs.Rules.{rowsIn}
 use Rattle.region.specs.declared.Bound.{Bound}
 use Rattle.region.specs.Exact.{exactRead}
 use Rattle.checker.specs.Accepts.{limit, Accepts}
@@ -26,7 +26,7 @@ use Rattle.checker.specs.Exactly.{accepted-only-if}
 use Rattle.checker.specs.declared.Verdict.the-variants.{Accepted}
 use Rattle.mission.specs.TableOf.{recordCount, TableOf}
 use Rattle.mission.specs.Asked.{Asked, givesAsked}
-use Rattle.mission.specs.Tables.{indexed-gives, fitted-gives, accepted-table, indexed-table, fitted-table}
+use Rattle.mission.specs.Tables.{indexed-gives, accepted-table, indexed-table}
 use Rattle.mission.specs.ReadsLaws.{row-reads}
 
 -- of any table of the file's records
@@ -47,10 +47,8 @@ module _ (f t t′ : List ℕ) (told : Filled) (r : ℕ) (a e : Bound) (out : Li
       → Asked f r a e out → exactRead f t′ (told .rows) r a e out ≡ givesAsked f r a e out
   checked-reads i h = accepted-reads i (accepted-only-if f i h)
 
-  -- of the table that the indexer fills with a file that it takes to its end
-  pub indexed-reads : FilledAs (ported.fileIn f (rowCount t)) t t′ told → told .stop ≡ Ended → Asked f r a e out → exactRead f t′ (told .rows) r a e out ≡ givesAsked f r a e out
-  indexed-reads filled ended = table-reads f t′ (told .rows) r a e out (indexed-table f t t′ told filled ended) (indexed-gives f (rowCount t) (sym (filled .stop) ∙ ended) .small)
-
-  -- the same by the complete rule
-  pub fitted-reads : FilledAs (complete.fileIn f (rowCount t)) t t′ told → told .stop ≡ Ended → Asked f r a e out → exactRead f t′ (told .rows) r a e out ≡ givesAsked f r a e out
-  fitted-reads filled ended = table-reads f t′ (told .rows) r a e out (fitted-table f t t′ told filled ended) (fitted-gives f (rowCount t) (sym (filled .stop) ∙ ended) .small)
+  -- of the table that an indexer fills, by either rule, with a file that it takes to its end
+  pub indexed-reads : (rule : Rule) → FilledAs (rowsIn rule f (rowCount t)) t t′ told → told .stop ≡ Ended
+      → Asked f r a e out → exactRead f t′ (told .rows) r a e out ≡ givesAsked f r a e out
+  indexed-reads rule filled ended =
+      table-reads f t′ (told .rows) r a e out (indexed-table f t t′ told rule filled ended) (indexed-gives rule f (rowCount t) (sym (filled .stop) ∙ ended) .small)

@@ -22,8 +22,9 @@ use Rattle.table.specs.declared.Stop.the-variants.{Ended}
 use Rattle.table.specs.Fill.{FilledAs}
 use Rattle.index_line.specs.IndexLine.{nameIn}
 use Rattle.index.specs.Index.{indexAt, indexIn}
-use Rattle.indexer.specs.File as ported
-use Rattle.fitting.specs.FitFile as complete
+use Rattle.fitting.specs.declared.Rule.{Rule}
+use Rattle.fitting.specs.declared.Rule.the-variants.{Strict, Complete}
+use Rattle.fitting.specs.Rules.{rowsBy, rowsIn}
 use Rattle.region.specs.declared.Bound.{Bound}
 use Rattle.region.specs.Region.{Outcome, refuses}
 use Rattle.region.specs.Exact.{exactOf, exactRead}
@@ -33,46 +34,33 @@ use Rattle.checker.specs.Check.{spanOf, checkOf}
 use Rattle.checker.specs.Exactly.{accepted-only-if}
 use Rattle.checker.specs.declared.Verdict.the-variants.{Accepted}
 use Rattle.mission.specs.IndexedLaws.{Along}
-use Rattle.mission.specs.IndexedLaws as ported-laws
 use Rattle.mission.specs.Leading.{rowIn, LeadsTo}
 use Rattle.mission.specs.Indexed.{file-leads}
 use Rattle.mission.specs.Fitted.{rows-lead}
-use Rattle.mission.specs.Fitted as complete-laws
 use Rattle.mission.specs.TableOf.{recordCount, Gives, TableOf}
-use Rattle.mission.specs.TableLaws.{accepted-gives, row-named, leading-rows, filled-table}
+use Rattle.mission.specs.TableLaws.{taken-by, accepted-gives, row-named, leading-rows, filled-table}
 
--- ---- what the indexers' calls find
+-- ---- an indexer's rows, by either rule
 
-pub indexed-gives : (f : List ℕ) (n : ℕ) → ported.fileIn f n .stop ≡ Ended → Gives f (ported.fileIn f n) n
-indexed-gives f n h =
-    let t = ported-laws.taken f n h in
-    let e = rw (t .whole) at h in
-    rw (t .whole) (record { small = t .fits; stop = e; rows = leading-rows f (ported.fileAt f 0 .rows) (ported.fileAt f 0 .stop) (file-leads f) e (t .fits); room = t .room })
+pub indexed-leads : (rule : Rule) (f : List ℕ) → Along (LeadsTo f) 0 (groups (lines f)) (rowsBy rule f 0 .rows) (rowsBy rule f 0 .stop)
+unfolding rowsBy
+indexed-leads Strict f = file-leads f
+indexed-leads Complete f = rows-lead f
 
-pub fitted-gives : (f : List ℕ) (n : ℕ) → complete.fileIn f n .stop ≡ Ended → Gives f (complete.fileIn f n) n
-fitted-gives f n h =
-    let t = complete-laws.taken f n h in
-    let e = rw (t .whole) at h in
-    rw (t .whole) (record { small = t .fits; stop = e; rows = leading-rows f (complete.fileAt f 0 .rows) (complete.fileAt f 0 .stop) (rows-lead f) e (t .fits); room = t .room })
+-- what its call finds, if it takes the file to its end
+pub indexed-gives : (rule : Rule) (f : List ℕ) (n : ℕ) → rowsIn rule f n .stop ≡ Ended → Gives f (rowsIn rule f n) n
+indexed-gives rule f n h =
+    let t = taken-by rule f n h in
+    rw (t .whole) (record { small = t .fits; stop = t .ended; rows = leading-rows f (rowsBy rule f 0 .rows) (rowsBy rule f 0 .stop) (indexed-leads rule f) (t .ended) (t .fits); room = t .room })
 
--- their rows lead to the bases of the file's records
-pub indexed-leads : (f : List ℕ) (n : ℕ) → ported.fileIn f n .stop ≡ Ended → Along (LeadsTo f) 0 (groups (lines f)) (ported.fileIn f n .rows) (ported.fileIn f n .stop)
-indexed-leads f n h = rw (ported-laws.taken f n h .whole) (file-leads f)
-
-pub fitted-leads : (f : List ℕ) (n : ℕ) → complete.fileIn f n .stop ≡ Ended → Along (LeadsTo f) 0 (groups (lines f)) (complete.fileIn f n .rows) (complete.fileIn f n .stop)
-fitted-leads f n h = rw (complete-laws.taken f n h .whole) (rows-lead f)
-
--- ---- the tables that they leave
+-- ---- the tables that the calls leave
 
 module _ (f t t′ : List ℕ) (told : Filled) where
   pub accepted-table : (i : List ℕ) → Accepts f i → FilledAs (indexIn i (rowCount t)) t t′ told → recordCount f ≤ rowCount t → TableOf f t′ (told .rows)
   accepted-table i a filled enough = filled-table f t t′ _ told (accepted-gives f i a (rowCount t) enough) filled
 
-  pub indexed-table : FilledAs (ported.fileIn f (rowCount t)) t t′ told → told .stop ≡ Ended → TableOf f t′ (told .rows)
-  indexed-table filled e = filled-table f t t′ _ told (indexed-gives f (rowCount t) (sym (filled .stop) ∙ e)) filled
-
-  pub fitted-table : FilledAs (complete.fileIn f (rowCount t)) t t′ told → told .stop ≡ Ended → TableOf f t′ (told .rows)
-  fitted-table filled e = filled-table f t t′ _ told (fitted-gives f (rowCount t) (sym (filled .stop) ∙ e)) filled
+  pub indexed-table : (rule : Rule) → FilledAs (rowsIn rule f (rowCount t)) t t′ told → told .stop ≡ Ended → TableOf f t′ (told .rows)
+  indexed-table rule filled e = filled-table f t t′ _ told (indexed-gives rule f (rowCount t) (sym (filled .stop) ∙ e)) filled
 
 -- the name of row r of an accepted index, a span of the index, has the bytes of the name in record r's definition line
 pub accepted-names : (f i : List ℕ) (a : Accepts f i) (r : ℕ) (h : r < recordCount f)
