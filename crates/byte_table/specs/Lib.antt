@@ -7,4 +7,3 @@ pub mod RowLaws
 pub mod ReadLaws
 pub mod FindLaws
 pub mod FillLaws
-pub mod Examples

@@ -1,6 +1,5 @@
 pub mod Check
 pub mod Steps
-pub mod Examples
 pub mod Accepts
 pub mod FirstFault
 pub mod Said

@@ -4,5 +4,4 @@ pub mod Kinds
 pub mod Laws
 pub mod KindLaws
 pub mod Inverse
-pub mod Examples
 pub mod Table

@@ -40,6 +40,10 @@ unfoldable pub keep : (ℕ → Bool) → List ℕ → ℕ
 keep p [] = 0
 keep p (b ∷ s) = kept (p b) (keep p s)
 
+-- some bytes with the whitespace at both ends trimmed, by their place among them
+abbrev pub trim : List ℕ → Span
+trim s = record { start = run (spaced true) s; length = keep isSpace (drop (run (spaced true) s) s) }
+
 -- a description's place; 0 and 0 where it has no bytes
 abbrev pub described : ℕ → ℕ → Span
 described at zero = record { start = 0; length = 0 }
@@ -52,7 +56,7 @@ namedOf s (suc n) =
     Named
     (record {
       name = record { start = 1; length = suc n };
-      description = described (suc (suc n) + run (spaced true) (drop (suc n) s)) (keep isSpace (drop (run (spaced true) (drop (suc n) s)) (drop (suc n) s)));
+      description = described (suc (suc n) + trim (drop (suc n) s) .start) (trim (drop (suc n) s) .length);
     })
 
 -- what the content of a line says: the name is what follows '>', up to the first whitespace

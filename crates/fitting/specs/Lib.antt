@@ -1,6 +1,5 @@
 pub mod Fit
 pub mod FitFile
-pub mod Marked
 pub mod Leads
 pub mod Sound
 pub mod FirstLine

@@ -13,5 +13,4 @@ pub mod Numbers
 pub mod Laws
 pub mod RoundTrip
 pub mod PlainAgain
-pub mod Examples
 pub mod Quick

@@ -1,8 +1,10 @@
 -- The fed indexer on small files, cut between CR and LF, in a name, behind an LF and byte by byte, each with the rows that it has before the
 -- end call and those of the end: one table, one proof.
 use Prim.Native.Nat.{ℕ}
+use Prim.Native.String.{String}
 use mathlib.Core.Path.{_≡_, refl}
 use mathlib.Core.List.{List, [], _∷_, map}
+use Rattle.ascii.specs.Text.{text}
 use Rattle.refusal.specs.declared.Refusal.the-variants.{NoBases, TableFull}
 use Rattle.lines.specs.Lines.{lines, chop, ends}
 use Rattle.lines.specs.Feeding.{FedSum, absorbSum, absorbSums, feedSum, feedSums, finishSum}
@@ -19,26 +21,23 @@ record Answer : Type 0 where
   numbers : List ℕ
   stop : Stop
 
-abbrev fed : ℕ → List (List ℕ) → FedSum State Sum
-fed all ps = feedSums (sums all) (record { state = start all; held = sumOf [] }) ps
+abbrev fed : ℕ → List String → FedSum State Sum
+fed all ps = feedSums (sums all) (record { state = start all; held = sumOf [] }) (map text ps)
 
-abbrev answerOf : ℕ → List (List ℕ) → Answer
+abbrev answerOf : ℕ → List String → Answer
 answerOf all ps = record {
   before = words (fed all ps .state .rows);
   numbers = words (found (finishSum (sums all) (fed all ps)) .rows);
   stop = found (finishSum (sums all) (fed all ps)) .stop;
 }
 
-unfoldable files : List (List (List ℕ))
+unfoldable files : List (List String)
 files =
-    -- >s ACGT CR | LF AC
-    ((62 ∷ 115 ∷ 10 ∷ 65 ∷ 67 ∷ 71 ∷ 84 ∷ 13 ∷ []) ∷ (10 ∷ 65 ∷ 67 ∷ []) ∷ [])
-    -- >s | q x, A; | nothing | >t, C
-    ∷ ((62 ∷ 115 ∷ []) ∷ (113 ∷ 32 ∷ 120 ∷ 10 ∷ 65 ∷ 10 ∷ []) ∷ [] ∷ (62 ∷ 116 ∷ 10 ∷ 67 ∷ 10 ∷ []) ∷ [])
-    -- >s, | >t: the missing line shows with the byte behind the LF
-    ∷ ((62 ∷ 115 ∷ 10 ∷ []) ∷ (62 ∷ []) ∷ [])
-    -- > | s | LF | A | LF | >
-    ∷ ((62 ∷ []) ∷ (115 ∷ []) ∷ (10 ∷ []) ∷ (65 ∷ []) ∷ (10 ∷ []) ∷ (62 ∷ []) ∷ (116 ∷ []) ∷ (10 ∷ []) ∷ (67 ∷ []) ∷ [])
+    (">s\nACGT\r" ∷ "\nAC" ∷ [])
+    ∷ (">s" ∷ "q x\nA\n" ∷ "" ∷ ">t\nC\n" ∷ [])
+    -- the missing line shows with the byte behind the LF
+    ∷ (">s\n" ∷ ">" ∷ [])
+    ∷ (">" ∷ "s" ∷ "\n" ∷ "A" ∷ "\n" ∷ ">" ∷ "t" ∷ "\n" ∷ "C" ∷ [])
     ∷ []
 
 unfoldable answers : List Answer

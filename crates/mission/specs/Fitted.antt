@@ -26,7 +26,7 @@ use Rattle.definition.specs.declared.Parsed.{Parsed}
 use Rattle.definition.specs.declared.Parsed.the-variants.{Named, Bad}
 use Rattle.record.specs.EvenLines.{length-basesAt}
 use Rattle.record.specs.declared.Record.{Record}
-use Rattle.table.specs.Fill.{Found, nothing, withFirst}
+use Rattle.table.specs.Fill.{Found, nothing, withFirst, heldIn}
 use Rattle.table.specs.Laws.{held-all}
 use Rattle.table.specs.declared.Stop.the-variants as stop
 use Rattle.index_line.specs.IndexLine.{nameIn}
@@ -45,9 +45,10 @@ use Rattle.fitting.specs.FirstLine.{Broken, broken-here}
 use Rattle.fitting.specs.Even.{Same, even-same}
 use Rattle.checker.specs.Accepts.{bytesOf, recordAt, sequenceAt, limit, Matches, Accepts}
 use Rattle.checker.specs.Check.{checkOf}
-use Rattle.checker.specs.Exactly.{accepted-only-if}
+use Rattle.checker.specs.Exactly.{accepted-if, accepted-only-if}
 use Rattle.checker.specs.declared.Verdict.the-variants.{Accepted}
-use Rattle.mission.specs.IndexedLaws.{name-spaceless, name-bytes, sequence-within, FirstGroup, first-group, good-even, taken, Along, at-end, refused, row, along-all}
+use Rattle.mission.specs.IndexedLaws.{name-spaceless, name-bytes, sequence-within, FirstGroup, first-group, good-even, Along, at-end, refused, row, along-all, held-ended, within-ended}
+use Rattle.mission.specs.IndexedLaws as ported-laws
 use Rattle.mission.specs.Leading.{indexText, LeadsTo, leading-accepted}
 
 -- ---- the rows that it gives lead to every base
@@ -114,6 +115,28 @@ rows-lead f = along-groups f (groups (lines f)) 0 refl
 -- so the index lines of a file that is taken to its end are accepted, if they too are within the limit
 pub fits-accepted : (f : List ℕ) → length f ≤ limit → fileAt f 0 .stop ≡ stop.Ended → length (indexText f (fileAt f 0 .rows)) ≤ limit → Accepts f (indexText f (fileAt f 0 .rows))
 fits-accepted f m e n = leading-accepted f (fileAt f 0 .rows) (fileAt f 0 .stop) (rows-lead f) e m n
+
+-- ---- a file that the call takes to its end
+
+-- it is within the limit, the table has room for its rows, and they are all
+pub record Taken (f : List ℕ) (n : ℕ) : Type 0 where
+  pub fits : length f ≤ limit
+  pub room : length (fileAt f 0 .rows) ≤ n
+  pub whole : fileIn f n ≡ fileAt f 0
+  pub ended : fileAt f 0 .stop ≡ stop.Ended
+
+pub taken : (f : List ℕ) (n : ℕ) → fileIn f n .stop ≡ stop.Ended → Taken f n
+unfolding fileIn overLimit
+taken f n h =
+    let w = within-ended (length f) (heldIn n n (fileAt f 0)) h in
+    let r = held-ended n (fileAt f 0) (w .1) in
+    let a = held-all n n (fileAt f 0) r in
+    record { fits = w .0; room = r; whole = rw (le-ltb _ _ (w .0)) a; ended = rw a at (w .1) }
+
+pub call-fits-accepted : (f : List ℕ) (n : ℕ) → fileIn f n .stop ≡ stop.Ended → length (indexText f (fileIn f n .rows)) ≤ limit → checkOf f (indexText f (fileIn f n .rows)) ≡ Accepted
+call-fits-accepted f n h m =
+    let t = taken f n h in
+    rw (t .whole) (accepted-if f (indexText f (fileAt f 0 .rows)) (fits-accepted f (t .fits) (t .ended) (rw (t .whole) at m)))
 
 -- ---- a record that a line leads to is taken
 
@@ -239,4 +262,4 @@ module _ (f : List ℕ) where
   -- and so do the calls, with a table of n rows
   pub calls-agree : (n : ℕ) → ported-file.fileIn f n .stop ≡ stop.Ended → fileIn f n ≡ ported-file.fileIn f n
   unfolding fileIn ported-file.fileIn
-  calls-agree n h = rw (files-agree (rw (taken f n h .whole) at h))
+  calls-agree n h = rw (files-agree (rw (ported-laws.taken f n h .whole) at h))

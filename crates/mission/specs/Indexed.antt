@@ -120,7 +120,7 @@ file-described : (f : List ℕ) → Along (Describes f) 0 (groups (lines f)) (fi
 file-described f = along-file (Describes f) f (described f)
 
 -- so they lead to their bases
-file-leads : (f : List ℕ) → Along (LeadsTo f) 0 (groups (lines f)) (fileAt f 0 .rows) (fileAt f 0 .stop)
+pub file-leads : (f : List ℕ) → Along (LeadsTo f) 0 (groups (lines f)) (fileAt f 0 .rows) (fileAt f 0 .stop)
 file-leads f = along-map (λ start g x d. leads-to d) (file-described f)
 
 -- its rows describe its records

@@ -2,9 +2,10 @@ pub mod IndexedLaws
 pub mod Leading
 pub mod Indexed
 pub mod Fitted
+pub mod TableOf
+pub mod TableLaws
+pub mod Tables
+pub mod Asked
 pub mod ReadsLaws
 pub mod Reads
-pub mod FittedReads
-pub mod Tables
 pub mod Mending
-pub mod Marked

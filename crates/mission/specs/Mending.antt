@@ -14,7 +14,6 @@ use borrow.Author.Tests.{ltb-true, ltb-false}
 use native.Mathlib.Omega.{arith}
 use Rattle.refusal.specs.Numbers.{overLimit}
 use Rattle.refusal.specs.declared.Refusal.the-variants.{TooLong}
-use Rattle.lines.specs.Lines.{lines}
 use Rattle.record.specs.declared.Record.{Record}
 use Rattle.record.specs.declared.Held.the-variants as held
 use Rattle.record.specs.Bases.{byteAt}
@@ -30,7 +29,8 @@ use Rattle.region.specs.Dependence.{InRegion, exact-same}
 use Rattle.region.specs.Changed.{changedAt, changed-refused, exact-changed}
 use Rattle.checker.specs.Accepts.{Accepts}
 use Rattle.checker.specs.Mended.{BaseAt, Plain, records-count, record-same, place-same, byte-here, byte-other}
-use Rattle.mission.specs.Tables.{baseCount, RowOf, TableOf, accepted-table}
+use Rattle.mission.specs.TableOf.{recordCount, baseCount, RowOf, TableOf}
+use Rattle.mission.specs.Tables.{accepted-table}
 
 -- the read of row r with these bounds covers base j + 1 of record k
 pub record Covers (f : List ℕ) (k j r : ℕ) (a e : Bound) : Type 0 where
@@ -115,9 +115,9 @@ module _ (f : List ℕ) (k j o b : ℕ) (base : BaseAt f k j o) (plain : Plain b
         go false = read
 
   -- the same of the table that the whole-index call leaves of an accepted index
-  module _ (i t t′ : List ℕ) (told : Filled) (accepted : Accepts f i) (filled : FilledAs (indexIn i (rowCount t)) t t′ told) (enough : length (lines i) ≤ rowCount t) (r : ℕ) (a e : Bound) (out : List ℕ) where
+  module _ (i t t′ : List ℕ) (told : Filled) (accepted : Accepts f i) (filled : FilledAs (indexIn i (rowCount t)) t t′ told) (enough : recordCount f ≤ rowCount t) (r : ℕ) (a e : Bound) (out : List ℕ) where
     pub pair-elsewhere : (Covers f k j r a e → ⊥) → exactRead (set f o b) t′ (told .rows) r a e out ≡ exactRead f t′ (told .rows) r a e out
-    pair-elsewhere = mended-elsewhere t′ (told .rows) (accepted-table f i t t′ told accepted filled enough) r a e out
+    pair-elsewhere = mended-elsewhere t′ (told .rows) (accepted-table f t t′ told i accepted filled enough) r a e out
 
     pub pair-here : Covers f k j r a e → exactRead (set f o b) t′ (told .rows) r a e out ≡ changedAt (suc j - startOf a) b (exactRead f t′ (told .rows) r a e out)
-    pair-here = mended-here t′ (told .rows) (accepted-table f i t t′ told accepted filled enough) r a e out
+    pair-here = mended-here t′ (told .rows) (accepted-table f t t′ told i accepted filled enough) r a e out

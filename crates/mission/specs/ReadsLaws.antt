@@ -1,75 +1,34 @@
--- Laws for Reads.antt: the rows of an index whose lines all read, and the bytes of a record's bases.
+-- Laws for Reads.antt: the bytes of a record's bases, and the exact read of a row that is about a record.
 use Prim.Native.Nat.{ℕ, zero, suc, _+_, _-_, _≤_, _<_}
 use mathlib.Core.Path.{_≡_, refl, ap, sym, _∙_}
 use mathlib.Core.List.{List, [], _∷_, _++_, map}
+use mathlib.Core.Bool.{Bool, true, false}
 use lib.ListN.{length, take, drop, getD, length-drop, length-append, List·getD-append}
 use lib.Seq.{ext-getD, getD-take, getD-drop, length-take-le, take-nil, getD-append-add}
 use lib.Dec.{ltb}
-use mathlib.Core.Bool.{Bool, true, false}
 use borrow.Author.Tests.{ltb-true, ltb-false}
 use native.Mathlib.Omega.{arith}
-use native.Mathlib.Nat.{add-zero}
-use Rattle.lines.specs.Lines.{lines, chop, basesOf, seqAt, allBases, sumBases, sumWidths, upFrom, basesAt}
+use Rattle.lines.specs.Lines.{chop, basesOf, seqAt, allBases, sumBases, sumWidths, upFrom, basesAt}
 use Rattle.lines.specs.Laws.{chop-le}
-use Rattle.record.specs.declared.Record.{Record}
-use Rattle.record.specs.EvenLines.{length-upFrom, getD-upFrom, length-basesAt}
-use Rattle.record.specs.Bases.{byteAt, bases-bytes}
-use Rattle.table.specs.Fill.{Found, withFirst}
-use Rattle.table.specs.declared.Stop.the-variants.{Ended}
-use Rattle.index_line.specs.IndexLine.{lineSays}
-use Rattle.index_line.specs.declared.Entry.{Entry}
-use Rattle.index_line.specs.declared.LineRead.the-variants.{Row}
-use Rattle.index.specs.Index.{placedAt, linesSay}
 use Rattle.lines.specs.Sums.{widths-within}
-
-suc-shift : (n k : ℕ) → suc n + k ≡ n + suc k
-suc-shift n k = omega arith
-
--- ---- the rows of an index whose lines all read
-
--- line number n of an index reads
-pub record Reads (n : ℕ) (l : List ℕ) : Type 0 where
-  pub entry : Entry
-  pub reads : lineSays n l ≡ Row entry
-
--- the lines from number n on all read
-abbrev pub AllRead : ℕ → List (List ℕ) → Type 0
-AllRead n ls = (k : ℕ) → k < length ls → Reads (n + k) (getD ls k [])
-
--- their rows: as many as lines, and row k is what line k says, its name placed somewhere in the text
-pub record RowsOf (n : ℕ) (ls : List (List ℕ)) (f : Found) : Type 0 where
-  pub stop : f .stop ≡ Ended
-  pub count : length (f .rows) ≡ length ls
-  pub place : ℕ → ℕ
-  pub row : (d : Record) (k : ℕ) → k < length ls → (e : Entry) → lineSays (n + k) (getD ls k []) ≡ Row e → getD (f .rows) k d ≡ placedAt (place k) (e .«record»)
-
--- the lines behind the first
-behind : (n : ℕ) (l : List ℕ) (ls : List (List ℕ)) → AllRead n (l ∷ ls) → AllRead (suc n) ls
-behind n l ls read k h = let r = read (suc k) (omega arith) in record { entry = r .entry; reads = rw (suc-shift n k) (r .reads) }
-
-abbrev shift : ℕ → (ℕ → ℕ) → ℕ → ℕ
-shift at f zero = at
-shift at f (suc k) = f k
-
--- a first line, and rows of those behind it
-more-rows : (n at : ℕ) (l : List ℕ) (ls : List (List ℕ)) (e : Entry) (f : Found) → lineSays n l ≡ Row e → RowsOf (suc n) ls f → RowsOf n (l ∷ ls) (withFirst (placedAt at (e .«record»)) f)
-more-rows n at l ls e f q r = record { stop = r .stop; count = ap suc (r .count); place = shift at (r .place); row = row }
-  where
-    row : (d : Record) (k : ℕ) → k < length (l ∷ ls) → (x : Entry) → lineSays (n + k) (getD (l ∷ ls) k []) ≡ Row x
-        → getD (placedAt at (e .«record») ∷ f .rows) k d ≡ placedAt (shift at (r .place) k) (x .«record»)
-    row d zero h x p =
-        let z : lineSays n l ≡ Row x = rw (add-zero n) at p in
-        let s : e ≡ x = cc in
-        rw s
-    row d (suc k) h x p = r .row d k (omega arith) x (rw (suc-shift n k) p)
-
-pub rows-of : (ls : List (List ℕ)) (n at : ℕ) → AllRead n ls → RowsOf n ls (linesSay n at ls)
-unfolding linesSay
-rows-of [] n at read = record { stop = refl; count = refl; place = λ k. 0; row = λ d k h e q. absurd (omega arith) }
-rows-of (l ∷ ls) n at read =
-    let r = read 0 (omega arith) in
-    let e : lineSays n l ≡ Row (r .entry) = rw (add-zero n) at (r .reads) in
-    rw e (more-rows n at l ls (r .entry) (linesSay (suc n) (at + length l) ls) e (rows-of ls (suc n) (at + length l) (behind n l ls read)))
+use Rattle.record.specs.declared.Record.{Record}
+use Rattle.record.specs.declared.Held.the-variants as held
+use Rattle.record.specs.Place.{placeIn}
+use Rattle.record.specs.Bases.{byteAt, bases-bytes}
+use Rattle.record.specs.EvenLines.{length-upFrom, getD-upFrom, length-basesAt}
+use Rattle.record.specs.Laws.{length-places, getD-places}
+use Rattle.region.specs.declared.Bound.{Bound}
+use Rattle.region.specs.declared.RegionRead.the-variants.{Bytes}
+use Rattle.region.specs.Region.{leaves, startOf, endOf, basesTo}
+use Rattle.region.specs.Exact.{offsetsOf, exactOf}
+use Rattle.region.specs.Laws.{good-bounds}
+use Rattle.region.specs.Dependence.{exact-reads}
+use Rattle.checker.specs.Accepts.{recordAt, sequenceAt}
+use Rattle.checker.specs.Sequences.{sequence-here, sequence-inside}
+use Rattle.mission.specs.TableOf.{recordCount, baseCount, RowOf}
+use Rattle.mission.specs.Asked.{basesBetween, lastOf, askedCount, Asked, givesAsked}
+use Rattle.lines.specs.Lines.{lines}
+use Rattle.lines.specs.Groups.{groups}
 
 -- ---- the bytes of a record's bases
 
@@ -129,3 +88,31 @@ module _ (f : List ℕ) (at : ℕ) (ls : List (List ℕ)) (h : at ≤ length f) 
       ap (map (byteAt f)) (taken-same os (basesAt at ls) i n (omega (arith, length-basesAt at ls)) l e)
       ∙ map-part (byteAt f) i n (basesAt at ls)
       ∙ ap (λ (xs : List ℕ). take n (drop i xs)) (bases-bytes f ls at h q)
+
+-- ---- a row that is about record r of a file
+
+module _ (f : List ℕ) (r : ℕ) (h : r < recordCount f) (x : Record) (about : RowOf f r x) where
+  -- its bases from a to e lie in the file, and their bytes are the record's bases
+  module _ (a e : ℕ) (from-one : 1 ≤ a) (in-order : a ≤ e) (inside : e ≤ baseCount f r) where
+    in-file : (p : ℕ) → a ≤ p → p ≤ e → placeIn x (p - 1) < length f
+    in-file p u v =
+        let j : p - 1 < baseCount f r = omega arith in
+        rw (about .places (p - 1) j) (base-inside f (sequenceAt (groups (lines f)) r) (recordAt (groups (lines f)) r .seq) (sequence-inside f r h) (sequence-here f r h) (p - 1) j)
+
+    bytes : map (byteAt f) (offsetsOf x a (basesTo a e)) ≡ basesBetween f r a e
+    unfolding basesBetween
+    bytes =
+        bases-part f (sequenceAt (groups (lines f)) r) (recordAt (groups (lines f)) r .seq) (sequence-inside f r h) (sequence-here f r h)
+        (offsetsOf x a (basesTo a e)) (a - 1) (basesTo a e) (omega arith) (length-places _ _ _ (a - 1) (basesTo a e))
+        (λ k m. getD-places (x .position .0) (x .«line_bases») (x .«line_width») (a - 1) (basesTo a e) k m ∙ about .places (a - 1 + k) (omega arith))
+
+  -- so the exact read of it gives just those that are asked for
+  pub row-reads : (a e : Bound) (out : List ℕ) → Asked f r a e out → exactOf (length f) (byteAt f) (held.Row x) a e out ≡ givesAsked f r a e out
+  row-reads a e out q =
+      let c : x .length ≡ baseCount f r = about .count in
+      let g = good-bounds a e (baseCount f r) (q .bounds) in
+      let o = g .in-order (q .start) in
+      exact-reads (length f) (byteAt f) x a e out
+      (record { bounds = q .bounds; start = rw c (q .start); end = rw c (q .end); room = rw c (q .room); inside = rw c (in-file (startOf a) (lastOf f r e) (g .from-one) o (q .end)) })
+      ∙ ap (λ (n : ℕ). leaves (Bytes (basesTo (startOf a) (endOf n e))) (map (byteAt f) (offsetsOf x (startOf a) (basesTo (startOf a) (endOf n e))) ++ drop (basesTo (startOf a) (endOf n e)) out)) c
+      ∙ ap (λ (bs : List ℕ). leaves (Bytes (askedCount f r a e)) (bs ++ drop (askedCount f r a e) out)) (bytes (startOf a) (lastOf f r e) (g .from-one) o (q .end))

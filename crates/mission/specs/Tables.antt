@@ -1,82 +1,71 @@
--- The table of an accepted pair: what the whole-index call leaves, said of the file alone. Row r is about record r; it has the record's
--- count of bases, and the place of each. Two such tables are read alike, whatever indexes they came from.
+-- The table that a call leaves is one of the file's records (`TableOf`): the whole-index call's of an accepted index, with room for a row for
+-- each record; and the table that either indexer leaves of a file that it takes to its end. The name of an accepted index's row is its
+-- record's: `accepted-names`.
+--
+-- Two tables of one file are read alike, whatever indexes they came from: `tables-agree`, `indexes-agree`.
 use Prim.Native.Nat.{ℕ, _≤_, _<_}
 use mathlib.Core.Path.{_≡_, refl, ap, sym, _∙_}
 use mathlib.Core.List.{List}
 use mathlib.Core.Bool.{Bool, true, false, cond}
-use lib.ListN.{length, getD}
+use lib.ListN.{length}
 use lib.Dec.{ltb}
 use borrow.Author.Tests.{ltb-true, ltb-false}
 use native.Mathlib.Omega.{arith}
 use Rattle.refusal.specs.Numbers.{overLimit}
 use Rattle.refusal.specs.declared.Refusal.the-variants.{TooLong}
-use Rattle.lines.specs.Lines.{lines, sumBases, basesAt}
+use Rattle.lines.specs.Lines.{lines}
 use Rattle.lines.specs.Groups.{groups}
-use Rattle.record.specs.declared.Record.{Record}
-use Rattle.record.specs.declared.Held.the-variants as held
 use Rattle.record.specs.Bases.{byteAt}
-use Rattle.record.specs.Place.{placeIn}
-use Rattle.record.specs.Row.{rowCount, withRows, badRow, heldAt}
-use Rattle.record.specs.Laws.{held-unused, rowCount-rows}
+use Rattle.record.specs.Row.{rowCount, heldAt}
 use Rattle.table.specs.declared.Filled.{Filled}
+use Rattle.table.specs.declared.Stop.the-variants.{Ended}
 use Rattle.table.specs.Fill.{FilledAs}
+use Rattle.index_line.specs.IndexLine.{nameIn}
 use Rattle.index.specs.Index.{indexAt, indexIn}
+use Rattle.fitting.specs.declared.Rule.{Rule}
+use Rattle.fitting.specs.declared.Rule.the-variants.{Strict, Complete}
+use Rattle.fitting.specs.Rules.{rowsBy, rowsIn}
 use Rattle.region.specs.declared.Bound.{Bound}
 use Rattle.region.specs.Region.{Outcome, refuses}
 use Rattle.region.specs.Exact.{exactOf, exactRead}
 use Rattle.region.specs.Dependence.{exact-alike}
-use Rattle.checker.specs.Accepts.{recordAt, sequenceAt, Accepts}
-use Rattle.checker.specs.Check.{checkOf}
+use Rattle.checker.specs.Accepts.{recordAt, Accepts}
+use Rattle.checker.specs.Check.{spanOf, checkOf}
 use Rattle.checker.specs.Exactly.{accepted-only-if}
 use Rattle.checker.specs.declared.Verdict.the-variants.{Accepted}
-use Rattle.mission.specs.IndexedLaws.{index-whole}
-use Rattle.mission.specs.Reads as reads
+use Rattle.mission.specs.IndexedLaws.{Along}
+use Rattle.mission.specs.Leading.{rowIn, LeadsTo}
+use Rattle.mission.specs.Indexed.{file-leads}
+use Rattle.mission.specs.Fitted.{rows-lead}
+use Rattle.mission.specs.TableOf.{recordCount, Gives, TableOf}
+use Rattle.mission.specs.TableLaws.{taken-by, accepted-gives, row-named, leading-rows, filled-table}
 
--- how many bases record r of a file has, and where base j + 1 of it lies, by the line rule
-abbrev pub baseCount : List ℕ → ℕ → ℕ
-baseCount f r = sumBases (recordAt (groups (lines f)) r .seq)
+-- ---- an indexer's rows, by either rule
 
-abbrev pub basePlace : List ℕ → ℕ → ℕ → ℕ
-basePlace f r j = getD (basesAt (sequenceAt (groups (lines f)) r) (recordAt (groups (lines f)) r .seq)) j 0
+pub indexed-leads : (rule : Rule) (f : List ℕ) → Along (LeadsTo f) 0 (groups (lines f)) (rowsBy rule f 0 .rows) (rowsBy rule f 0 .stop)
+unfolding rowsBy
+indexed-leads Strict f = file-leads f
+indexed-leads Complete f = rows-lead f
 
--- a row is about record r of a file
-pub record RowOf (f : List ℕ) (r : ℕ) (x : Record) : Type 0 where
-  pub count : x .length ≡ baseCount f r
-  pub places : (j : ℕ) → j < baseCount f r → placeIn x j ≡ basePlace f r j
+-- what its call finds, if it takes the file to its end
+pub indexed-gives : (rule : Rule) (f : List ℕ) (n : ℕ) → rowsIn rule f n .stop ≡ Ended → Gives f (rowsIn rule f n) n
+indexed-gives rule f n h =
+    let t = taken-by rule f n h in
+    rw (t .whole) (record { small = t .fits; stop = t .ended; rows = leading-rows f (rowsBy rule f 0 .rows) (rowsBy rule f 0 .stop) (indexed-leads rule f) (t .ended) (t .fits); room = t .room })
 
--- row r of a table with n rows in use holds such a row
-pub record Holds (f t : List ℕ) (n r : ℕ) : Type 0 where
-  pub row : Record
-  pub held : heldAt t n r ≡ held.Row row
-  pub about : RowOf f r row
+-- ---- the tables that the calls leave
 
--- a table has n rows in use, one for each record of a file and about it; beyond them there is none
-pub record TableOf (f t : List ℕ) (n : ℕ) : Type 0 where
-  pub rows : n ≡ length (groups (lines f))
-  pub each : (r : ℕ) → r < n → Holds f t n r
-  pub beyond : (r : ℕ) → n ≤ r → heldAt t n r ≡ badRow r
+module _ (f t t′ : List ℕ) (told : Filled) where
+  pub accepted-table : (i : List ℕ) → Accepts f i → FilledAs (indexIn i (rowCount t)) t t′ told → recordCount f ≤ rowCount t → TableOf f t′ (told .rows)
+  accepted-table i a filled enough = filled-table f t t′ _ told (accepted-gives f i a (rowCount t) enough) filled
 
--- the whole-index call leaves such a table, if the index is accepted and the table has a row for each line
-pub accepted-table : (f i t t′ : List ℕ) (told : Filled) → Accepts f i → FilledAs (indexIn i (rowCount t)) t t′ told → length (lines i) ≤ rowCount t → TableOf f t′ (told .rows)
-accepted-table f i t t′ told a filled enough =
-    let c = reads.found f i a .count in
-    let m : length (indexAt i 1 0 .rows) ≤ rowCount t = omega (arith, c) in
-    let w = index-whole i (rowCount t) (a .limits .index) m in
-    rw (rw w at (filled .table), rw w at (filled .rows))
-    (record {
-      rows = c ∙ a .count;
-      each = λ r h. row r (omega (arith, c, a .count));
-      beyond = λ r h. sym (held-unused (withRows t 0 (indexAt i 1 0 .rows)) (length (indexAt i 1 0 .rows)) r (rw (rowCount-rows t 0 (indexAt i 1 0 .rows)) m) h);
-    })
-  where
-    row : (r : ℕ) → r < length (groups (lines f)) → Holds f (withRows t 0 (indexAt i 1 0 .rows)) (length (indexAt i 1 0 .rows)) r
-    row r h =
-        let y = reads.match f i a r h in
-        record {
-          row = reads.x f i a r h;
-          held = reads.row-held f i a r h t enough;
-          about = record { count = sym (y .count); places = λ j q. sym (y .places j q) };
-        }
+  pub indexed-table : (rule : Rule) → FilledAs (rowsIn rule f (rowCount t)) t t′ told → told .stop ≡ Ended → TableOf f t′ (told .rows)
+  indexed-table rule filled e = filled-table f t t′ _ told (indexed-gives rule f (rowCount t) (sym (filled .stop) ∙ e)) filled
+
+-- the name of row r of an accepted index, a span of the index, has the bytes of the name in record r's definition line
+pub accepted-names : (f i : List ℕ) (a : Accepts f i) (r : ℕ) (h : r < recordCount f)
+    → nameIn i (rowIn (indexAt i 1 0 .rows) r) ≡ spanOf (recordAt (groups (lines f)) r .def) (a .each r h .both .said .name)
+accepted-names f i a r h = row-named f i a r h
 
 -- ---- two tables of one file are read alike
 
@@ -102,13 +91,13 @@ tables-agree f t u n m x y r a e out =
 
 -- K14, its second half: two indexes accepted for one file give equal exact reads, for every row, bounds and output
 pub indexes-agree : (f i j t t′ u u′ : List ℕ) (told said : Filled) → Accepts f i → Accepts f j
-    → FilledAs (indexIn i (rowCount t)) t t′ told → length (lines i) ≤ rowCount t → FilledAs (indexIn j (rowCount u)) u u′ said → length (lines j) ≤ rowCount u
+    → FilledAs (indexIn i (rowCount t)) t t′ told → recordCount f ≤ rowCount t → FilledAs (indexIn j (rowCount u)) u u′ said → recordCount f ≤ rowCount u
     → (r : ℕ) (a e : Bound) (out : List ℕ) → exactRead f t′ (told .rows) r a e out ≡ exactRead f u′ (said .rows) r a e out
 indexes-agree f i j t t′ u u′ told said p q x m y n r a e out =
-    tables-agree f t′ u′ (told .rows) (said .rows) (accepted-table f i t t′ told p x m) (accepted-table f j u u′ said q y n) r a e out
+    tables-agree f t′ u′ (told .rows) (said .rows) (accepted-table f t t′ told i p x m) (accepted-table f u u′ said j q y n) r a e out
 
 -- the same of two that the checker accepts
 pub checked-agree : (f i j t t′ u u′ : List ℕ) (told said : Filled) → checkOf f i ≡ Accepted → checkOf f j ≡ Accepted
-    → FilledAs (indexIn i (rowCount t)) t t′ told → length (lines i) ≤ rowCount t → FilledAs (indexIn j (rowCount u)) u u′ said → length (lines j) ≤ rowCount u
+    → FilledAs (indexIn i (rowCount t)) t t′ told → recordCount f ≤ rowCount t → FilledAs (indexIn j (rowCount u)) u u′ said → recordCount f ≤ rowCount u
     → (r : ℕ) (a e : Bound) (out : List ℕ) → exactRead f t′ (told .rows) r a e out ≡ exactRead f u′ (said .rows) r a e out
 checked-agree f i j t t′ u u′ told said p q = indexes-agree f i j t t′ u u′ told said (accepted-only-if f i p) (accepted-only-if f j q)

@@ -8,4 +8,3 @@ pub mod Laws
 pub mod Judge
 pub mod Dependence
 pub mod Changed
-pub mod Examples

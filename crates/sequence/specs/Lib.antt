@@ -3,4 +3,3 @@ pub mod Read
 pub mod Laws
 pub mod Agree
 pub mod Limits
-pub mod Examples

@@ -1,56 +1,59 @@
 -- What must come out: examples of records and refusals, as one table with a single proof.
 use Prim.Native.Nat.{ℕ}
+use Prim.Native.String.{String}
 use mathlib.Core.Path.{_≡_, refl}
-use mathlib.Core.List.{List, [], _∷_, map}
-use mathlib.Core.Bool.{Bool, true, false}
+use mathlib.Core.List.{List, [], _∷_}
+use mathlib.Core.Bool.{true, false}
+use Rattle.ascii.specs.Text.{text}
 use Rattle.refusal.specs.Numbers.{overLimit}
+use Rattle.refusal.specs.declared.Refusal.{Refusal}
 use Rattle.refusal.specs.declared.Refusal.the-variants.{ZeroWidth, NameUnfit, DescriptionUnfit, BaseUnfit, NoRoom}
 use Rattle.definition.specs.Definition.{isSpace}
 use Rattle.index_line.specs.Fields.{Wrote, wrote, frontWritten}
 use Rattle.index_line.specs.declared.Written.the-variants.{Bytes, Refused}
 use Rattle.writer.specs.Text.{describedText, definitionText, rowsUpTo, rowsText, sequenceText, recordText, anyOf, nameUnfit, descriptionUnfit, barred, tooLong, recordWritten}
 
-pub record Call : Type 0 where
-  pub name : List ℕ
-  pub described : Bool
-  pub description : List ℕ
-  pub bases : List ℕ
-  pub width : ℕ
-  pub out : List ℕ
+-- a record without a description, and one with one, put in an output of some text
+abbrev plain : String → String → ℕ → String → Wrote
+plain name bases width out = recordWritten (text name) false [] (text bases) width (text out)
 
-abbrev answerOf : Call → Wrote
-answerOf c = recordWritten (c .name) (c .described) (c .description) (c .bases) (c .width) (c .out)
+abbrev described : String → String → String → ℕ → String → Wrote
+described name description bases width out = recordWritten (text name) true (text description) (text bases) width (text out)
 
-pub calls : List Call
-calls =
-    -- `s`, `d`, `ACG` in lines of 2, and a byte behind
-    record { name = 115 ∷ []; described = true; description = 100 ∷ []; bases = 65 ∷ 67 ∷ 71 ∷ []; width = 2; out = 0 ∷ 0 ∷ 0 ∷ 0 ∷ 0 ∷ 0 ∷ 0 ∷ 0 ∷ 0 ∷ 0 ∷ 7 ∷ [] }
-    -- `s`, no description, no bases
-    ∷ record { name = 115 ∷ []; described = false; description = []; bases = []; width = 1; out = 0 ∷ 0 ∷ 0 ∷ [] }
+abbrev bytes : ℕ → String → Wrote
+bytes n out = wrote (Bytes n) (text out)
+
+abbrev refused : Refusal → String → Wrote
+refused x out = wrote (Refused x) (text out)
+
+unfoldable pub asked : List Wrote
+asked =
+    described "s" "d" "ACG" 2 "..........."
+    ∷ plain "s" "" 1 "..."
     -- a byte short
-    ∷ record { name = 115 ∷ []; described = false; description = []; bases = 65 ∷ []; width = 60; out = 0 ∷ 0 ∷ 0 ∷ 0 ∷ [] }
+    ∷ plain "s" "A" 60 "...."
     -- width 0 before an empty name; a vertical tab is no whitespace, a form feed is; 28 before 29, 29 before 30
-    ∷ record { name = []; described = false; description = []; bases = []; width = 0; out = [] }
-    ∷ record { name = 11 ∷ []; described = false; description = []; bases = []; width = 1; out = 0 ∷ 0 ∷ 0 ∷ [] }
-    ∷ record { name = 12 ∷ []; described = true; description = []; bases = []; width = 1; out = [] }
-    ∷ record { name = 115 ∷ []; described = true; description = []; bases = 62 ∷ []; width = 1; out = [] }
-    ∷ record { name = 115 ∷ []; described = true; description = 100 ∷ 32 ∷ []; bases = []; width = 1; out = [] }
-    ∷ record { name = 115 ∷ []; described = false; description = []; bases = 65 ∷ 13 ∷ []; width = 1; out = [] }
+    ∷ plain "" "" 0 ""
+    ∷ plain "\u{b}" "" 1 "..."
+    ∷ described "\u{c}" "" "" 1 ""
+    ∷ described "s" "" ">" 1 ""
+    ∷ described "s" "d " "" 1 ""
+    ∷ plain "s" "A\r" 1 ""
     ∷ []
 
-pub answers : List Wrote
+unfoldable pub answers : List Wrote
 answers =
-    wrote (Bytes 10) (62 ∷ 115 ∷ 32 ∷ 100 ∷ 10 ∷ 65 ∷ 67 ∷ 10 ∷ 71 ∷ 10 ∷ 7 ∷ [])
-    ∷ wrote (Bytes 3) (62 ∷ 115 ∷ 10 ∷ [])
-    ∷ wrote (Refused (NoRoom 5)) (0 ∷ 0 ∷ 0 ∷ 0 ∷ [])
-    ∷ wrote (Refused ZeroWidth) []
-    ∷ wrote (Bytes 3) (62 ∷ 11 ∷ 10 ∷ [])
-    ∷ wrote (Refused NameUnfit) []
-    ∷ wrote (Refused DescriptionUnfit) []
-    ∷ wrote (Refused DescriptionUnfit) []
-    ∷ wrote (Refused BaseUnfit) []
+    bytes 10 ">s d\nAC\nG\n."
+    ∷ bytes 3 ">s\n"
+    ∷ refused (NoRoom 5) "...."
+    ∷ refused ZeroWidth ""
+    ∷ bytes 3 ">\u{b}\n"
+    ∷ refused NameUnfit ""
+    ∷ refused DescriptionUnfit ""
+    ∷ refused DescriptionUnfit ""
+    ∷ refused BaseUnfit ""
     ∷ []
 
-pub examples : map answerOf calls ≡ answers
-unfolding calls answers recordWritten tooLong overLimit nameUnfit descriptionUnfit barred anyOf isSpace frontWritten recordText definitionText describedText sequenceText rowsText rowsUpTo
+pub examples : asked ≡ answers
+unfolding asked answers recordWritten tooLong overLimit nameUnfit descriptionUnfit barred anyOf isSpace frontWritten recordText definitionText describedText sequenceText rowsText rowsUpTo
 examples = refl

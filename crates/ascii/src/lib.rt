@@ -1,0 +1,1 @@
+// Bytes written as text, for examples: see specs/.

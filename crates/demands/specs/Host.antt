@@ -1,0 +1,36 @@
+-- What a host sees: the bytes that it lends, the lines that it joins, and what an answer tells it.
+use Prim.Native.Nat.{ℕ, zero, suc, _<_}
+use mathlib.Core.Path.{_≡_}
+use mathlib.Core.List.{List, [], _++_}
+use lib.ListN.{getD, take, drop}
+use Rattle.region.specs.declared.Bound.{Bound}
+use Rattle.checker.specs.Accepts.{Accepts}
+use Rattle.wakeluri.specs.declared.answer.Answer.{Answer}
+use Rattle.mission.specs.TableOf.{recordCount}
+use Rattle.mission.specs.Asked.{askedCount, askedBases}
+
+-- what is lent are bytes
+abbrev pub AreBytes : List ℕ → Type 0
+AreBytes t = (i : ℕ) → getD t i 0 < 256
+
+-- the checker's answer is 0 exactly if the index is accepted
+pub record Exactly (file index : List ℕ) (a : Answer) : Type 0 where
+  pub only-if : a .refusal ≡ 0 → Accepts file index
+  pub if′ : Accepts file index → a .refusal ≡ 0
+
+-- a call that fills a table tells no refusal, and as many rows as the file has records
+pub record Filled (file : List ℕ) (a : Answer) : Type 0 where
+  pub refusal : a .refusal ≡ 0
+  pub count : a .count ≡ recordCount file
+
+-- a read gives just the bases that are asked for: no refusal, how many they are, they at the front of the output, and the rest of it as it
+-- was lent
+pub record JustThose (file : List ℕ) (row : ℕ) (start end : Bound) (out : List ℕ) (a : Answer) (out′ : List ℕ) : Type 0 where
+  pub refusal : a .refusal ≡ 0
+  pub count : a .count ≡ askedCount file row start end
+  pub output : out′ ≡ askedBases file row start end ++ drop (askedCount file row start end) out
+
+-- the lines that a host joins: of the output for each of n rows, from row k on, as many bytes as the call says that it wrote
+unfoldable pub joined : (ℕ → Answer) → (ℕ → List ℕ) → ℕ → ℕ → List ℕ
+joined answers outputs k zero = []
+joined answers outputs k (suc n) = take (answers k .count) (outputs k) ++ joined answers outputs (suc k) n

@@ -1,0 +1,8 @@
+pub mod Calls
+pub mod Host
+pub mod NeverZero
+pub mod TableBytes
+pub mod Laws
+pub mod Chains
+pub mod AtTheEdge
+pub mod Marked

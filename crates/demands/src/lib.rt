@@ -1,0 +1,57 @@
+// Demand 3 at the entry points. The theorems are in specs/AtTheEdge.antt, over the calls' promises as relations (specs/Calls.antt). Here each
+// call is made, and has its relation for a contract: so the theorems are about the calls themselves.
+use wakeluri::answer::Answer;
+use wakeluri::files;
+use wakeluri::rows;
+ghost use Rattle.fitting.specs.declared.Rule.the-variants.{Strict};
+ghost use Rattle.demands.specs.Calls.{Check, ReadIndex, IndexFile, WriteIndexLine, ReadExact};
+
+fn check(file: &[u8], index: &[u8]) -> Answer
+    ensures { λ a. ⌜ Check (now (file .entry)) (now (index .entry)) a ⌝ }
+{
+    files::wakeluri_check(file, index)
+}
+
+fn read_index(index: &[u8], table: &mut [u8]) -> Answer
+    ensures { λ a. ⌜ ReadIndex (now (index .entry)) (now (table .entry)) a (now (table .exit)) ⌝ }
+{
+    files::wakeluri_read_index(index, table)
+}
+
+fn index_file(file: &[u8], table: &mut [u8]) -> Answer
+    ensures { λ a. ⌜ IndexFile Strict (now (file .entry)) (now (table .entry)) a (now (table .exit)) ⌝ }
+{
+    files::wakeluri_index_file(file, table)
+}
+
+fn write_index_line(names: &[u8], table: &[u8], in_use: u64, row: u64, out: &mut [u8]) -> Answer
+    ensures { λ a. ⌜ WriteIndexLine (now (names .entry)) (now (table .entry)) «in_use» row (now (out .entry)) a (now (out .exit)) ⌝ }
+{
+    rows::wakeluri_write_index_line(names, table, in_use, row, out)
+}
+
+fn read_exact(
+    file: &[u8],
+    table: &[u8],
+    in_use: u64,
+    row: u64,
+    has_start: u64,
+    start: u64,
+    has_end: u64,
+    end: u64,
+    out: &mut [u8],
+) -> Answer
+    ensures { λ a. ⌜ ReadExact (now (file .entry)) (now (table .entry)) «in_use» row «has_start» start «has_end» end (now (out .entry)) a (now (out .exit)) ⌝ }
+{
+    rows::wakeluri_read_exact(
+        file,
+        table,
+        in_use,
+        row,
+        has_start,
+        start,
+        has_end,
+        end,
+        out,
+    )
+}
