@@ -35,7 +35,7 @@ use Rattle.mission.specs.TableOf.{recordCount, Gives, TableOf}
 use Rattle.mission.specs.TableLaws.{filled-table}
 use Rattle.mission.specs.Asked.{Asked}
 use Rattle.mission.specs.Reads.{table-reads}
-use Rattle.demands.specs.NeverZero.{never-zero}
+use Rattle.refusal.specs.Apart.{never-zero}
 use Rattle.demands.specs.Host.{AreBytes, JustThose, joined}
 use Rattle.demands.specs.TableBytes.{rows-back}
 

@@ -1,6 +1,5 @@
 pub mod Calls
 pub mod Host
-pub mod NeverZero
 pub mod TableBytes
 pub mod Laws
 pub mod Chains
