@@ -26,6 +26,9 @@ pub enum Complemented {
     Refused(Refusal),
 }
 
+// How many bytes are judged at once.
+const BLOCK: usize = 4096;
+
 // Is a byte a plain base: A, C, G, T or N, in either case.
 fn is_plain(b: u8) -> bool
     ensures { λ r. ⌜ r ≡ isOf true b ⌝ }
@@ -57,8 +60,8 @@ fn is_of(b: u8, plain: bool) -> bool
     is_paired(b)
 }
 
-// Are all bytes of the kind. All are looked at, which the compiler does at once.
-fn all_of(bases: &[u8], plain: bool) -> bool
+// Are all bytes of a block of the kind. All are looked at, which the compiler does at once.
+fn block_of(bases: &[u8], plain: bool) -> bool
     ensures { λ r. ⌜ r ≡ allOf plain (now (bases .entry)) ⌝ }
 {
     let mut other: u8 = 0;
@@ -68,6 +71,21 @@ fn all_of(bases: &[u8], plain: bool) -> bool
         i += 1;
     }
     other == 0
+}
+
+// Are all bytes of the kind. They are judged by blocks, and the first block that has another byte ends it.
+fn all_of(bases: &[u8], plain: bool) -> bool
+    ensures { λ r. ⌜ r ≡ allOf plain (now (bases .entry)) ⌝ }
+{
+    let mut i = 0;
+    while BLOCK <= bases.len() - i {
+        let e = i + BLOCK;
+        if !block_of(&bases[i..e], plain) {
+            return false;
+        }
+        i = e;
+    }
+    block_of(&bases[i..], plain)
 }
 
 // The complement of a plain base. A and T differ in 21, C and G in 4. Of the plain bases A and T alone lack the bit 2, and N alone
