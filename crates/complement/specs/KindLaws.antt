@@ -1,5 +1,5 @@
 -- Laws of the kinds: of the tests and the flips of one byte, and of bytes that are all of a kind.
-use Prim.Native.Nat.{ℕ, zero, suc, _*_, _/_, _<_}
+use Prim.Native.Nat.{ℕ, zero, suc, _+_, _-_, _*_, _/_, _≤_, _<_}
 use Prim.Native.Char.{code}
 use Prim.Native.String.{String, [] as empty, _∷_ as _◂_}
 use mathlib.Core.Path.{_≡_, refl, sym, ap, _∙_}
@@ -7,8 +7,8 @@ use mathlib.Core.Bool.{Bool, true, false, cond, not, _||_, _&&_}
 use mathlib.Core.List.{List, [], _∷_, _++_, map, reverse, reverse-reverse, cons≢nil}
 use lib.Bits.{bitAnd, bitOr, bitXor}
 use lib.Dec.{T, eqb, leb, eqb→eq}
-use lib.ListN.{length, take, getD}
-use lib.Seq.{take-suc}
+use lib.ListN.{length, take, drop, getD, take-append-drop}
+use lib.Seq.{take-suc, drop-drop}
 use borrow.Author.Tests.{eqb-true, eqb-false, ne-eqb}
 use native.Mathlib.Omega.{arith}
 use Rattle.refusal.specs.declared.Refusal.{Refusal}
@@ -123,23 +123,41 @@ and-then true y e = (refl, e)
 and-then false y e = let z : _≡_ {A = ℕ} 0 1 = cc in absurd (omega arith)
 
 module _ (p : Bool) where
-  all-append : (s : List ℕ) (b : ℕ) → allOf p (s ++ (b ∷ [])) ≡ cond (allOf p s) (isOf p b) false
+  all-append : (s t : List ℕ) → allOf p (s ++ t) ≡ cond (allOf p s) (allOf p t) false
   unfolding allOf
-  all-append [] b = go (isOf p b)
+  all-append [] t = refl
+  all-append (a ∷ s) t = go (isOf p a) (all-append s t)
+    where
+      go : (v : Bool) → allOf p (s ++ t) ≡ cond (allOf p s) (allOf p t) false → cond v (allOf p (s ++ t)) false ≡ cond (cond v (allOf p s) false) (allOf p t) false
+      go true e = e
+      go false e = refl
+
+  all-one : (b : ℕ) → allOf p (b ∷ []) ≡ isOf p b
+  unfolding allOf
+  all-one b = go (isOf p b)
     where
       go : (v : Bool) → cond v true false ≡ v
       go true = refl
       go false = refl
-  all-append (a ∷ s) b = go (isOf p a) (all-append s b)
-    where
-      go : (v : Bool) → allOf p (s ++ (b ∷ [])) ≡ cond (allOf p s) (isOf p b) false
-          → cond v (allOf p (s ++ (b ∷ []))) false ≡ cond (cond v (allOf p s) false) (isOf p b) false
-      go true e = e
-      go false e = refl
 
   -- one byte more
   pub all-more : (s : List ℕ) (k : ℕ) → k < length s → allOf p (take (suc k) s) ≡ cond (allOf p (take k s)) (isOf p (getD s k 0)) false
-  all-more s k h = rw (take-suc s k 0 h) (all-append (take k s) (getD s k 0))
+  all-more s k h = rw (take-suc s k 0 h, ← all-one (getD s k 0)) (all-append (take k s) (getD s k 0 ∷ []))
+
+  -- the bytes from one place to another: where they are of the kind, those behind them decide
+  module _ (s : List ℕ) (i e : ℕ) (h : i ≤ e) where
+    block : allOf p (drop i s) ≡ cond (allOf p (take (e - i) (drop i s))) (allOf p (drop e s)) false
+    block =
+        let q : i + (e - i) ≡ e = omega arith in
+        ap (allOf p) (sym (take-append-drop (e - i) (drop i s))) ∙ all-append (take (e - i) (drop i s)) (drop (e - i) (drop i s)) ∙ rw (drop-drop (e - i) i s, q)
+
+    pub block-good : (v : Bool) → v ≡ allOf p (take (e - i) (drop i s)) → not v ≡ false → allOf p (drop i s) ≡ allOf p (drop e s)
+    block-good true q t = block ∙ rw (← q)
+    block-good false q t = let z : _≡_ {A = ℕ} 0 1 = cc in absurd (omega arith)
+
+    pub block-bad : (v : Bool) → v ≡ allOf p (take (e - i) (drop i s)) → not v ≡ true → allOf p (drop i s) ≡ false
+    block-bad false q t = block ∙ rw (← q)
+    block-bad true q t = let z : _≡_ {A = ℕ} 0 1 = cc in absurd (omega arith)
 
   -- each of them is
   pub all-at : (s : List ℕ) (k : ℕ) → k < length s → allOf p s ≡ true → isOf p (getD s k 0) ≡ true

@@ -25,6 +25,7 @@ entries f (x ∷ xs) i t zero h = rw (add-zero i) (eqb→eq x (f i) (both (eqb x
 entries f (x ∷ xs) i t (suc k) h =
     rw (add-suc i k, ← suc-add i k) (entries f xs (suc i) (both (eqb x (f i)) (right f (suc i) xs) t .1) k (omega arith))
 
--- what one computed test finds at all entries of a table holds of each
-pub entry : (f : ℕ → ℕ) (xs : List ℕ) → T (right f 0 xs) → (k : ℕ) → k < length xs → getD xs k 0 ≡ f k
-entry f xs t k h = rw (zero-add k) at (entries f xs 0 t k h)
+-- what one computed test finds at all entries of a list holds of each; so 256 of them that are right are a table
+pub is-table : (t : List ℕ) → length t ≡ 256 → T (right partner 0 t) → IsTable t
+unfolding IsTable
+is-table t n ok b h = rw (zero-add b) at (entries partner t 0 ok b (omega arith))

@@ -5,8 +5,9 @@
 // refusal leaves the output as it was. Else the output begins with the answer; bytes behind it stay.
 //
 // So all bytes are judged first, and then written. Most sequences are plain: A, C, G, T and N alone, in either case. These are
-// judged and written by fewer steps a base than those that have other letters. No loop that judges or writes has a branch in it,
-// but for the kind, which stays the same: so the compiler does 16 bases and more at once.
+// written by a few bit operations a base, of which the compiler does 16 and more at once; those that have other letters by one look
+// into a table for each base. Both write the same `partner`, and both kinds are judged by bits, since a look a base would cost
+// twice as much. No loop has a branch in it, but for the kind, which stays the same.
 use refusal::Refusal;
 ghost use mathlib.Core.Path.{_≡_};
 ghost use mathlib.Core.Bool.{true, false};
@@ -24,6 +25,9 @@ pub enum Complemented {
     Bytes(usize),
     Refused(Refusal),
 }
+
+// How many bytes are judged at once.
+const BLOCK: usize = 4096;
 
 // Is a byte a plain base: A, C, G, T or N, in either case.
 fn is_plain(b: u8) -> bool
@@ -56,8 +60,8 @@ fn is_of(b: u8, plain: bool) -> bool
     is_paired(b)
 }
 
-// Are all bytes of the kind. All are looked at, which the compiler does at once.
-fn all_of(bases: &[u8], plain: bool) -> bool
+// Are all bytes of a block of the kind. All are looked at, which the compiler does at once.
+fn block_of(bases: &[u8], plain: bool) -> bool
     ensures { λ r. ⌜ r ≡ allOf plain (now (bases .entry)) ⌝ }
 {
     let mut other: u8 = 0;
@@ -69,6 +73,21 @@ fn all_of(bases: &[u8], plain: bool) -> bool
     other == 0
 }
 
+// Are all bytes of the kind. They are judged by blocks, and the first block that has another byte ends it.
+fn all_of(bases: &[u8], plain: bool) -> bool
+    ensures { λ r. ⌜ r ≡ allOf plain (now (bases .entry)) ⌝ }
+{
+    let mut i = 0;
+    while BLOCK <= bases.len() - i {
+        let e = i + BLOCK;
+        if !block_of(&bases[i..e], plain) {
+            return false;
+        }
+        i = e;
+    }
+    block_of(&bases[i..], plain)
+}
+
 // The complement of a plain base. A and T differ in 21, C and G in 4. Of the plain bases A and T alone lack the bit 2, and N alone
 // has the bit 8.
 fn flipped_plain(b: u8) -> u8
@@ -78,265 +97,25 @@ fn flipped_plain(b: u8) -> u8
     b ^ 21 ^ ((b / 2) & 5) ^ ((b & 2) * 8)
 }
 
-// The complement of each byte; 0 where it has none.
-const TABLE: [u8; 256] = [
-    0,
-    0,
-    0,
-    0,
-    0,
-    0,
-    0,
-    0,
-    0,
-    0,
-    0,
-    0,
-    0,
-    0,
-    0,
-    0,
-    0,
-    0,
-    0,
-    0,
-    0,
-    0,
-    0,
-    0,
-    0,
-    0,
-    0,
-    0,
-    0,
-    0,
-    0,
-    0,
-    0,
-    0,
-    0,
-    0,
-    0,
-    0,
-    0,
-    0,
-    0,
-    0,
-    0,
-    0,
-    0,
-    0,
-    0,
-    0,
-    0,
-    0,
-    0,
-    0,
-    0,
-    0,
-    0,
-    0,
-    0,
-    0,
-    0,
-    0,
-    0,
-    0,
-    0,
-    0,
-    0,
-    84,
-    86,
-    71,
-    72,
-    0,
-    0,
-    67,
-    68,
-    0,
-    0,
-    77,
-    0,
-    75,
-    78,
-    0,
-    0,
-    0,
-    89,
-    83,
-    65,
-    65,
-    66,
-    87,
-    0,
-    82,
-    0,
-    0,
-    0,
-    0,
-    0,
-    0,
-    0,
-    116,
-    118,
-    103,
-    104,
-    0,
-    0,
-    99,
-    100,
-    0,
-    0,
-    109,
-    0,
-    107,
-    110,
-    0,
-    0,
-    0,
-    121,
-    115,
-    97,
-    97,
-    98,
-    119,
-    0,
-    114,
-    0,
-    0,
-    0,
-    0,
-    0,
-    0,
-    0,
-    0,
-    0,
-    0,
-    0,
-    0,
-    0,
-    0,
-    0,
-    0,
-    0,
-    0,
-    0,
-    0,
-    0,
-    0,
-    0,
-    0,
-    0,
-    0,
-    0,
-    0,
-    0,
-    0,
-    0,
-    0,
-    0,
-    0,
-    0,
-    0,
-    0,
-    0,
-    0,
-    0,
-    0,
-    0,
-    0,
-    0,
-    0,
-    0,
-    0,
-    0,
-    0,
-    0,
-    0,
-    0,
-    0,
-    0,
-    0,
-    0,
-    0,
-    0,
-    0,
-    0,
-    0,
-    0,
-    0,
-    0,
-    0,
-    0,
-    0,
-    0,
-    0,
-    0,
-    0,
-    0,
-    0,
-    0,
-    0,
-    0,
-    0,
-    0,
-    0,
-    0,
-    0,
-    0,
-    0,
-    0,
-    0,
-    0,
-    0,
-    0,
-    0,
-    0,
-    0,
-    0,
-    0,
-    0,
-    0,
-    0,
-    0,
-    0,
-    0,
-    0,
-    0,
-    0,
-    0,
-    0,
-    0,
-    0,
-    0,
-    0,
-    0,
-    0,
-    0,
-    0,
-    0,
-    0,
-    0,
-    0,
-    0,
-    0,
-    0,
-    0,
-    0,
-    0,
-    0,
-    0,
-    0,
-    0,
-    0,
-    0,
-    0,
-    0,
-    0,
-    0,
-    0,
-    0,
-];
+// The complement of each byte, at the place that the byte numbers; 0 means that it has none. A row has 16 bytes: the upper case
+// letters are in the rows of '@' and 'P', the lower case letters in those 32 further.
+const TABLE: [u8; 256] = *b"\
+    \0\0\0\0\0\0\0\0\0\0\0\0\0\0\0\0\
+    \0\0\0\0\0\0\0\0\0\0\0\0\0\0\0\0\
+    \0\0\0\0\0\0\0\0\0\0\0\0\0\0\0\0\
+    \0\0\0\0\0\0\0\0\0\0\0\0\0\0\0\0\
+    \0TVGH\0\0CD\0\0M\0KN\0\
+    \0\0YSAABW\0R\0\0\0\0\0\0\
+    \0tvgh\0\0cd\0\0m\0kn\0\
+    \0\0ysaabw\0r\0\0\0\0\0\0\
+    \0\0\0\0\0\0\0\0\0\0\0\0\0\0\0\0\
+    \0\0\0\0\0\0\0\0\0\0\0\0\0\0\0\0\
+    \0\0\0\0\0\0\0\0\0\0\0\0\0\0\0\0\
+    \0\0\0\0\0\0\0\0\0\0\0\0\0\0\0\0\
+    \0\0\0\0\0\0\0\0\0\0\0\0\0\0\0\0\
+    \0\0\0\0\0\0\0\0\0\0\0\0\0\0\0\0\
+    \0\0\0\0\0\0\0\0\0\0\0\0\0\0\0\0\
+    \0\0\0\0\0\0\0\0\0\0\0\0\0\0\0\0";
 
 // The table as a value: a loop looks into a copy that is made before it, since the constant would be made anew at each look.
 fn table() -> [u8; 256]

@@ -11,13 +11,16 @@ mod report;
 use files::{Lines, Numbers, one_line, room};
 use measure::{Work, in_turns, limits};
 use original::{Region, Sequence, over_c, over_crate};
-use report::{Checked, Compared, Grown, Report};
+use report::{Checked, Compared, Grown, HandedOut, Report};
 
 /// The bytes of a row in a table.
 const ROW_BYTES: usize = 48;
 
 /// So many bytes lie in the processor's own cache; 64 times as many come from the memory.
 const MEGABYTE: usize = 1_000_000;
+
+/// Every letter that has a complement, in both cases.
+const ALL_LETTERS: &[u8] = b"ACGTUWSMKRYBDHVNacgtuwsmkrybdhvn";
 
 /// What is run.
 struct Plan {
@@ -157,9 +160,17 @@ fn complement(plan: &Plan, report: &mut Report, what: &str, goal: f64, letters: 
     let fresh = || std::hint::black_box(wakeluri::reverse_complement(bases).expect("bases")).len() as u64;
     let [copy, sum] = limits(bases, &mut copied);
     let original = || std::hint::black_box(sequence.reverse_complement()).len() as u64;
-    let mut works: [Work; 5] = [Box::new(original), Box::new(into), Box::new(fresh), copy, sum];
+    let pages = || measure::fresh_pages(bases.len());
+    let mut works: [Work; 6] = [Box::new(original), Box::new(into), Box::new(fresh), Box::new(pages), copy, sum];
     let taken = in_turns(plan.rounds(), &mut works);
-    let [by_crate, into, fresh, copy, sum] = taken[..] else { unreachable!("five works") };
+    let [by_crate, into, fresh, pages, copy, sum] = taken[..] else { unreachable!("six works") };
+    report.handed_out.push(HandedOut {
+        work: format!("reverse complement, {what}"),
+        bytes: bases.len(),
+        pages,
+        into,
+        fresh,
+    });
     for (how, ours) in [("a lent room", into), ("a fresh vector", fresh)] {
         report.compared.push(Compared {
             work: format!("reverse complement, {what}, into {how}"),
@@ -297,6 +308,7 @@ fn run(plan: &Plan) -> Report {
         for bases in [MEGABYTE, plan.size(100 * MEGABYTE, 10 * MEGABYTE)] {
             complement(plan, &mut report, "random ACGT", 20.0, b"ACGT", bases);
             complement(plan, &mut report, "mixed case with N", 8.0, b"ACGTNacgtn", bases);
+            complement(plan, &mut report, "all letters", 8.0, ALL_LETTERS, bases);
         }
     }
     if part("text") {
@@ -331,8 +343,9 @@ mod tests {
             file(&QUICK, &mut report, "records", 1.0, &lines.records(50));
             index_text(&QUICK, &mut report, &lines.records(50));
             reads(&QUICK, &mut report, &lines.genome(4000), 100, [1.0; 2]);
+            complement(&QUICK, &mut report, "all letters", 1.0, ALL_LETTERS, 5000);
         }
-        assert_eq!((report.compared.len(), report.checked.len()), (14, 4));
+        assert_eq!((report.compared.len(), report.checked.len(), report.handed_out.len()), (18, 4, 2));
         let told = report.to_string();
         assert!(told.contains("| index, records | ") && told.contains(" 50 records | 1 | "), "{told}");
     }

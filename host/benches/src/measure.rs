@@ -61,6 +61,15 @@ pub fn limits<'w>(buffer: &'w [u8], room: &'w mut [u8]) -> [Work<'w>; 2] {
     [Box::new(copy), Box::new(move || sum(black_box(buffer)))]
 }
 
+/// A fresh vector of so many bytes, as the library makes one for an answer, of which each page is written to once: what the system takes
+/// to hand it out.
+pub fn fresh_pages(bytes: usize) -> u64 {
+    const PAGE: usize = 4096;
+    let mut fresh = black_box(vec![0; bytes]);
+    fresh.iter_mut().step_by(PAGE).for_each(|byte: &mut u8| *byte = 1);
+    black_box(&fresh).len() as u64
+}
+
 /// The sum of a buffer's words of eight bytes, which wraps.
 pub fn sum(buffer: &[u8]) -> u64 {
     let words = buffer.chunks_exact(8);

@@ -36,6 +36,18 @@ pub struct Grown {
     pub sum: f64,
 }
 
+/// What a fresh vector costs a work, beside a room that is lent.
+pub struct HandedOut {
+    pub work: String,
+    pub bytes: usize,
+    /// A fresh vector of that size, each page written to once, and no work.
+    pub pages: f64,
+    /// The work into a lent room.
+    pub into: f64,
+    /// The work into a fresh vector.
+    pub fresh: f64,
+}
+
 /// All that was found.
 #[derive(Default)]
 pub struct Report {
@@ -43,6 +55,7 @@ pub struct Report {
     pub compared: Vec<Compared>,
     pub checked: Vec<Checked>,
     pub grown: Vec<Grown>,
+    pub handed_out: Vec<HandedOut>,
 }
 
 /// The checker's goal: so much of the speed of indexing.
@@ -135,6 +148,17 @@ impl fmt::Display for Report {
             let verdict = if part >= CHECK_GOAL { "reached" } else { "**not reached**" };
             let (index, check) = (gigabytes(*bytes, *index), gigabytes(*bytes, *check));
             writeln!(f, "| {file} | {CHECK_GOAL} | {part:.2} | {verdict} | {index} | {check} |")?;
+        }
+        if !self.handed_out.is_empty() {
+            writeln!(
+                f,
+                "\n| what a fresh vector costs | bytes | its pages alone | into a lent room | into a fresh vector |"
+            )?;
+            writeln!(f, "|---|---|---|---|---|")?;
+        }
+        for HandedOut { work, bytes, pages, into, fresh } in &self.handed_out {
+            let [pages, into, fresh] = [*pages, *into, *fresh].map(time);
+            writeln!(f, "| {work} | {} | {pages} | {into} | {fresh} |", number(*bytes))?;
         }
         if !self.grown.is_empty() {
             writeln!(

@@ -159,11 +159,24 @@ pub fn reverse_complement(bases: &[u8]) -> Result<Vec<u8>, Refusal> {
 }
 
 /// As [`complement`], to the front of a room that is lent; tells how many bytes. Refuses 1, 14, 24.
+///
+/// For long sequences lend one room again and again: the pages of a fresh vector cost as much as the work (docs/SPEED.md).
 pub fn complement_into(bases: &[u8], out: &mut [u8]) -> Result<usize, Refusal> {
     counted(Call::Complement, entry::complement(bases, out))
 }
 
 /// As [`reverse_complement`], to the front of a room that is lent; tells how many bytes. Refuses 1, 14, 24.
+///
+/// For long sequences lend one room again and again: the pages of a fresh vector cost as much as the work (docs/SPEED.md).
+///
+/// ```
+/// let mut room = vec![0; 4];
+/// for (bases, expected) in [(&b"ACGU"[..], &b"ACGT"[..]), (b"GGA", b"TCC")] {
+///     let n = wakeluri::reverse_complement_into(bases, &mut room)?;
+///     assert_eq!(&room[..n], expected);
+/// }
+/// # Ok::<(), wakeluri::Refusal>(())
+/// ```
 pub fn reverse_complement_into(bases: &[u8], out: &mut [u8]) -> Result<usize, Refusal> {
     counted(Call::Complement, entry::reverse_complement(bases, out))
 }

@@ -1,70 +1,74 @@
--- `complement::all_of` meets its contract: before each turn the mark is 0 exactly where the first `i` bytes are of the kind.
+-- `complement::all_of` meets its contract: before each turn the bytes from `i` on decide, and a block that has another byte ends it.
 -- Assumes nothing.
-use Prim.Native.Nat.{_≤_, _<_, _-_}
-use mathlib.Core.Path.{_≡_, refl}
-use mathlib.Core.Bool.{Bool, true, false, cond, not}
+use Prim.Native.Nat.{_≤_, _-_}
+use mathlib.Core.Path.{_≡_, sym, _∙_}
 use borrow.Author.Needs.{needs}
 use native.Mathlib.Omega.{arith}
-use native.Mathlib.Numerals.{add-one}
-use lib.Bits.{bitOr}
-use lib.Dec.{eqb}
-use lib.ListN.{length, take, getD}
+use lib.ListN.{length, drop, length-drop}
 use lib.Seq.{take-all}
-use mir.Val.{boolByte}
-use Rattle.complement.specs.Kinds.{isOf, allOf}
-use Rattle.complement.specs.KindLaws.{all-more}
+use Rattle.complement.specs.Kinds.{allOf}
+use Rattle.complement.specs.KindLaws.{block-good, block-bad}
 use Rattle.complement.proofs.all_of.Statement.{statement}
 use Rattle.complement.proofs.all_of.Tie as tie
 
 abbrev Inv-loop : tie.InvT-loop
-Inv-loop bases plain other₀ i₀ other i = (i ≤ length bases) × (other ≡ boolByte (not (allOf plain (take i bases))))
+Inv-loop bases plain i₀ i = (i ≤ length bases) × (allOf plain (drop i bases) ≡ allOf plain bases)
 
 abbrev μ-loop : tie.MeasureT-loop
-μ-loop bases plain other₀ i₀ other i = length bases - i
-
--- the mark is set by either of two
-marked : (x y : Bool) → bitOr (boolByte (not x)) (boolByte (not y)) ≡ boolByte (not (cond x y false))
-marked true true = refl
-marked true false = refl
-marked false true = refl
-marked false false = refl
-
-unmarked : (x : Bool) → eqb (boolByte (not x)) 0 ≡ x
-unmarked true = refl
-unmarked false = refl
+μ-loop bases plain i₀ i = length bases - i
 
 loop-holds : tie.Need-loop-holds Inv-loop μ-loop
-unfolding allOf
 loop-holds c = search needs
 
-shared-slice-read-is-of : tie.Need-shared-slice-read-is-of Inv-loop μ-loop
-shared-slice-read-is-of c = search needs
+sub-loop : tie.Need-sub-loop Inv-loop μ-loop
+sub-loop c = search needs
 
-is-of-requires : tie.Need-is-of-requires Inv-loop μ-loop
-is-of-requires c κs = search needs
+add-e : tie.Need-add-e Inv-loop μ-loop
+add-e c = search needs
 
-cast-other : tie.Need-cast-other Inv-loop μ-loop
-cast-other c = search needs
+sub-block-of : tie.Need-sub-block-of Inv-loop μ-loop
+sub-block-of c = search needs
 
-add-i : tie.Need-add-i Inv-loop μ-loop
-add-i c = search needs
+part-block-of-start : tie.Need-part-block-of-start Inv-loop μ-loop
+part-block-of-start c = search needs
+
+part-block-of-end : tie.Need-part-block-of-end Inv-loop μ-loop
+part-block-of-end c = search needs
+
+block-of-requires : tie.Need-block-of-requires Inv-loop μ-loop
+block-of-requires c κs = search needs
+
+returns : tie.Need-returns Inv-loop μ-loop
+returns c =
+    let l = c .before .before .before .before in
+    sym (block-bad _ _ (l .loop .i) _ (omega arith) _ (c .before .block-of .ensures) (c .if1 .taken)) ∙ l .loop .inv .1
 
 loop-less : tie.Need-loop-less Inv-loop μ-loop
 loop-less c = search needs
 
 loop-again : tie.Need-loop-again Inv-loop μ-loop
 loop-again c =
-    let l = c .before .before .before in
-    let a = l .before .before .args in
-    let i = l .loop .i in
-    let h : i < length (a .bases .now) = omega arith in
-    (search needs, rw (add-one, all-more (a .plain) (a .bases .now) i h, l .loop .inv .1, c .is-of .ensures) (marked (allOf (a .plain) (take i (a .bases .now))) (isOf (a .plain) (getD (a .bases .now) i 0))))
+    let l = c .before .before .before .before in
+    (search needs, sym (block-good _ _ (l .loop .i) _ (omega arith) _ (c .before .block-of .ensures) (c .if1 .left)) ∙ l .loop .inv .1)
 
-returns : tie.Need-returns Inv-loop μ-loop
-returns c =
-    let bases = c .before .before .before .args .bases .now in
-    let h : length bases ≤ c .before .loop .i = omega arith in
-    rw (c .before .loop .inv .1, take-all _ bases h) (unmarked _)
+sub-block-of-2 : tie.Need-sub-block-of-2 Inv-loop μ-loop
+sub-block-of-2 c = search needs
+
+part-block-of-start-2 : tie.Need-part-block-of-start-2 Inv-loop μ-loop
+part-block-of-start-2 c = search needs
+
+part-block-of-end-2 : tie.Need-part-block-of-end-2 Inv-loop μ-loop
+part-block-of-end-2 c = search needs
+
+block-of-requires-2 : tie.Need-block-of-requires-2 Inv-loop μ-loop
+block-of-requires-2 c κs = search needs
+
+returns-2 : tie.Need-returns-2 Inv-loop μ-loop
+returns-2 c =
+    let l = c .before .before .before in
+    let s = l .before .before .args .bases .now in
+    let rest : length (drop (l .loop .i) s) ≤ length s - l .loop .i = simp length-drop (omega arith) in
+    rw (take-all _ _ rest) at (c .block-of2 .ensures) ∙ l .loop .inv .1
 
 pub all-of-spec : {M : Type 1} → statement M
 all-of-spec =
@@ -73,10 +77,17 @@ all-of-spec =
     Inv-loop
     μ-loop
     loop-holds
-    shared-slice-read-is-of
-    is-of-requires
-    cast-other
-    add-i
+    sub-loop
+    add-e
+    sub-block-of
+    part-block-of-start
+    part-block-of-end
+    block-of-requires
+    returns
     loop-less
     loop-again
-    returns)
+    sub-block-of-2
+    part-block-of-start-2
+    part-block-of-end-2
+    block-of-requires-2
+    returns-2)
