@@ -16,7 +16,7 @@ use Rattle.refusal.specs.declared.Refusal.the-variants.{NoComplement}
 use Rattle.complement.specs.Pairing.{partner}
 use Rattle.complement.specs.Complement.{given, firstOr, when, faults, complementOf, reverseComplementOf, outputOf}
 use Rattle.complement.specs.Kinds.{among, isOf, allOf, outcomeOf}
-use Rattle.complement.specs.Laws.{both, of-each}
+use Rattle.complement.specs.Laws.{both}
 
 -- ---- the tests of a byte
 
@@ -93,15 +93,6 @@ pub kind-good : (p : Bool) (b : ℕ) → isOf p b ≡ true → partner b ≡ 0 �
 unfolding isOf partner
 kind-good true b h e = rw e at (of-plain (λ x. not (eqb (partner x) 0)) tt b h)
 kind-good false b h e = let z : _≡_ {A = ℕ} 0 1 = cc in absurd (omega arith)
-
--- so are, of any base that has one, the bits in which its pair differs
-abbrev pub flips : ℕ → ℕ
-flips b =
-    let low = bitOr b 32 in
-    bitXor (bitXor (bitXor (bitXor (bitXor (bitXor b (cond (eqb low 97 || eqb low 116) 21 0)) (cond (eqb (bitOr low 4) 103) 4 0)) (cond (eqb (bitOr low 6) 111) 6 0)) (cond (eqb low 114 || eqb low 121) 11 0)) (cond (eqb (bitOr low 12) 108) 12 0)) (cond ((eqb low 98 || eqb low 118) || eqb low 117) 20 0)
-
-pub paired-flips : (b : ℕ) → isOf false b ≡ true → flips b ≡ partner b
-paired-flips b h = eqb→eq _ _ (of-each (λ x y. eqb (flips x) y) tt b (kind-good false b h))
 
 -- what the test of a byte says of its complement
 pub tested-bad : (v : Bool) (b : ℕ) → v ≡ isOf false b → not v ≡ true → partner b ≡ 0

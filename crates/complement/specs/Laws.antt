@@ -19,19 +19,6 @@ use Rattle.complement.specs.declared.Complemented.the-variants.{Bytes, R
 
 -- ---- the pairing
 
--- P, and that some rules have none for a byte: what the default of a `match` over them knows
-abbrev pub Besides : Type 0 → List (ℕ × ℕ) → ℕ → Type 0
-Besides P [] b = P
-Besides P (r ∷ rs) b = Besides (P × (b ≡ r .0 → ⊥)) rs b
-
-miss : (P : Type 0) (rs : List (ℕ × ℕ)) (b : ℕ) → Besides P rs b → P × (looked rs b ≡ 0)
-miss P [] b h = (h, refl)
-miss P (r ∷ rs) b h = let (p, e) = miss (P × (b ≡ r .0 → ⊥)) rs b h in (p .0, rw (ne-eqb _ _ (p .1)) e)
-
-pub partner-none : (b : ℕ) → Besides (Unit {0}) rules b → partner b ≡ 0
-unfolding partner
-partner-none b h = miss (Unit {0}) rules b h .1
-
 -- a test at each of some rules
 abbrev pub every : (ℕ → ℕ → Bool) → List (ℕ × ℕ) → Bool
 every f [] = true
