@@ -9,8 +9,8 @@
 --
 -- `indexed-index`, `indexed-read`: the same of the table that wakeluri_index_file leaves, if that answers 0, with no index text between.
 --
--- `indexed-checked`: and if wakeluri_write_index_line answers 0 for each row of that table, then the lines, one after another, are an index
--- for which wakeluri_check answers 0, if they are within the limit.
+-- `indexed-line`, `indexed-checked`: wakeluri_write_index_line of a row of that table answers 0, or 14 and how much room its line needs. If it
+-- answers 0 for each row, then the lines, one after another, are an index for which wakeluri_check answers 0, if they are within the limit.
 use Prim.Native.Nat.{ℕ, _*_, _≤_, _<_}
 use mathlib.Core.Path.{_≡_}
 use mathlib.Core.List.{List}
@@ -25,9 +25,9 @@ use Rattle.wakeluri.specs.Answer.{boundOf}
 use Rattle.mission.specs.TableOf.{recordCount}
 use Rattle.mission.specs.Asked.{Asked}
 use Rattle.demands.specs.Calls.{Check, ReadIndex, IndexFile, WriteIndexLine, ReadExact}
-use Rattle.demands.specs.Host.{AreBytes, Exactly, Filled, JustThose, joined}
+use Rattle.demands.specs.Host.{AreBytes, Exactly, Filled, JustThose, LineNeeds, joined}
 use Rattle.demands.specs.Laws.{accepted-zero, zero-accepted, table-told}
-use Rattle.demands.specs.Chains.{Ready, index-ready, file-ready, lines-accepted}
+use Rattle.demands.specs.Chains.{Ready, index-ready, file-ready, line-needs, lines-accepted}
 
 -- ---- check
 
@@ -71,6 +71,9 @@ module _ (rule : Rule) (file table table′ : List ℕ) (filled : Answer) (bytes
       → Asked file row (boundOf has-start start) (boundOf has-end end) out → ReadExact file table′ (filled .count) row has-start start has-end end out answer out′
       → JustThose file row (boundOf has-start start) (boundOf has-end end) out answer out′
   indexed-read = ready-read file table′ filled (file-ready rule file table table′ filled bytes indexed zero)
+
+  pub indexed-line : (row : ℕ) → row < filled .count → LineNeeds file table′ filled row
+  indexed-line = line-needs rule file table table′ filled bytes indexed zero
 
   pub indexed-checked : (outs outs′ : ℕ → List ℕ) (written : ℕ → Answer) (checked : Answer)
       → ((row : ℕ) → row < filled .count → WriteIndexLine file table′ (filled .count) row (outs row) (written row) (outs′ row))

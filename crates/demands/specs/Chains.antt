@@ -1,6 +1,6 @@
 -- The calls one after another: what one leaves is what the next needs.
 use Prim.Native.Nat.{ℕ, _+_, _*_, _≤_, _<_}
-use mathlib.Core.Path.{_≡_, sym, _∙_}
+use mathlib.Core.Path.{_≡_, ap, sym, _∙_}
 use mathlib.Core.List.{List}
 use lib.ListN.{length}
 use native.Mathlib.Omega.{arith}
@@ -9,21 +9,23 @@ use Rattle.lines.specs.Lines.{lines}
 use Rattle.lines.specs.Groups.{groups}
 use Rattle.record.specs.Row.{rowCount}
 use Rattle.table.specs.Fill.{Found}
+use Rattle.index_line.specs.Fields.{frontWritten}
 use Rattle.index.specs.Index.{indexIn}
 use Rattle.fitting.specs.declared.Rule.{Rule}
 use Rattle.fitting.specs.Rules.{rowsIn}
 use Rattle.checker.specs.Accepts.{limit, Accepts}
 use Rattle.byte_table.specs.Numbers.{numbersIn}
 use Rattle.wakeluri.specs.declared.answer.Answer.{Answer}
+use Rattle.wakeluri.specs.Told.{tells, writtenTold}
 use Rattle.mission.specs.IndexedLaws.{Along}
-use Rattle.mission.specs.Leading.{LeadsTo, indexText, leading-accepted}
+use Rattle.mission.specs.Leading.{lineIn, rowIn, LeadsTo, indexText, leading-accepted}
 use Rattle.mission.specs.TableOf.{recordCount, Gives, TableOf}
 use Rattle.mission.specs.TableLaws.{accepted-gives, taken-by}
 use Rattle.mission.specs.Tables.{indexed-gives, indexed-leads}
 use Rattle.demands.specs.Calls.{ReadIndex, IndexFile, WriteIndexLine}
-use Rattle.demands.specs.Host.{AreBytes, Filled, joined}
+use Rattle.demands.specs.Host.{AreBytes, Filled, LineNeeds, joined}
 use Rattle.demands.specs.TableBytes.{rows-room}
-use Rattle.demands.specs.Laws.{found-ended, left-answer, left-numbers, left-table, joined-lines, row-written}
+use Rattle.demands.specs.Laws.{found-ended, left-answer, left-numbers, left-table, joined-lines, front-is, front-needs, row-fronted}
 
 -- how many rows a lent table has, and what the calls that fill it find
 abbrev size : List ℕ → ℕ
@@ -72,19 +74,33 @@ module _ (rule : Rule) (file table table′ : List ℕ) (filled : Answer) (bytes
   leads : Along (LeadsTo file) 0 (groups (lines file)) (fileRows rule file table .rows) (fileRows rule file table .stop)
   leads = rw (taken-by rule file (size table) (found .stop) .whole) (indexed-leads rule file)
 
-  -- and its index lines are written: joined, they are an index that is accepted
+  -- and the line of each row is written
+  abbrev line : ℕ → List ℕ
+  line row = lineIn file (rowIn (fileRows rule file table .rows) row)
+
+  fronted : (row : ℕ) → row < filled .count → (out out′ : List ℕ) (written : Answer) → WriteIndexLine file table′ (filled .count) row out written out′
+      → tells written out′ ≡ writtenTold (frontWritten (line row) out)
+  fronted row h out out′ written write =
+      let v = left-numbers file table table′ (fileRows rule file table) filled bytes found indexed in
+      let c = count in
+      (rw (v, c) at write)
+      ∙ ap writtenTold
+      (row-fronted file (numbersIn table) (fileRows rule file table .rows) (fileRows rule file table .stop) leads (found .small) (found .room) row (omega arith) out)
+
+  pub line-needs : (row : ℕ) → row < filled .count → LineNeeds file table′ filled row
+  line-needs row h = record { needed = length (line row); always = λ out out′ written write. front-needs written (line row) out out′ (fronted row h out out′ written write) }
+
+  -- joined, they are an index that is accepted
   module _ (outs outs′ : ℕ → List ℕ) (written : ℕ → Answer)
       (write : (row : ℕ) → row < filled .count → WriteIndexLine file table′ (filled .count) row (outs row) (written row) (outs′ row))
       (all : (row : ℕ) → row < filled .count → written row .refusal ≡ 0) where
     lines-are : joined written outs′ 0 (filled .count) ≡ indexText file (fileRows rule file table .rows)
     lines-are =
-        let v = left-numbers file table table′ (fileRows rule file table) filled bytes found indexed in
         let c = count in
         rw c
         (joined-lines file (fileRows rule file table .rows) written outs′ 0
         (λ j m. rw (zero-add j)
-        (row-written file (numbersIn table) (fileRows rule file table .rows) (fileRows rule file table .stop) leads (found .small) (found .room) j m
-        (outs j) (written j) (outs′ j) (rw (v, c) at (write j (omega arith))) (all j (omega arith)))))
+        (front-is (written j) (line j) (outs j) (outs′ j) (fronted j (omega arith) (outs j) (outs′ j) (written j) (write j (omega arith))) (all j (omega arith)))))
 
     pub lines-accepted : length (joined written outs′ 0 (filled .count)) ≤ limit → Accepts file (joined written outs′ 0 (filled .count))
     lines-accepted small =

@@ -1,13 +1,14 @@
 -- What a host sees: the bytes that it lends, the lines that it joins, and what an answer tells it.
-use Prim.Native.Nat.{ℕ, zero, suc, _<_}
+use Prim.Native.Nat.{ℕ, zero, suc, _≤_, _<_}
 use mathlib.Core.Path.{_≡_}
 use mathlib.Core.List.{List, [], _++_}
-use lib.ListN.{getD, take, drop}
+use lib.ListN.{length, getD, take, drop}
 use Rattle.region.specs.declared.Bound.{Bound}
 use Rattle.checker.specs.Accepts.{Accepts}
 use Rattle.wakeluri.specs.declared.answer.Answer.{Answer}
 use Rattle.mission.specs.TableOf.{recordCount}
 use Rattle.mission.specs.Asked.{askedCount, askedBases}
+use Rattle.demands.specs.Calls.{WriteIndexLine}
 
 -- what is lent are bytes
 abbrev pub AreBytes : List ℕ → Type 0
@@ -29,6 +30,16 @@ pub record JustThose (file : List ℕ) (row : ℕ) (start end : Bound) (out : Li
   pub refusal : a .refusal ≡ 0
   pub count : a .count ≡ askedCount file row start end
   pub output : out′ ≡ askedBases file row start end ++ drop (askedCount file row start end) out
+
+-- what a call puts in an output needs so many bytes: with room for them it answers 0, and else 14, and how many they are
+pub record Needs (needed : ℕ) (out : List ℕ) (a : Answer) : Type 0 where
+  pub enough : needed ≤ length out → a .refusal ≡ 0
+  pub short : length out < needed → (a .refusal ≡ 14) × (a .first ≡ needed)
+
+-- the index line of a row needs so many bytes, whatever output is lent
+pub record LineNeeds (file table′ : List ℕ) (filled : Answer) (row : ℕ) : Type 0 where
+  pub needed : ℕ
+  pub always : (out out′ : List ℕ) (written : Answer) → WriteIndexLine file table′ (filled .count) row out written out′ → Needs needed out written
 
 -- the lines that a host joins: of the output for each of n rows, from row k on, as many bytes as the call says that it wrote
 unfoldable pub joined : (ℕ → Answer) → (ℕ → List ℕ) → ℕ → ℕ → List ℕ

@@ -3,7 +3,10 @@ use Prim.Native.Nat.{ℕ, zero, suc, _+_, _*_, _≤_, _<_}
 use mathlib.Core.Path.{_≡_, refl, ap, sym, _∙_}
 use mathlib.Core.List.{List, [], _∷_, _++_}
 use lib.ListN.{length, take, drop}
-use borrow.Author.Tests.{le-ltb}
+use lib.Seq.{take-at}
+use lib.Dec.{ltb}
+use mathlib.Core.Bool.{Bool, true, false}
+use borrow.Author.Tests.{lt-ltb, le-ltb}
 use native.Mathlib.Omega.{arith}
 use native.Mathlib.Nat.{add-zero, zero-add}
 use Rattle.refusal.specs.Numbers.{numbersOf as refusalNumbers, overLimit}
@@ -15,11 +18,8 @@ use Rattle.table.specs.declared.Filled.{Filled}
 use Rattle.table.specs.declared.Stop.{Stop}
 use Rattle.table.specs.declared.Stop.the-variants as stop
 use Rattle.table.specs.Fill.{Found, FilledAs}
-use Rattle.index_line.specs.declared.Written.{Written}
-use Rattle.index_line.specs.declared.Written.the-variants as written
-use Rattle.index_line.specs.Fields.{textOf, Wrote, wrote, textWritten}
+use Rattle.index_line.specs.Fields.{frontWritten}
 use Rattle.index_line.specs.IndexLine.{numbersOf, nameIn, lineOf, writtenAs}
-use Rattle.index_line.specs.Writing.{text-known}
 use Rattle.checker.specs.Accepts.{limit}
 use Rattle.checker.specs.declared.Verdict.{Verdict}
 use Rattle.checker.specs.declared.Verdict.the-variants as verdict
@@ -29,14 +29,14 @@ use Rattle.byte_table.specs.Numbers.{numbersIn, withNumbers}
 use Rattle.wakeluri.specs.declared.answer.Answer.{Answer}
 use Rattle.wakeluri.specs.Answer.{fine, answerOf, regionAnswer, filledAnswer, verdictAnswer, writtenAnswer}
 use Rattle.wakeluri.specs.Told.{Told, tells, filledTold, regionTold, writtenTold}
-use Rattle.mission.specs.IndexedLaws.{Along, row-held}
+use Rattle.mission.specs.IndexedLaws.{Along, text-fronted, row-held}
 use Rattle.mission.specs.Leading.{lineIn, indexText, noRow, rowIn, LeadsTo, leading-at}
 use Rattle.mission.specs.TableOf.{recordCount, Gives, TableOf}
 use Rattle.mission.specs.TableLaws.{filled-table}
 use Rattle.mission.specs.Asked.{Asked}
 use Rattle.mission.specs.Reads.{table-reads}
 use Rattle.refusal.specs.Apart.{never-zero}
-use Rattle.demands.specs.Host.{AreBytes, JustThose, joined}
+use Rattle.demands.specs.Host.{AreBytes, JustThose, Needs, joined}
 use Rattle.demands.specs.TableBytes.{rows-back}
 
 -- ---- an answer with no refusal
@@ -107,28 +107,33 @@ joined-lines f (x ∷ xs) answers outputs k h =
     q : (j : ℕ) → suc k + j ≡ k + suc j
     q j = omega arith
 
--- a line that is told written is a name and numbers at the front of the output
-pub written-front : (a : Answer) (out′ : List ℕ) (w : Wrote) (name ns out : List ℕ) → w ≡ textWritten name ns out → tells a out′ ≡ writtenTold w → a .refusal ≡ 0 → take (a .count) out′ ≡ textOf name ns
-unfolding writtenTold writtenAnswer
-written-front a out′ w name ns out e told z = go (w .answer) refl
-  where
-    go : (r : Written) → w .answer ≡ r → take (a .count) out′ ≡ textOf name ns
-    go (written.Bytes n) q =
-        let c : a ≡ answerOf fine n 0 = ap (λ (x : Told). x .answer) told ∙ rw q in
-        let o : out′ ≡ w .out = ap (λ (x : Told). x .bytes) told in
-        let k : a .count ≡ n = ap (λ (y : Answer). y .count) c in
-        rw (k, o) (text-known name ns out n (w .out) (sym e ∙ rw (← q)) .front)
-    go (written.Refused x) q =
-        let c : a ≡ answerOf (refusalNumbers x) 0 0 = ap (λ (y : Told). y .answer) told ∙ rw q in
-        absurd (omega (arith, never-zero x, ap (λ (y : Answer). y .refusal) c))
+-- a text that is put at the front of an output: it is there if no refusal is told, and it needs its own length
+module _ (a : Answer) (text out out′ : List ℕ) (told : tells a out′ ≡ writtenTold (frontWritten text out)) where
+  pub front-is : a .refusal ≡ 0 → take (a .count) out′ ≡ text
+  unfolding writtenTold writtenAnswer frontWritten refusalNumbers
+  front-is none = go (ltb (length out) (length text)) refl
+    where
+      go : (t : Bool) → ltb (length out) (length text) ≡ t → take (a .count) out′ ≡ text
+      go true e =
+          let q = rw e at told in
+          absurd (omega (arith, ap (λ (x : Told). x .answer .refusal) q))
+      go false e =
+          let q = rw e at told in
+          let n : a .count ≡ length text = ap (λ (x : Told). x .answer .count) q in
+          rw (n, ap (λ (x : Told). x .bytes) q) (take-at text (drop (length text) out) (length text) refl)
 
--- so the line of row k of a table of rows that lead to their bases
-pub row-written : (f t : List ℕ) (xs : List Record) (s : Stop) (h : Along (LeadsTo f) 0 (groups (lines f)) xs s) → length f ≤ limit → length xs ≤ rowCount t
-    → (k : ℕ) → k < length xs → (out : List ℕ) (a : Answer) (out′ : List ℕ) → tells a out′ ≡ writtenTold (writtenAs f (withRows t 0 xs) (length xs) k out) → a .refusal ≡ 0
-    → take (a .count) out′ ≡ lineIn f (rowIn xs k)
+  pub front-needs : Needs (length text) out a
+  unfolding writtenTold writtenAnswer frontWritten refusalNumbers
+  front-needs = record { enough = λ h. ap (λ (x : Told). x .answer .refusal) (rw (le-ltb (length out) (length text) h) at told); short = short }
+    where
+      short : length out < length text → (a .refusal ≡ 14) × (a .first ≡ length text)
+      short h = let q = rw (lt-ltb (length out) (length text) h) at told in (ap (λ (x : Told). x .answer .refusal) q, ap (λ (x : Told). x .answer .first) q)
+
+-- so the index line of row k of a table of rows that lead to their bases
+pub row-fronted : (f t : List ℕ) (xs : List Record) (s : Stop) (h : Along (LeadsTo f) 0 (groups (lines f)) xs s) → length f ≤ limit → length xs ≤ rowCount t
+    → (k : ℕ) → k < length xs → (out : List ℕ) → writtenAs f (withRows t 0 xs) (length xs) k out ≡ frontWritten (lineIn f (rowIn xs k)) out
 unfolding writtenAs overLimit lineOf
-row-written f t xs s h small room k m out a out′ told z =
+row-fronted f t xs s h small room k m out =
     let d = leading-at f xs s h k m in
-    written-front a out′ (writtenAs f (withRows t 0 xs) (length xs) k out) (nameIn f (rowIn xs k)) (numbersOf (rowIn xs k)) out
-    (rw (le-ltb 1099511627776 (length f) small, row-held t xs noRow k (length f) room m (d .lined (omega arith)) (d .named)))
-    told z
+    rw (le-ltb 1099511627776 (length f) small, row-held t xs noRow k (length f) room m (d .lined (omega arith)) (d .named))
+    (text-fronted (nameIn f (rowIn xs k)) (numbersOf (rowIn xs k)) out (d .unbroken))

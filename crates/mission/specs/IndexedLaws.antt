@@ -35,9 +35,8 @@ use Rattle.table.specs.Fill.{Found, nothing, withFirst, heldIn}
 use Rattle.table.specs.Laws.{held-all}
 use Rattle.table.specs.declared.Stop.{Stop}
 use Rattle.table.specs.declared.Stop.the-variants as stop
-use Rattle.index_line.specs.Bytes.{is, firstWhere, overlaid-zero}
-use Rattle.index_line.specs.Fields.{numbersText, textOf, splits, wrote, textWritten}
-use Rattle.index_line.specs.Writing.{text-put}
+use Rattle.index_line.specs.Bytes.{is, firstWhere}
+use Rattle.index_line.specs.Fields.{numbersText, textOf, splits, wrote, frontWritten, textWritten}
 use Rattle.index_line.specs.declared.Written.the-variants.{Bytes}
 use Rattle.index_line.specs.Lacks.{Lacks, lacks-head, lacks-tail, lacks-cons, lacks-less, text-lacks}
 use Rattle.index_line.specs.IndexLine.{numbersOf, nameOf, nameIn}
@@ -358,13 +357,17 @@ index-whole t n h k = rw (le-ltb _ _ h) (held-all n n (indexAt t 1 0) k)
 
 -- ---- writing the line of a row
 
--- a name without whitespace and some numbers are written, where there is room
+-- a name without whitespace has no tab and no LF, so it and some numbers are written, where there is room
+pub text-fronted : (name ns out : List ℕ) → Lacks isSpace name → textWritten name ns out ≡ frontWritten (textOf name ns) out
+unfolding isSpace textWritten
+text-fronted name ns out h =
+    let s : Lacks splits name = lacks-less isSpace splits (λ b e. rw (not-space 9 b refl e, not-space 10 b refl e)) name h in
+    rw (le-ltb (firstWhere splits name) (length name) (omega arith))
+
 pub text-written : (name ns out : List ℕ) → Lacks isSpace name → length (textOf name ns) ≤ length out
     → textWritten name ns out ≡ wrote (Bytes (length (textOf name ns))) (textOf name ns ++ drop (length (textOf name ns)) out)
-unfolding isSpace
-text-written name ns out h r =
-    let s : Lacks splits name = lacks-less isSpace splits (λ b e. rw (not-space 9 b refl e, not-space 10 b refl e)) name h in
-    sym (text-put name ns out (omega arith) r) ∙ rw (overlaid-zero out (textOf name ns))
+unfolding frontWritten
+text-written name ns out h r = text-fronted name ns out h ∙ rw (le-ltb _ _ r)
 
 -- a row of a table that was filled with some holds its record, if its name lies in the bytes
 pub row-held : (t : List ℕ) (xs : List Record) (d : Record) (k bytes : ℕ) → length xs ≤ rowCount t → k < length xs → Lined (getD xs k d)

@@ -1,5 +1,7 @@
 pub mod IndexedLaws
 pub mod Leading
+pub mod Describes
+pub mod DescribesLaws
 pub mod Indexed
 pub mod Fitted
 pub mod TableOf

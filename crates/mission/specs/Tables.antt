@@ -35,7 +35,7 @@ use Rattle.checker.specs.Exactly.{accepted-only-if}
 use Rattle.checker.specs.declared.Verdict.the-variants.{Accepted}
 use Rattle.mission.specs.IndexedLaws.{Along}
 use Rattle.mission.specs.Leading.{rowIn, LeadsTo}
-use Rattle.mission.specs.Indexed.{file-leads}
+use Rattle.mission.specs.DescribesLaws.{file-leads}
 use Rattle.mission.specs.Fitted.{rows-lead}
 use Rattle.mission.specs.TableOf.{recordCount, Gives, TableOf}
 use Rattle.mission.specs.TableLaws.{taken-by, accepted-gives, row-named, leading-rows, filled-table}
