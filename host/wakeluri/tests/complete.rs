@@ -22,14 +22,14 @@ fn starts(file: &[u8]) -> Vec<usize> {
     (0..file.len()).filter(|at| file[*at] == b'>' && (*at == 0 || file[at - 1] == b'\n')).collect()
 }
 
-/// Whether a record alone has an index that the checker accepts, by trial of every line whose numbers are so small that they matter.
+/// Whether a record alone has an index that the checker accepts, by trial of every line whose numbers can matter: more bases in a line
+/// than there are lead nowhere else, and no base lies behind the record.
 fn any_line_fits(record: &[u8], bases: usize) -> bool {
     let name = definition_line(record.split_inclusive(|byte| *byte == b'\n').next().unwrap_or_default());
     let name = String::from_utf8_lossy(name.expect("a name").name).into_owned();
-    let most = record.len() + 1;
-    (0..most).any(|position| {
-        (1..=most).any(|line_bases| {
-            (1..=most).any(|line_width| {
+    (0..record.len()).any(|position| {
+        (1..=bases).any(|line_bases| {
+            (1..=record.len()).any(|line_width| {
                 let line = format!("{name}\t{bases}\t{position}\t{line_bases}\t{line_width}\n");
                 check(record, line.as_bytes()).is_ok()
             })
