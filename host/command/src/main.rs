@@ -15,6 +15,7 @@ mod place;
 mod progress;
 mod read;
 mod region;
+mod unusual;
 mod work;
 
 use apart::Outputs;
@@ -31,6 +32,8 @@ use std::io::Write;
 use std::os::unix::ffi::OsStrExt;
 use std::path::{Path, PathBuf};
 use std::process::ExitCode;
+use unusual::Unusual;
+use work::Rule;
 
 /// What all commands have: some words, and where they write to.
 #[derive(Clone, Copy)]
@@ -81,6 +84,11 @@ fn path<'m>(words: &'m ArgMatches, name: &str) -> Option<&'m Path> {
     words.get_one::<PathBuf>(name).map(PathBuf::as_path)
 }
 
+/// The rule that a file without an index is indexed by.
+fn rule(words: &ArgMatches) -> Rule {
+    if words.get_flag("strict") { Rule::Strict } else { Rule::Complete }
+}
+
 /// FILE.fai.
 fn index_of(file: &Path) -> PathBuf {
     let mut name = file.as_os_str().to_os_string();
@@ -103,7 +111,7 @@ fn index(words: &ArgMatches, common: Common) -> Result<(), Failure> {
     let outputs = || output.path().map_or(common.outputs, |place| common.outputs.and(place));
     let fasta = Input::open(file, common.how, common.json, &outputs())?;
     output.free()?;
-    let rows = work::index(&fasta)?;
+    let rows = work::index(&fasta, rule(words))?;
     let text = rows.write_index().map_err(|refusal| {
         let words = format!("{}: {}", fasta.shown, refusal.words());
         Failure::Refused(Box::new(Refused {
@@ -116,6 +124,7 @@ fn index(words: &ArgMatches, common: Common) -> Result<(), Failure> {
             sheet: None,
         }))
     })?;
+    let unusual = Unusual::of(fasta.bytes(), &rows);
     fasta.unchanged()?;
     // by now the name may lead elsewhere
     fasta.apart_from(&outputs())?;
@@ -126,9 +135,13 @@ fn index(words: &ArgMatches, common: Common) -> Result<(), Failure> {
     if common.json {
         let mut object = Object::new();
         object.text("file", &fasta.shown).text("index", &shown).number("records", records).number("bases", bases);
+        object
+            .number("records_with_blank_lines", unusual.blank_lines)
+            .number("records_without_bases", unusual.no_bases);
         return write(object.line().as_bytes());
     }
-    write(format!("{shown}: {}, {}\n", count(records, "record"), count(bases, "base")).as_bytes())
+    let records = format!("{}{}", count(records, "record"), unusual.told());
+    write(format!("{shown}: {records}, {}\n", count(bases, "base")).as_bytes())
 }
 
 fn check(words: &ArgMatches, common: Common) -> Result<(), Failure> {
@@ -196,7 +209,7 @@ fn answer(
     let width = words.get_one::<usize>("width").copied().unwrap_or(60);
     let form = Form { turn, width, json: common.json };
     let rows = match &index {
-        None => work::index(fasta)?,
+        None => work::index(fasta, rule(words))?,
         Some(index) if words.get_flag("unchecked") => {
             let _ = writeln!(
                 std::io::stderr(),

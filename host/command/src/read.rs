@@ -74,6 +74,13 @@ pub struct Region<'a> {
     end: u64,
 }
 
+impl Region<'_> {
+    /// How many bases it has: none for a record without any, where all records are meant.
+    fn bases(self) -> u64 {
+        if self.end < self.start { 0 } else { (self.end - self.start).saturating_add(1) }
+    }
+}
+
 /// A file with its rows.
 #[derive(Clone, Copy, Debug)]
 pub struct Source<'s> {
@@ -120,6 +127,10 @@ impl Source<'_> {
             Meaning::Several(ways) => return Err(self.several(asked, &ways, no(15, 0))),
         };
         let length = self.rows.record(row).map_or(0, |record| record.length);
+        // of all records, one without bases is none the less one of them
+        if asked.row.is_some() && length == 0 {
+            return Ok(Region { asked, row, start: 1, end: 0 });
+        }
         // bounds that 64 bits don't hold are judged here: no record is as long
         if written.senseless() && written.over().is_some() {
             return Err(self.not_read(asked, row, &written, no(16, 0)));
@@ -258,7 +269,7 @@ impl Source<'_> {
 
     /// The pieces of a region, in the order that they are written in.
     fn pieces(self, region: Region<'_>, turn: Turn) -> impl Iterator<Item = Result<Vec<u8>, Failure>> {
-        let pieces = (region.end - region.start) / PIECE + 1;
+        let pieces = region.bases().div_ceil(PIECE);
         (0..pieces).map(move |number| {
             let number = if turn == Turn::Reverse { pieces - 1 - number } else { number };
             let from = region.start + number * PIECE;
@@ -310,7 +321,7 @@ impl Source<'_> {
         let mut places: Vec<Option<Range<usize>>> = Vec::with_capacity(regions.len());
         for region in regions {
             let start = kept.len();
-            let keep = region.end - region.start < KEPT - start as u64;
+            let keep = region.bases() <= KEPT - start as u64;
             for piece in self.pieces(*region, form.turn) {
                 let piece = piece?;
                 if keep {
