@@ -88,7 +88,7 @@ impl<'o> Outputs<'o> {
                 let same = if place == shown { "" } else { ": it is the very same file" };
                 Err(Failure::InputOutput {
                     words: format!("{place}: the index would take the place of {shown}, which is read{same}"),
-                    next: "name another file with --output, or take that name away first".to_string(),
+                    next: "name another file with --output".to_string(),
                 })
             }
             _ => Ok(()),

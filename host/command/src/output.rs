@@ -77,7 +77,7 @@ impl Output {
         match self {
             Self::File(path) if holds_sequences(path) => {
                 let what = "file of sequences, and the index would take its place";
-                Err(no_place(path, what, "take it away first, or name another file"))
+                Err(no_place(path, what, "move it away first, or name another file"))
             }
             _ => Ok(()),
         }
