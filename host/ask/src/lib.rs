@@ -86,6 +86,10 @@ impl Speaker for Library {
         lent(table, |table| entry::index_file(file, table))
     }
 
+    fn index_complete(&self, file: &[u8], table: &mut [u64]) -> Told {
+        lent(table, |table| entry::index_complete(file, table))
+    }
+
     fn index_line(&self, line: &[u8]) -> Result<(form::Row, u64), No> {
         let row = entry::index_line(line);
         judged(row.refusal, row.first, row.second)?;

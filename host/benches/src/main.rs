@@ -64,6 +64,7 @@ fn file(plan: &Plan, report: &mut Report, what: &str, goal: f64, file: &[u8]) {
     let rows = over_crate::rows(file);
     same(what, "the rows of the other original", &over_c::rows(file), &rows);
     same(what, "the rows", &ours::rows(file), &rows);
+    same(what, "the rows by the complete rule", &ours::complete_rows(file), &rows);
     let text = wakeluri::index(file).and_then(|table| table.write_index()).expect("a good file");
     assert_eq!(wakeluri::check(file, &text), Ok(()), "{what}: the index leads to every base");
     let mut table = room(rows.len() * ROW_BYTES);
@@ -71,17 +72,18 @@ fn file(plan: &Plan, report: &mut Report, what: &str, goal: f64, file: &[u8]) {
     same(what, "the rows in a lent table", &table[..], wakeluri::index(file).expect("a good file").as_bytes());
     let mut copied = room(file.len());
     let [copy, sum] = limits(file, &mut copied);
-    let mut works: [Work; 7] = [
+    let mut works: [Work; 8] = [
         Box::new(|| over_crate::index(file)),
         Box::new(|| over_c::index(file)),
         Box::new(|| ours::index(file)),
+        Box::new(|| ours::index_complete(file)),
         Box::new(|| ours::index_into(file, &mut table)),
         Box::new(|| ours::check(file, &text)),
         copy,
         sum,
     ];
     let taken = in_turns(plan.rounds(), &mut works);
-    let [by_crate, by_c, index, into, check, copy, sum] = taken[..] else { unreachable!("seven works") };
+    let [by_crate, by_c, index, complete, into, check, copy, sum] = taken[..] else { unreachable!("eight works") };
     let size = format!("{} bytes, {}", report::number(file.len()), report::counted(rows.len(), "record"));
     let compared = |work, ours| Compared {
         work,
@@ -94,7 +96,8 @@ fn file(plan: &Plan, report: &mut Report, what: &str, goal: f64, file: &[u8]) {
         limits: Some([copy, sum]),
     };
     report.compared.push(compared(format!("index, {what}"), index));
-    // where there are few rows the two are the same
+    report.compared.push(compared(format!("index by the complete rule, {what}"), complete));
+    // where there are few rows a lent table is as a fresh one
     if rows.len() > 1000 {
         report.compared.push(compared(format!("index, {what}, into a lent table"), into));
     }
@@ -345,7 +348,7 @@ mod tests {
             reads(&QUICK, &mut report, &lines.genome(4000), 100, [1.0; 2]);
             complement(&QUICK, &mut report, "all letters", 1.0, ALL_LETTERS, 5000);
         }
-        assert_eq!((report.compared.len(), report.checked.len(), report.handed_out.len()), (18, 4, 2));
+        assert_eq!((report.compared.len(), report.checked.len(), report.handed_out.len()), (22, 4, 2));
         let told = report.to_string();
         assert!(told.contains("| index, records | ") && told.contains(" 50 records | 1 | "), "{told}");
     }

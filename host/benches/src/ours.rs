@@ -11,8 +11,13 @@ fn rows_of(table: &Table) -> Vec<Row> {
     table.records().map(|r| (r.name.to_vec(), r.length, r.position, r.line_bases, r.line_width)).collect()
 }
 
-/// The rows of a file.
+/// The rows of a file, by the original's rule.
 pub fn rows(file: &[u8]) -> Vec<Row> {
+    rows_of(&wakeluri::index_strict(file).expect("a good file"))
+}
+
+/// The rows of a file, by the complete rule.
+pub fn complete_rows(file: &[u8]) -> Vec<Row> {
     rows_of(&wakeluri::index(file).expect("a good file"))
 }
 
@@ -21,12 +26,17 @@ pub fn read_rows(text: &[u8]) -> Vec<Row> {
     rows_of(&wakeluri::read_index(text).expect("a good index"))
 }
 
-/// Indexes a whole file.
+/// Indexes a whole file, by the original's rule.
 pub fn index(file: &[u8]) -> u64 {
+    black_box(wakeluri::index_strict(black_box(file)).expect("a good file")).len() as u64
+}
+
+/// Indexes a whole file, by the complete rule.
+pub fn index_complete(file: &[u8]) -> u64 {
     black_box(wakeluri::index(black_box(file)).expect("a good file")).len() as u64
 }
 
-/// Indexes a whole file to a table that is lent, by the entry point itself: nothing is allocated.
+/// Indexes a whole file, by the original's rule, to a table that is lent, by the entry point itself: nothing is allocated.
 pub fn index_into(file: &[u8], table: &mut [u8]) -> u64 {
     let answer = entry::index_file(black_box(file), table);
     assert_eq!(answer.refusal, 0, "a good file, and a table that is long enough");

@@ -22,6 +22,8 @@ Examples:
   wakeluri index ref.fa -o other.fai  writes it elsewhere
   zcat ref.fa.gz | wakeluri index -   of standard input, to standard output
 
+Blank lines, and records without bases, are taken wherever an index can lead to every base, and counted. A file is refused only
+if no index can fit it.
 The index is written beside its place and put there in one step: a stop in the middle leaves the old one whole.";
 
 const CHECK_EXAMPLES: &str = "\
@@ -83,6 +85,10 @@ fn flag(name: &'static str) -> Arg {
     Arg::new(name).long(name).action(ArgAction::SetTrue)
 }
 
+fn strict() -> Arg {
+    flag("strict").help("take a file only if the lines of each record are alike but the last, as noodles-fasta does")
+}
+
 fn regions() -> Arg {
     Arg::new("region")
         .value_name("REGION")
@@ -104,6 +110,7 @@ fn reading(command: Command) -> Command {
         )
         .arg(index_file().long("index").short('i'))
         .arg(flag("unchecked").help("use the index as it is, without checking it with the file"))
+        .arg(strict())
         .arg(
             Arg::new("width")
                 .long("width")
@@ -154,7 +161,8 @@ pub fn command() -> Command {
                         .help("where to, if not to FILE.fai; - is standard output")
                         .value_parser(value_parser!(PathBuf))
                         .value_hint(ValueHint::FilePath),
-                ),
+                )
+                .arg(strict()),
         )
         .subcommand(
             Command::new("check")

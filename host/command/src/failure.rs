@@ -17,7 +17,7 @@ pub enum Failure {
         /// What to do next.
         next: String,
     },
-    /// Whoever read the answer has gone: there is nobody to tell. Status 3.
+    /// There is nobody to tell: whoever read the answer has gone, or words would be written to a file that is read. Status 3.
     Gone,
 }
 

@@ -26,21 +26,17 @@ pub fn not_indexed(fasta: &Input, rows: &Table<'_>, refusal: Refusal) -> Failure
         (5, Some(definition)) => {
             let name = name_of(file, definition);
             at = place::sequence(file, definition).next().or(definition.into());
-            let content = place::text(file, definition).trim_ascii_end();
             match place::sequence(file, definition).nth(1) {
-                None if content.contains(&b'\r') => (
-                    format!(
-                        "{name} has no bases: the lines of the file end in CR alone, so that all of it is one line"
-                    ),
-                    "save it with LF at the ends of its lines, or with CR and LF".to_string(),
-                ),
+                None if has_cr_inside(file, definition) => {
+                    (format!("{name} has no bases: {CR_ALONE}"), LF_ENDS.to_string())
+                }
                 Some(_) => (
                     format!("the first line of {name} is blank, and the bases begin after it"),
-                    "take the blank line out".to_string(),
+                    "take the blank line out, or leave out --strict".to_string(),
                 ),
                 None => (
                     format!("{name} has no bases"),
-                    "take the record out, or put its bases in: samtools' index has no form for it".to_string(),
+                    "take the record out, put its bases in, or leave out --strict".to_string(),
                 ),
             }
         }
@@ -48,6 +44,13 @@ pub fn not_indexed(fasta: &Input, rows: &Table<'_>, refusal: Refusal) -> Failure
             let name = name_of(file, definition);
             at = place::uneven(file, definition).or(definition.into());
             uneven(&name, refusal)
+        }
+        (42, Some(definition)) => {
+            let record = format!("{} (record {})", name_of(file, definition), commas(rows.len() as u64 + 1));
+            let (line, what) =
+                no_index_fits(file, definition, &record, refusal).unwrap_or((definition, refusal.words()));
+            at = Some(line);
+            (what, "no index can fit this file: wrap its bases anew, all lines of a record alike".to_string())
         }
         (1, _) => (
             format!(
@@ -61,13 +64,29 @@ pub fn not_indexed(fasta: &Input, rows: &Table<'_>, refusal: Refusal) -> Failure
     refused(fasta, at, &what, next, refusal)
 }
 
+const CR_ALONE: &str = "the lines of the file end in CR alone, so that all of it is one line";
+const LF_ENDS: &str = "save it with LF at the ends of its lines, or with CR and LF";
+
+/// Whether CR stands inside a line, and not just at its end.
+fn has_cr_inside(file: &[u8], line: Line) -> bool {
+    place::text(file, line).trim_ascii_end().contains(&b'\r')
+}
+
+/// What is likely wrong with a file though it is taken: it has one record, without bases, whose definition line holds CR.
+pub fn lines_of_cr(fasta: &Input, rows: &Table<'_>) -> Option<String> {
+    let record = rows.record(0).filter(|record| rows.len() == 1 && record.length == 0)?;
+    let line = place::lines(fasta.bytes(), 0, 1).next()?;
+    has_cr_inside(fasta.bytes(), line)
+        .then(|| format!("{}: {} has no bases: {CR_ALONE}\n  {LF_ENDS}", fasta.shown, quoted(record.name)))
+}
+
 /// A line that is not like those before it.
 fn uneven(name: &str, refusal: Refusal) -> (String, String) {
     let (found, expected) = (refusal.first, refusal.second);
     match (refusal.number, found) {
         (6, 0) => (
             format!("this line of {name} is blank, and more of the record follows"),
-            "take the blank line out".to_string(),
+            "take the blank line out, or leave out --strict".to_string(),
         ),
         (6, _) => (
             format!(
@@ -75,7 +94,7 @@ fn uneven(name: &str, refusal: Refusal) -> (String, String) {
                 count(found, "base"),
                 commas(expected)
             ),
-            "wrap the bases of the file anew, all lines alike".to_string(),
+            "wrap the bases of the file anew, all lines alike, or leave out --strict".to_string(),
         ),
         _ => (
             format!(
@@ -83,9 +102,46 @@ fn uneven(name: &str, refusal: Refusal) -> (String, String) {
                 count(found, "byte"),
                 commas(expected)
             ),
-            "give all lines the same ends: LF alone, or CR and LF".to_string(),
+            "give all lines the same ends, LF alone or CR and LF, or leave out --strict".to_string(),
         ),
     }
+}
+
+/// A base that no index line can lead to together with those before it: where it lies, where it would lie by the record's first lines,
+/// why, and its line.
+fn no_index_fits(file: &[u8], definition: Line, record: &str, refusal: Refusal) -> Option<(Line, String)> {
+    let (byte, base) = (usize::try_from(refusal.first).ok()?, refusal.second);
+    let with_bases = || place::sequence(file, definition).filter(|line| line.bases > 0);
+    let (first, second) = (with_bases().next()?, with_bases().nth(1)?);
+    let line = with_bases().find(|line| byte < line.start + line.width)?;
+    let before = with_bases().take_while(|other| other.start < line.start).last()?;
+    let by_first = Record {
+        name: b"",
+        length: base,
+        position: first.start as u64,
+        line_bases: first.bases as u64,
+        line_width: (second.start - first.start) as u64,
+    };
+    let expected = place::said(&by_first, base)?;
+    let why = if byte > line.start {
+        let (bases, first) = (count(line.bases as u64, "base"), commas(first.bases as u64));
+        format!("this line has {bases}, and the first has {first}")
+    } else if before.bases < first.bases {
+        let (number, bases) = (commas(before.number), count(before.bases as u64, "base"));
+        format!(
+            "line {number} has {bases}, and the first has {}; only the last may have fewer",
+            commas(first.bases as u64)
+        )
+    } else {
+        "the ends of lines or the blank lines before it are not as behind the first".to_string()
+    };
+    let shown = place::about(file, line, byte);
+    let (base, byte, expected) = (commas(base), commas(refusal.first), commas(expected));
+    let words = format!(
+        "base {base} of {record} lies at byte {byte}, and by the record's first lines it would lie at byte {expected}: {why}; \
+         here stands '{shown}'"
+    );
+    Some((line, words))
 }
 
 /// A line that should be a definition line.

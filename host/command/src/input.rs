@@ -4,11 +4,13 @@
 //! read plainly. Both end clearly if the file changes meanwhile: a mapped file that gets shorter raises a signal, which is caught,
 //! and before anything is answered the file's size and times are held against those it was opened with.
 
+use crate::apart::{Outputs, descriptor, opened};
 use crate::failure::Failure;
 use crate::progress::Progress;
 use memmap2::Mmap;
 use std::fs::{File, Metadata};
 use std::io::{self, ErrorKind, Read};
+use std::os::fd::AsFd;
 use std::os::unix::fs::{FileTypeExt, MetadataExt};
 use std::path::Path;
 use std::sync::OnceLock;
@@ -59,9 +61,14 @@ impl Seen {
 /// What is said if a mapped file gets shorter, made before it is mapped.
 static LAST_WORDS: OnceLock<String> = OnceLock::new();
 
-/// Whether a path stands for standard input.
+/// Whether a path stands for standard input: `-`, or /dev/stdin and the like.
 pub fn is_standard(path: &Path) -> bool {
-    path.as_os_str() == "-"
+    path.as_os_str() == "-" || descriptor(path) == Some(0)
+}
+
+/// Whether a path has no place of its own, beside which an index could be: standard input, or /dev/fd/63 and the like.
+pub fn is_placeless(path: &Path) -> bool {
+    is_standard(path) || descriptor(path).is_some()
 }
 
 /// A path's name in messages.
@@ -79,10 +86,13 @@ fn changed(file: &str) -> Failure {
 }
 
 impl Input {
-    /// Opens a file, or standard input for `-`.
-    pub fn open(path: &Path, how: How, json: bool) -> Result<Self, Failure> {
+    /// Opens a file, or standard input for `-`, if it is none of the outputs.
+    pub fn open(path: &Path, how: How, json: bool, outputs: &Outputs<'_>) -> Result<Self, Failure> {
         let shown = shown(path);
         if is_standard(path) {
+            if let Ok(meta) = opened(io::stdin().as_fd()) {
+                outputs.apart_from(&meta, &shown)?;
+            }
             let bytes = read_plainly(&mut io::stdin().lock(), &shown, 0)?;
             return Ok(Self { shown, standard: true, bytes: Bytes::Held(bytes), opened: None });
         }
@@ -102,6 +112,7 @@ impl Input {
                 next: "name a file in it".to_string(),
             });
         }
+        outputs.apart_from(&meta, &shown)?;
         let seen = Seen::of(&meta);
         let map =
             meta.is_file() && meta.size() > 0 && (how == How::Map || (how == How::Auto && meta.size() >= MAPPED_FROM));
@@ -127,6 +138,16 @@ impl Input {
     /// The file as a word of a command.
     pub fn given(&self) -> &str {
         if self.standard { "-" } else { &self.shown }
+    }
+
+    /// Fails if it is one of some outputs by now.
+    pub fn apart_from(&self, outputs: &Outputs<'_>) -> Result<(), Failure> {
+        let now = match &self.opened {
+            Some((file, _)) => file.metadata(),
+            None if self.standard => opened(io::stdin().as_fd()),
+            None => return Ok(()),
+        };
+        now.map_or(Ok(()), |now| outputs.apart_from(&now, &self.shown))
     }
 
     /// Whether the file is mapped.

@@ -1,24 +1,30 @@
 //! `wakeluri`: index, check and read FASTA files. Every answer comes from the proved library; what is here opens files, reads
 //! regions as people write them, and says in words what was refused and where.
 
+mod apart;
 mod arguments;
 mod failure;
 mod faults;
 mod input;
 mod json;
+mod names;
+mod narrow;
 mod nearest;
 mod output;
 mod place;
 mod progress;
 mod read;
 mod region;
+mod unusual;
 mod work;
 
+use apart::Outputs;
 use clap::ArgMatches;
 use failure::{Failure, Refused};
-use input::{How, Input, is_standard};
+use input::{How, Input, is_placeless, is_standard};
 use json::Object;
-use output::Answers;
+use narrow::Narrow;
+use output::{Answers, Output};
 use place::count;
 use read::{Asked, Form, Source, Turn};
 use std::ffi::OsString;
@@ -26,12 +32,21 @@ use std::io::Write;
 use std::os::unix::ffi::OsStrExt;
 use std::path::{Path, PathBuf};
 use std::process::ExitCode;
+use unusual::Unusual;
+use work::Rule;
 
-/// The words that all commands have.
+/// What all commands have: some words, and where they write to.
 #[derive(Clone, Copy)]
 struct Common {
     how: How,
     json: bool,
+    outputs: Outputs<'static>,
+}
+
+impl Common {
+    fn open(self, path: &Path, how: How) -> Result<Input, Failure> {
+        Input::open(path, how, self.json, &self.outputs)
+    }
 }
 
 fn main() -> ExitCode {
@@ -46,7 +61,7 @@ fn main() -> ExitCode {
         Some("read") => How::Read,
         _ => How::Auto,
     };
-    let common = Common { how, json: matches.get_flag("json") };
+    let common = Common { how, json: matches.get_flag("json"), outputs: Outputs::standard() };
     let answered = match matches.subcommand() {
         Some(("index", words)) => index(words, common),
         Some(("check", words)) => check(words, common),
@@ -69,6 +84,11 @@ fn path<'m>(words: &'m ArgMatches, name: &str) -> Option<&'m Path> {
     words.get_one::<PathBuf>(name).map(PathBuf::as_path)
 }
 
+/// The rule that a file without an index is indexed by.
+fn rule(words: &ArgMatches) -> Rule {
+    if words.get_flag("strict") { Rule::Strict } else { Rule::Complete }
+}
+
 /// FILE.fai.
 fn index_of(file: &Path) -> PathBuf {
     let mut name = file.as_os_str().to_os_string();
@@ -79,17 +99,19 @@ fn index_of(file: &Path) -> PathBuf {
 fn index(words: &ArgMatches, common: Common) -> Result<(), Failure> {
     let file = path(words, "file").unwrap_or(Path::new("-"));
     let output = match path(words, "output") {
-        Some(output) => output.to_path_buf(),
-        None if is_standard(file) => "-".into(),
-        None => index_of(file),
+        Some(output) => Output::of(output)?,
+        None if is_placeless(file) => Output::Standard,
+        None => Output::of(&index_of(file))?,
     };
-    if common.json && is_standard(&output) {
+    if common.json && output.is_standard() {
         return Err(Failure::Usage(
             "the index itself is written to standard output: --json needs --output FILE".to_string(),
         ));
     }
-    let fasta = Input::open(file, common.how, common.json)?;
-    let rows = work::index(&fasta)?;
+    let outputs = || output.path().map_or(common.outputs, |place| common.outputs.and(place));
+    let fasta = Input::open(file, common.how, common.json, &outputs())?;
+    output.free()?;
+    let rows = work::index(&fasta, rule(words))?;
     let text = rows.write_index().map_err(|refusal| {
         let words = format!("{}: {}", fasta.shown, refusal.words());
         Failure::Refused(Box::new(Refused {
@@ -102,34 +124,40 @@ fn index(words: &ArgMatches, common: Common) -> Result<(), Failure> {
             sheet: None,
         }))
     })?;
+    let unusual = Unusual::of(fasta.bytes(), &rows);
     fasta.unchanged()?;
-    if is_standard(&output) {
-        return write(&text);
-    }
-    output::replace(&output, &text)?;
+    // by now the name may lead elsewhere
+    fasta.apart_from(&outputs())?;
+    output.write(&text)?;
+    let Some(place) = output.path() else { return Ok(()) };
     let (records, bases) = (rows.len() as u64, rows.records().map(|record| record.length).sum());
-    let shown = output.display().to_string();
+    let shown = place.display().to_string();
     if common.json {
         let mut object = Object::new();
         object.text("file", &fasta.shown).text("index", &shown).number("records", records).number("bases", bases);
+        object
+            .number("records_with_blank_lines", unusual.blank_lines)
+            .number("records_without_bases", unusual.no_bases);
         return write(object.line().as_bytes());
     }
-    write(format!("{shown}: {}, {}\n", count(records, "record"), count(bases, "base")).as_bytes())
+    let records = format!("{}{}", count(records, "record"), unusual.told());
+    write(format!("{shown}: {records}, {}\n", count(bases, "base")).as_bytes())
 }
 
 fn check(words: &ArgMatches, common: Common) -> Result<(), Failure> {
     let file = path(words, "file").unwrap_or(Path::new("-"));
     let index = match path(words, "index") {
         Some(index) => index.to_path_buf(),
-        None if is_standard(file) => {
-            return Err(Failure::Usage("name the index that standard input is to be checked with".to_string()));
+        None if is_placeless(file) => {
+            let words = format!("name the index that {} is to be checked with", input::shown(file));
+            return Err(Failure::Usage(words));
         }
         None => index_of(file),
     };
     if is_standard(file) && is_standard(&index) {
         return Err(Failure::Usage("the file and its index can't both come from standard input".to_string()));
     }
-    let fasta = Input::open(file, common.how, common.json)?;
+    let fasta = common.open(file, common.how)?;
     let index = open_index(&index, file, common)?;
     work::check(&fasta, &index)?;
     fasta.unchanged()?;
@@ -147,7 +175,7 @@ fn check(words: &ArgMatches, common: Common) -> Result<(), Failure> {
 
 /// The index, read plainly; where there is none, the message says how to make one.
 fn open_index(index: &Path, file: &Path, common: Common) -> Result<Input, Failure> {
-    match Input::open(index, How::Read, common.json) {
+    match common.open(index, How::Read) {
         Err(Failure::InputOutput { words, .. }) if !is_standard(index) && !index.exists() => {
             let next = format!("make the index with `wakeluri index {}`", file.display());
             Err(Failure::InputOutput { words, next })
@@ -158,12 +186,9 @@ fn open_index(index: &Path, file: &Path, common: Common) -> Result<Input, Failur
 
 fn read(words: &ArgMatches, turn: Turn, common: Common) -> Result<(), Failure> {
     let file = path(words, "file").unwrap_or(Path::new("-"));
-    let sheet = path(words, "regions");
-    if is_standard(file) && sheet.is_some_and(is_standard) {
-        return Err(Failure::Usage("the file and the sheet can't both come from standard input".to_string()));
-    }
-    let asked = asked(words, sheet, common)?;
-    let fasta = Input::open(file, common.how, common.json)?;
+    let sheet = open_sheet(words, file, common)?;
+    let asked = asked(words, sheet.as_ref())?;
+    let fasta = common.open(file, common.how)?;
     answer(words, file, &fasta, asked, turn, common)
 }
 
@@ -172,17 +197,19 @@ fn answer(
     words: &ArgMatches,
     file: &Path,
     fasta: &Input,
-    asked: Vec<Asked>,
+    asked: Vec<Asked<'_>>,
     turn: Turn,
     common: Common,
 ) -> Result<(), Failure> {
     let index = match path(words, "index") {
         Some(index) => Some(open_index(index, file, common)?),
-        None if is_standard(file) || !index_of(file).exists() => None,
+        None if is_placeless(file) || !index_of(file).exists() => None,
         None => Some(open_index(&index_of(file), file, common)?),
     };
+    let width = words.get_one::<usize>("width").copied().unwrap_or(60);
+    let form = Form { turn, width, json: common.json };
     let rows = match &index {
-        None => work::index(fasta)?,
+        None => work::index(fasta, rule(words))?,
         Some(index) if words.get_flag("unchecked") => {
             let _ = writeln!(
                 std::io::stderr(),
@@ -194,30 +221,48 @@ fn answer(
         }
         Some(index) => {
             work::check(fasta, index)?;
+            let narrow = Narrow::of(index, &asked);
+            if let Some(answered) = narrow.and_then(|narrow| narrow.answer(fasta, &asked, form)) {
+                return answered;
+            }
             work::read_index(index)?
         }
     };
-    let asked = if asked.is_empty() {
-        let whole = |(row, name): (usize, &[u8])| Asked { text: name.to_vec(), sheet: None, row: Some(row) };
+    let asked: Vec<Asked<'_>> = if asked.is_empty() {
+        let whole = |(row, text)| Asked { text, sheet: None, row: Some(row) };
         rows.records().map(|record| record.name).enumerate().map(whole).collect()
     } else {
         asked
     };
-    let width = words.get_one::<usize>("width").copied().unwrap_or(60);
-    Source { fasta, rows: &rows }.answer(&asked, Form { turn, width, json: common.json })
+    let source = Source { fasta, rows: &rows, numbers: None };
+    source.give(&source.regions(&asked)?, form)
+}
+
+/// The sheet of regions, if there is one.
+fn open_sheet(words: &ArgMatches, file: &Path, common: Common) -> Result<Option<Input>, Failure> {
+    let (sheet, index) = (path(words, "regions"), path(words, "index"));
+    for (one, two, what) in [
+        (Some(file), sheet, "the file and the sheet"),
+        (Some(file), index, "the file and its index"),
+        (sheet, index, "the sheet and the index"),
+    ] {
+        if one.is_some_and(is_standard) && two.is_some_and(is_standard) {
+            return Err(Failure::Usage(format!("{what} can't both come from standard input")));
+        }
+    }
+    sheet.map(|sheet| common.open(sheet, How::Read)).transpose()
 }
 
 /// The regions that are asked for, one by one and in a sheet.
-fn asked(words: &ArgMatches, sheet: Option<&Path>, common: Common) -> Result<Vec<Asked>, Failure> {
+fn asked<'a>(words: &'a ArgMatches, sheet: Option<&'a Input>) -> Result<Vec<Asked<'a>>, Failure> {
     let regions = words.get_many::<OsString>("region").unwrap_or_default();
-    let mut asked: Vec<Asked> =
-        regions.map(|region| Asked { text: region.as_bytes().to_vec(), sheet: None, row: None }).collect();
+    let mut asked: Vec<Asked<'_>> =
+        regions.map(|region| Asked { text: region.as_bytes(), sheet: None, row: None }).collect();
     if let Some(sheet) = sheet {
-        let sheet = Input::open(sheet, How::Read, common.json)?;
         for (line, number) in sheet.bytes().split(|byte| *byte == b'\n').zip(1..) {
             let text = line.trim_ascii();
             if !text.is_empty() {
-                asked.push(Asked { text: text.to_vec(), sheet: Some((sheet.shown.clone(), number)), row: None });
+                asked.push(Asked { text, sheet: Some((&sheet.shown, number)), row: None });
             }
         }
         if asked.is_empty() {
@@ -229,12 +274,9 @@ fn asked(words: &ArgMatches, sheet: Option<&Path>, common: Common) -> Result<Vec
 
 fn complement(words: &ArgMatches, turn: Turn, common: Common) -> Result<(), Failure> {
     let file = path(words, "file").unwrap_or(Path::new("-"));
-    let sheet = path(words, "regions");
-    if is_standard(file) && sheet.is_some_and(is_standard) {
-        return Err(Failure::Usage("the file and the sheet can't both come from standard input".to_string()));
-    }
-    let asked = asked(words, sheet, common)?;
-    let fasta = Input::open(file, common.how, common.json)?;
+    let sheet = open_sheet(words, file, common)?;
+    let asked = asked(words, sheet.as_ref())?;
+    let fasta = common.open(file, common.how)?;
     if !asked.is_empty() || fasta.bytes().first() == Some(&b'>') {
         return answer(words, file, &fasta, asked, turn, common);
     }

@@ -1,12 +1,13 @@
 //! Answers on standard output, and an index that is written beside its place and then put there in one step.
 
+use crate::apart::{descriptor, folder, led_to};
 use crate::failure::Failure;
 use std::ffi::CString;
 use std::fs::{self, File, OpenOptions};
-use std::io::{self, Write};
-use std::os::fd::AsRawFd;
+use std::io::{self, Read, Write};
+use std::os::fd::{AsRawFd, FromRawFd, RawFd};
 use std::os::unix::ffi::OsStrExt;
-use std::os::unix::fs::OpenOptionsExt;
+use std::os::unix::fs::{FileTypeExt, OpenOptionsExt};
 use std::path::{Path, PathBuf};
 
 /// Standard output, for everything at once.
@@ -39,29 +40,115 @@ fn failed(error: &io::Error) -> Failure {
     )
 }
 
-/// Writes a file so that its place holds the old one or the whole new one, whenever this is stopped.
-pub fn replace(path: &Path, text: &[u8]) -> Result<(), Failure> {
-    // where a link leads, the file itself is replaced
-    let place = fs::canonicalize(path).unwrap_or_else(|_| path.to_path_buf());
-    let shown = path.display().to_string();
-    match fs::metadata(&place) {
-        Ok(meta) if meta.is_dir() => {
-            return Err(Failure::InputOutput {
-                words: format!("{shown}: this is a folder, and the index is a file"),
-                next: "name a file with --output".to_string(),
-            });
+/// Where an index is written to.
+#[derive(Debug)]
+pub enum Output {
+    /// Standard output.
+    Standard,
+    /// A file that is open already, as /dev/fd/3: what was written to it before stays.
+    Open(PathBuf, RawFd),
+    /// A pipe or a device, which can't be replaced: it is written to.
+    Device(PathBuf),
+    /// A file, old or new.
+    File(PathBuf),
+}
+
+impl Output {
+    /// What a name stands for. A folder and a disk are no places for an index.
+    pub fn of(path: &Path) -> Result<Self, Failure> {
+        match descriptor(path) {
+            Some(1) => return Ok(Self::Standard),
+            Some(open) => return Ok(Self::Open(path.to_path_buf(), open)),
+            None if path.as_os_str() == "-" => return Ok(Self::Standard),
+            None => {}
         }
-        // a pipe or a device can't be replaced: it is written to
-        Ok(meta) if !meta.is_file() => {
-            let write = || OpenOptions::new().write(true).open(&place)?.write_all(text);
-            return write().map_err(|error| Failure::system("it can't be written", &shown, &error, ""));
+        match fs::metadata(path) {
+            Ok(meta) if meta.is_dir() => Err(no_place(path, "folder, and the index is a file", "name a file")),
+            Ok(meta) if meta.file_type().is_block_device() => {
+                Err(no_place(path, "disk, and all that is on it would be lost", "name a file"))
+            }
+            Ok(meta) if !meta.is_file() => Ok(Self::Device(path.to_path_buf())),
+            _ => Ok(Self::File(path.to_path_buf())),
         }
-        _ => {}
     }
-    let beside = beside(&place);
-    let written = write_whole(&beside, text).and_then(|()| fs::rename(&beside, &place));
+
+    /// Fails if a file of sequences is there: an index would take its place, which nobody means.
+    pub fn free(&self) -> Result<(), Failure> {
+        match self {
+            Self::File(path) if holds_sequences(path) => {
+                let what = "file of sequences, and the index would take its place";
+                Err(no_place(path, what, "move it away first, or name another file"))
+            }
+            _ => Ok(()),
+        }
+    }
+
+    /// Whether it is standard output.
+    pub fn is_standard(&self) -> bool {
+        matches!(self, Self::Standard)
+    }
+
+    /// Its name, if it is not standard output.
+    pub fn path(&self) -> Option<&Path> {
+        match self {
+            Self::Standard => None,
+            Self::Open(path, _) | Self::Device(path) | Self::File(path) => Some(path),
+        }
+    }
+
+    /// Writes all of an index.
+    pub fn write(&self, text: &[u8]) -> Result<(), Failure> {
+        let written = match self {
+            Self::Standard => {
+                let mut answers = Answers::new();
+                answers.write(text)?;
+                return answers.done();
+            }
+            Self::File(path) => return replace(path, text),
+            Self::Open(_, open) => once_more(*open).and_then(|mut file| file.write_all(text)),
+            Self::Device(path) => OpenOptions::new().write(true).open(path).and_then(|mut file| file.write_all(text)),
+        };
+        let shown = self.path().map(|path| path.display().to_string()).unwrap_or_default();
+        written.map_err(|error| Failure::system("it can't be written", &shown, &error, ""))
+    }
+}
+
+fn no_place(path: &Path, what: &str, next: &str) -> Failure {
+    let words = format!("{}: this is a {what}", path.display());
+    Failure::InputOutput { words, next: format!("{next} with --output") }
+}
+
+/// An open file, opened once more, so that it stays open when this one is closed.
+fn once_more(open: RawFd) -> io::Result<File> {
+    // SAFETY: it only makes a new number for an open file, or tells that there is none.
+    let new = unsafe { libc::fcntl(open, libc::F_DUPFD_CLOEXEC, 3) };
+    if new < 0 {
+        return Err(io::Error::last_os_error());
+    }
+    // SAFETY: the number was made here, and nobody else has it.
+    Ok(unsafe { File::from_raw_fd(new) })
+}
+
+/// Whether a file begins as FASTA does, or as a packed file, and not as an index.
+fn holds_sequences(path: &Path) -> bool {
+    let mut start = vec![];
+    let read = File::open(path).and_then(|file| file.take(1 << 16).read_to_end(&mut start));
+    let line = start.split_inclusive(|byte| *byte == b'\n').next().unwrap_or_default();
+    // a name may begin with '>'
+    read.is_ok() && (line.starts_with(b"\x1f\x8b") || (line.starts_with(b">") && wakeluri::index_line(line).is_err()))
+}
+
+/// Writes a file so that its place holds the old one or the whole new one, whenever this is stopped.
+fn replace(path: &Path, text: &[u8]) -> Result<(), Failure> {
+    let shown = path.display().to_string();
+    // where a link leads, the file itself is replaced
+    let place = led_to(path).map_err(|error| Failure::system("it can't be written", &shown, &error, ""))?;
+    let written = write_beside(&place, text).and_then(|beside| {
+        fs::rename(&beside, &place).inspect_err(|_| {
+            let _ = fs::remove_file(&beside);
+        })
+    });
     if let Err(error) = written {
-        let _ = fs::remove_file(&beside);
         let old = if place.exists() { "the old index is as it was" } else { "no index was written" };
         let next = match error.kind() {
             io::ErrorKind::StorageFull | io::ErrorKind::FileTooLarge | io::ErrorKind::QuotaExceeded => {
@@ -77,29 +164,33 @@ pub fn replace(path: &Path, text: &[u8]) -> Result<(), Failure> {
         return Err(Failure::system(&format!("it can't be written, and {old}"), &shown, &error, &next));
     }
     // the new name is on the disk when its folder is
-    let folder = place.parent().filter(|folder| !folder.as_os_str().is_empty()).unwrap_or(Path::new("."));
-    if let Ok(folder) = File::open(folder) {
+    if let Ok(folder) = File::open(folder(&place)) {
         let _ = folder.sync_all();
     }
     Ok(())
 }
 
-/// A name in the same folder that nobody else uses.
-fn beside(place: &Path) -> PathBuf {
-    let mut name = place.file_name().unwrap_or_default().to_os_string();
-    name.push(format!(".{}.new", std::process::id()));
-    place.with_file_name(name)
+/// So many names are tried for a file beside its place.
+const NAMES: u32 = 100;
+
+/// Writes all of a file to a name beside its place that nobody uses, and tells it. What has such a name, whosever it is, stays.
+fn write_beside(place: &Path, text: &[u8]) -> io::Result<PathBuf> {
+    let mut taken = io::Error::from(io::ErrorKind::AlreadyExists);
+    for number in 0..NAMES {
+        let beside = place.with_file_name(format!("wakeluri-{}-{number}.new", std::process::id()));
+        match write_whole(&beside, text) {
+            Ok(()) => return Ok(beside),
+            Err(error) if error.kind() == io::ErrorKind::AlreadyExists => taken = error,
+            Err(error) => return Err(error),
+        }
+    }
+    Err(taken)
 }
 
-/// Writes all of a file to a name in the same folder as its place. Where the system can do it the file has no name until it is
-/// whole, so that a stop in the middle leaves nothing behind.
+/// Writes all of a file to a new name. Where the system can do it the file has no name until it is whole, so that a stop in the middle
+/// leaves nothing behind.
 fn write_whole(path: &Path, text: &[u8]) -> io::Result<()> {
-    // left by a stopped run that had the same number
-    if path.exists() {
-        fs::remove_file(path)?;
-    }
-    let folder = path.parent().filter(|folder| !folder.as_os_str().is_empty()).unwrap_or(Path::new("."));
-    if let Ok(mut file) = OpenOptions::new().write(true).custom_flags(libc::O_TMPFILE).open(folder) {
+    if let Ok(mut file) = OpenOptions::new().write(true).custom_flags(libc::O_TMPFILE).open(folder(path)) {
         file.write_all(text)?;
         file.sync_all()?;
         if named(&file, path) {
@@ -107,8 +198,10 @@ fn write_whole(path: &Path, text: &[u8]) -> io::Result<()> {
         }
     }
     let mut file = OpenOptions::new().write(true).create_new(true).open(path)?;
-    file.write_all(text)?;
-    file.sync_all()
+    let written = file.write_all(text).and_then(|()| file.sync_all());
+    written.inspect_err(|_| {
+        let _ = fs::remove_file(path);
+    })
 }
 
 /// Gives a name to a file that has none, if that can be done.

@@ -53,14 +53,20 @@ pub fn sequence(file: &[u8], definition: Line) -> impl Iterator<Item = Line> + '
         .take_while(|line| file.get(line.start) != Some(&b'>'))
 }
 
+/// Where the definition line of a row's record begins, in a table of the file's own names.
+pub fn definition_start(rows: &Table<'_>, row: usize) -> Option<usize> {
+    let bytes = rows.as_bytes().get(row.checked_mul(48)?..)?.first_chunk()?;
+    usize::try_from(u64::from_le_bytes(*bytes)).ok()?.checked_sub(1)
+}
+
 /// The definition line of the record that an indexer refused, after the rows that it had made.
 pub fn refused_definition(file: &[u8], rows: &Table<'_>) -> Option<Line> {
     let start = match rows.len().checked_sub(1) {
         None => 0,
         Some(last) => {
-            let name_start = rows.as_bytes().get(last * 48..)?.first_chunk().map(|bytes| u64::from_le_bytes(*bytes))?;
-            let (_, next) = wakeluri::index_record(file, name_start.checked_sub(1)?).ok()??;
-            usize::try_from(next).ok()?
+            let definition = lines(file, definition_start(rows, last)?, 0).next()?;
+            let last = sequence(file, definition).last().unwrap_or(definition);
+            last.start + last.width
         }
     };
     lines(file, start, line_number(file, start)).next()
@@ -83,6 +89,16 @@ pub fn base(file: &[u8], definition: Line, base: u64) -> Option<(Line, usize)> {
         left -= line.bases;
     }
     None
+}
+
+/// What a message shows of a line: all bases of a short one, of a long one those about a byte of it.
+pub fn about(file: &[u8], line: Line, byte: usize) -> String {
+    const SHOWN: usize = 60;
+    let from = if line.bases <= SHOWN { 0 } else { (byte - line.start).saturating_sub(SHOWN / 2) };
+    let to = line.bases.min(from + SHOWN);
+    let part = text(file, line).get(from..to).unwrap_or_default();
+    let dots = |left: bool| if left { ".." } else { "" };
+    format!("{}{}{}", dots(from > 0), quoted(part), dots(to < line.bases))
 }
 
 /// The offset at which an index line says that a base lies, if 64 bits hold it.
@@ -133,9 +149,10 @@ mod tests {
             uneven(b">s\nACGT\n\nAC\n", definition(b">s\nACGT\n\nAC\n", 1).unwrap()).map(|line| line.number),
             Some(3)
         );
-        let (rows, refusal) = wakeluri::index_until_refused(b">s\nAC\n>t\n\nAC\n");
-        assert!(refusal.is_some());
-        assert_eq!(refused_definition(b">s\nAC\n>t\n\nAC\n", &rows).map(|line| line.number), Some(3));
+        let file = b">s\n\nAC\n\n>t\nAC\nA\nC\n";
+        let (rows, refusal) = wakeluri::index_until_refused(file);
+        assert_eq!((rows.len(), refusal.map(|refusal| refusal.number)), (1, Some(42)));
+        assert_eq!(refused_definition(file, &rows).map(|line| line.number), Some(5));
         assert_eq!((commas(0), commas(999), commas(1234567)), ("0".into(), "999".into(), "1,234,567".into()));
     }
 }

@@ -3,13 +3,13 @@
 use crate::failure::{Failure, Refused};
 use crate::input::Input;
 use crate::json::Object;
+use crate::names::Names;
 use crate::nearest::nearest;
 use crate::output::Answers;
 use crate::place::{commas, count, quoted};
-use crate::region::{Meaning, Number, Written, meaning};
-use std::cell::RefCell;
-use std::collections::HashMap;
+use crate::region::{Meaning, Number, Reading, Written, is_before_a_colon, meaning, plain_form, readings};
 use std::io::Write;
+use std::ops::Range;
 use wakeluri::{Bounds, Call, Refusal, Table};
 
 /// The bases that are read at a time.
@@ -49,21 +49,24 @@ impl Turn {
     }
 }
 
+/// So many names that several records have are told one by one.
+const TWINS: usize = 10;
+
 /// A region as it was asked for, and the line of the sheet that it stands in.
-#[derive(Clone, Debug)]
-pub struct Asked {
+#[derive(Clone, Copy, Debug)]
+pub struct Asked<'a> {
     /// Its text.
-    pub text: Vec<u8>,
+    pub text: &'a [u8],
     /// The sheet and the line.
-    pub sheet: Option<(String, u64)>,
+    pub sheet: Option<(&'a str, u64)>,
     /// The row, where a record is meant and not a region in words.
     pub row: Option<usize>,
 }
 
 /// A region that is known to be good.
-#[derive(Debug)]
-struct Region {
-    asked: Asked,
+#[derive(Clone, Copy, Debug)]
+pub struct Region<'a> {
+    asked: Asked<'a>,
     row: usize,
     /// The first base.
     start: u64,
@@ -71,16 +74,22 @@ struct Region {
     end: u64,
 }
 
-/// The rows of names that were looked up.
-type Known<'a> = RefCell<HashMap<&'a [u8], Option<usize>>>;
+impl Region<'_> {
+    /// How many bases it has: none for a record without any, where all records are meant.
+    fn bases(self) -> u64 {
+        if self.end < self.start { 0 } else { (self.end - self.start).saturating_add(1) }
+    }
+}
 
 /// A file with its rows.
 #[derive(Clone, Copy, Debug)]
 pub struct Source<'s> {
     /// The file.
     pub fasta: &'s Input,
-    /// Its rows.
+    /// Its rows, all of them or those that are asked for.
     pub rows: &'s Table<'s>,
+    /// Which records they are, counted from 0, where they are not all.
+    pub numbers: Option<&'s [usize]>,
 }
 
 /// How the answers are written.
@@ -95,41 +104,33 @@ pub struct Form {
 }
 
 impl Source<'_> {
-    fn refused(self, asked: &Asked, what: String, next: String, refusal: Refusal) -> Failure {
-        let whence = asked.sheet.as_ref().map_or(String::new(), |(sheet, line)| format!("{sheet}, line {line}: "));
-        let words = format!("{whence}{}: {} was asked for, and {what}", self.fasta.shown, quoted(&asked.text));
+    fn refused(self, asked: Asked<'_>, what: String, next: String, refusal: Refusal) -> Failure {
+        let whence = asked.sheet.map_or(String::new(), |(sheet, line)| format!("{sheet}, line {line}: "));
+        let words = format!("{whence}{}: {} was asked for, and {what}", self.fasta.shown, quoted(asked.text));
         let file = self.fasta.shown.clone();
-        let region = Some(quoted(&asked.text));
-        Failure::Refused(Box::new(Refused {
-            words,
-            next,
-            refusal,
-            file,
-            place: None,
-            region,
-            sheet: asked.sheet.clone(),
-        }))
+        let region = Some(quoted(asked.text));
+        let sheet = asked.sheet.map(|(sheet, line)| (sheet.to_string(), line));
+        Failure::Refused(Box::new(Refused { words, next, refusal, file, place: None, region, sheet }))
     }
 
-    /// A region's row and bounds, or why it isn't good. Names that were looked up are known.
-    fn resolve<'a>(self, asked: &'a Asked, known: &Known<'a>) -> Result<Region, Failure> {
+    /// A region's row and bounds, or why it isn't good.
+    fn resolve<'a>(self, asked: Asked<'a>, names: &Names<'_>) -> Result<Region<'a>, Failure> {
         let no = |number, first| Refusal { number, first, second: 0, call: Call::ReadExact };
         let meaning = match asked.row {
             Some(row) => Meaning::Row(row, Written::default()),
-            None => meaning(&asked.text, |name| {
-                *known.borrow_mut().entry(name).or_insert_with(|| self.rows.find(name).ok())
-            }),
+            None => meaning(asked.text, |name| names.find(name)),
         };
         let (row, written) = match meaning {
             Meaning::Row(row, written) => (row, written),
-            Meaning::NoName(name) => return Err(self.no_name(asked, &name, no(15, 0))),
-            Meaning::Bounds(row, why) => {
-                let name = self.rows.record(row).map_or(String::new(), |record| quoted(record.name));
-                let what = format!("there is a record {name}, and what follows is no region of it: {why}");
-                return Err(self.refused(asked, what, format!("write it as {name}:5-9"), no(15, 0)));
-            }
+            Meaning::NoName(name) => return Err(self.no_name(asked, name, no(15, 0))),
+            Meaning::Bounds(row, why) => return Err(self.no_bounds(asked, row, &why, no(15, 0))),
+            Meaning::Several(ways) => return Err(self.several(asked, &ways, no(15, 0))),
         };
         let length = self.rows.record(row).map_or(0, |record| record.length);
+        // of all records, one without bases is none the less one of them
+        if asked.row.is_some() && length == 0 {
+            return Ok(Region { asked, row, start: 1, end: 0 });
+        }
         // bounds that 64 bits don't hold are judged here: no record is as long
         if written.senseless() && written.over().is_some() {
             return Err(self.not_read(asked, row, &written, no(16, 0)));
@@ -143,14 +144,50 @@ impl Source<'_> {
         match self.rows.read_exact_into(self.fasta.bytes(), row, bounds, &mut []) {
             Err(Refusal { number: 14, first: bases, .. }) => {
                 let start = bounds.start.unwrap_or(1);
-                Ok(Region { asked: asked.clone(), row, start, end: start.saturating_add(bases.saturating_sub(1)) })
+                Ok(Region { asked, row, start, end: start.saturating_add(bases.saturating_sub(1)) })
             }
             Err(refusal) => Err(self.not_read(asked, row, &written, refusal)),
             Ok(_) => Err(self.not_read(asked, row, &written, no(17, length))),
         }
     }
 
-    fn no_name(self, asked: &Asked, name: &[u8], refusal: Refusal) -> Failure {
+    /// What follows a record's name is no region of it.
+    fn no_bounds(self, asked: Asked<'_>, row: usize, why: &str, refusal: Refusal) -> Failure {
+        let name = self.rows.record(row).map_or(String::new(), |record| quoted(record.name));
+        let what = format!("there is a record {name}, and what follows is no region of it: {why}");
+        self.refused(asked, what, format!("write it as {name}:5-9"), refusal)
+    }
+
+    /// More than one record may be meant: each way to read it, and a form that has no other.
+    fn several(self, asked: Asked<'_>, ways: &[(Reading<'_>, usize)], refusal: Refusal) -> Failure {
+        let told = |(reading, _): &(Reading<'_>, usize)| match reading.bounds {
+            None => format!("the whole of {}", quoted(reading.name)),
+            Some(bounds) => format!("'{}' of {}", quoted(bounds), quoted(reading.name)),
+        };
+        let plain = |(reading, row): &(Reading<'_>, usize)| {
+            let length = self.rows.record(*row).map_or(0, |record| record.length);
+            plain_form(*reading, length, |name| self.rows.find(name).ok())
+        };
+        let forms: Vec<String> = ways.iter().filter_map(plain).map(|form| quoted(&form)).collect();
+        let what = format!(
+            "it can be read in {} ways: {}",
+            if ways.len() == 2 { "two" } else { "three" },
+            ways.iter().map(told).collect::<Vec<_>>().join(", or ")
+        );
+        self.refused(asked, what, format!("say which is meant: {}", forms.join(" or ")), refusal)
+    }
+
+    fn no_name(self, asked: Asked<'_>, name: &[u8], refusal: Refusal) -> Failure {
+        // the longest name that stands before a colon, with something that is no bounds behind it
+        let before = self.rows.records().enumerate().filter(|(_, record)| is_before_a_colon(record.name, asked.text));
+        if let Some((row, record)) =
+            before.reduce(|one, two| if two.1.name.len() > one.1.name.len() { two } else { one })
+        {
+            let behind = asked.text.get(record.name.len() + 1..).unwrap_or_default();
+            if let Err(why) = Written::of(behind) {
+                return self.no_bounds(asked, row, &why, refusal);
+            }
+        }
         let near = nearest(name, self.rows.records().map(|record| record.name));
         let near: Vec<String> = near.into_iter().map(quoted).collect();
         let what = format!("no record is named '{}'", quoted(name));
@@ -165,7 +202,7 @@ impl Source<'_> {
     }
 
     /// A refusal of a read, in words.
-    fn not_read(self, asked: &Asked, row: usize, written: &Written, refusal: Refusal) -> Failure {
+    fn not_read(self, asked: Asked<'_>, row: usize, written: &Written, refusal: Refusal) -> Failure {
         let name = self.rows.record(row).map_or(String::new(), |record| quoted(record.name));
         let length = self.rows.record(row).map_or(0, |record| record.length);
         let (what, next) = match refusal.number {
@@ -219,20 +256,20 @@ impl Source<'_> {
     }
 
     /// Bases of a region, turned.
-    fn piece(self, region: &Region, from: u64, to: u64, turn: Turn) -> Result<Vec<u8>, Failure> {
+    fn piece(self, region: Region<'_>, from: u64, to: u64, turn: Turn) -> Result<Vec<u8>, Failure> {
         let bases = self.rows.read_exact(self.fasta.bytes(), region.row, from..=to);
         bases.and_then(|bases| turn.turned(bases)).map_err(|refusal| {
             // places are told as places in the region
             let before = if refusal.number == 24 { from - region.start } else { 0 };
             let refusal = Refusal { first: refusal.first.saturating_add(before), ..refusal };
             let written = Written::of(format!("{}-{}", region.start, region.end).as_bytes()).unwrap_or_default();
-            self.not_read(&region.asked, region.row, &written, refusal)
+            self.not_read(region.asked, region.row, &written, refusal)
         })
     }
 
     /// The pieces of a region, in the order that they are written in.
-    fn pieces(self, region: &Region, turn: Turn) -> impl Iterator<Item = Result<Vec<u8>, Failure>> {
-        let pieces = (region.end - region.start) / PIECE + 1;
+    fn pieces(self, region: Region<'_>, turn: Turn) -> impl Iterator<Item = Result<Vec<u8>, Failure>> {
+        let pieces = region.bases().div_ceil(PIECE);
         (0..pieces).map(move |number| {
             let number = if turn == Turn::Reverse { pieces - 1 - number } else { number };
             let from = region.start + number * PIECE;
@@ -241,57 +278,68 @@ impl Source<'_> {
     }
 
     /// Says it aloud where a name could mean another record too.
-    fn warn_of_twins(self, regions: &[Region]) {
+    fn warn_of_twins(self, regions: &[Region<'_>], names: &Names<'_>) {
         let mut rows: Vec<usize> =
             regions.iter().filter(|region| region.asked.row.is_none()).map(|region| region.row).collect();
         rows.sort_unstable();
         rows.dedup();
-        for row in rows {
-            let Some(name) = self.rows.record(row).map(|record| record.name) else { continue };
-            let twin = (row + 1..self.rows.len())
-                .find(|other| self.rows.record(*other).is_some_and(|other| other.name == name));
-            if let Some(twin) = twin {
-                let (name, first, second) = (quoted(name), commas(row as u64 + 1), commas(twin as u64 + 1));
-                let told = format!(
-                    "records {first} and {second} of {} are both named {name}: the first is read",
-                    self.fasta.shown
-                );
+        let file = &self.fasta.shown;
+        let twins = rows.into_iter().filter_map(|row| {
+            let name = self.rows.record(row)?.name;
+            Some((row, names.twin(name)?, name))
+        });
+        let number = |row: usize| self.numbers.and_then(|numbers| numbers.get(row).copied()).unwrap_or(row) as u64 + 1;
+        let mut more = 0;
+        for (told, (row, twin, name)) in twins.enumerate() {
+            if told < TWINS {
+                let (name, first, second) = (quoted(name), commas(number(row)), commas(number(twin)));
+                let told = format!("records {first} and {second} of {file} are both named {name}: the first is read");
                 let _ = writeln!(std::io::stderr(), "wakeluri: warning: {told}");
+            } else {
+                more += 1;
             }
+        }
+        if more > 0 {
+            let told = format!("so it is with {} of {file}", count(more, "more name"));
+            let _ = writeln!(std::io::stderr(), "wakeluri: warning: {told}");
         }
     }
 
+    /// The regions that are asked for, if all of them are good.
+    pub fn regions<'a>(self, asked: &[Asked<'a>]) -> Result<Vec<Region<'a>>, Failure> {
+        let wanted = asked.iter().filter(|asked| asked.row.is_none());
+        let names = Names::new(self.rows, wanted.flat_map(|asked| readings(asked.text).map(|reading| reading.name)));
+        let regions: Vec<Region<'_>> =
+            asked.iter().map(|asked| self.resolve(*asked, &names)).collect::<Result<_, _>>()?;
+        self.warn_of_twins(&regions, &names);
+        Ok(regions)
+    }
+
     /// Reads all regions, and only then writes them.
-    pub fn answer(self, asked: &[Asked], form: Form) -> Result<(), Failure> {
-        let known = Known::default();
-        let regions: Vec<Region> = asked.iter().map(|asked| self.resolve(asked, &known)).collect::<Result<_, _>>()?;
-        self.warn_of_twins(&regions);
-        let mut kept: Vec<Option<Vec<Vec<u8>>>> = vec![];
-        let mut bytes = 0;
-        for region in &regions {
-            let keep = region.end - region.start < KEPT - bytes;
-            let mut pieces = vec![];
-            for piece in self.pieces(region, form.turn) {
+    pub fn give(self, regions: &[Region<'_>], form: Form) -> Result<(), Failure> {
+        let mut kept = vec![];
+        let mut places: Vec<Option<Range<usize>>> = Vec::with_capacity(regions.len());
+        for region in regions {
+            let start = kept.len();
+            let keep = region.bases() <= KEPT - start as u64;
+            for piece in self.pieces(*region, form.turn) {
                 let piece = piece?;
                 if keep {
-                    bytes += piece.len() as u64;
-                    pieces.push(piece);
+                    kept.extend_from_slice(&piece);
                 }
             }
-            kept.push(keep.then_some(pieces));
+            places.push(keep.then_some(start..kept.len()));
         }
         self.fasta.unchanged()?;
-        let again = kept.iter().any(Option::is_none);
 
         let mut answers = Answers::new();
-        for (region, kept) in regions.iter().zip(kept) {
-            let pieces: Box<dyn Iterator<Item = Result<Vec<u8>, Failure>>> = match kept {
-                Some(pieces) => Box::new(pieces.into_iter().map(Ok)),
-                None => Box::new(self.pieces(region, form.turn)),
-            };
-            self.write(region, pieces, form, &mut answers)?;
+        for (region, place) in regions.iter().zip(&places) {
+            match place.clone().and_then(|place| kept.get(place)) {
+                Some(bases) => self.write(*region, [Ok(bases)], form, &mut answers)?,
+                None => self.write(*region, self.pieces(*region, form.turn), form, &mut answers)?,
+            }
         }
-        if again {
+        if places.iter().any(Option::is_none) {
             self.fasta.unchanged()?;
         }
         answers.done()
@@ -299,16 +347,19 @@ impl Source<'_> {
 
     fn write(
         self,
-        region: &Region,
-        pieces: impl Iterator<Item = Result<Vec<u8>, Failure>>,
+        region: Region<'_>,
+        pieces: impl IntoIterator<Item = Result<impl AsRef<[u8]>, Failure>>,
         form: Form,
         answers: &mut Answers,
     ) -> Result<(), Failure> {
         if form.json {
-            let bases = pieces.collect::<Result<Vec<_>, _>>()?.concat();
+            let mut bases = vec![];
+            for piece in pieces {
+                bases.extend_from_slice(piece?.as_ref());
+            }
             let record = self.rows.record(region.row);
             let mut object = Object::new();
-            object.bytes("region", &region.asked.text).bytes("name", record.map_or(&[], |record| record.name));
+            object.bytes("region", region.asked.text).bytes("name", record.map_or(&[], |record| record.name));
             object.number("start", region.start).number("end", region.end);
             object.number("length", record.map_or(0, |record| record.length));
             if form.turn != Turn::AsIs {
@@ -318,12 +369,12 @@ impl Source<'_> {
             return answers.write(object.line().as_bytes());
         }
         answers.write(b">")?;
-        answers.write(&region.asked.text)?;
+        answers.write(region.asked.text)?;
         answers.write(form.turn.said().as_bytes())?;
         answers.write(b"\n")?;
         let mut column = 0;
         for piece in pieces {
-            write_wrapped(&piece?, form.width, &mut column, answers)?;
+            write_wrapped(piece?.as_ref(), form.width, &mut column, answers)?;
         }
         if column > 0 { answers.write(b"\n") } else { Ok(()) }
     }

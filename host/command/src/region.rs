@@ -1,6 +1,8 @@
 //! Regions as people write them: `name`, `name:5`, `name:5-`, `name:-9`, `name:5-9`, with thousands commas, `{name}:5-9`.
 //!
-//! As in samtools, `name:5` is from base 5 to the end, and where a name holds a colon the longest name that exists is meant.
+//! As in samtools, `name:5` is from base 5 to the end. A region may be read in three ways: as a name in braces, as a name, and as a
+//! name with bounds behind its last colon. It is answered where one of them leads to a record that exists. Where more than one does,
+//! nobody can know which is meant, and it is refused.
 
 use std::cmp::Ordering;
 
@@ -85,50 +87,108 @@ impl Written {
     }
 }
 
-/// What a region may mean.
-#[derive(Debug, Eq, PartialEq)]
-pub enum Meaning {
-    /// This row, with these bounds.
-    Row(usize, Written),
-    /// A name that exists, with bounds that can't be read, and why.
-    Bounds(usize, String),
-    /// No name in it exists: the name that was most likely meant.
-    NoName(Vec<u8>),
+/// A way to read a region: a name, and what stands behind the colon after it.
+#[derive(Clone, Copy, Debug, Eq, PartialEq)]
+pub struct Reading<'r> {
+    /// The name.
+    pub name: &'r [u8],
+    /// The bounds as they are written; none for a whole record.
+    pub bounds: Option<&'r [u8]>,
 }
 
-/// What a region means, where `find` tells the row of a name.
-pub fn meaning<'r>(region: &'r [u8], find: impl Fn(&'r [u8]) -> Option<usize>) -> Meaning {
-    let braced = braced(region);
-    if let Some((row, bounds)) = braced.and_then(|(name, bounds)| Some((find(name)?, bounds))) {
-        return bounds.map_or(Meaning::Row(row, Written::default()), |bounds| bounded(row, bounds));
+impl Reading<'_> {
+    /// Whether it makes sense, if there is such a record. What was surely not meant as bounds does not: HLA:A is no part of HLA.
+    fn is_sensible(&self) -> bool {
+        self.bounds.is_none_or(like_bounds)
     }
-    if let Some(row) = find(region) {
-        return Meaning::Row(row, Written::default());
-    }
-    let colons = || (0..region.len()).rev().filter(|at| region.get(*at) == Some(&b':'));
-    let parted = |at: usize| (region.get(..at).unwrap_or_default(), region.get(at + 1..).unwrap_or_default());
-    for (name, bounds) in colons().map(parted) {
-        if let Some(row) = find(name) {
-            return bounded(row, bounds);
-        }
-    }
-    // what stands in braces, or before a colon that bounds follow
-    let before = colons().next().map(parted).filter(|(_, bounds)| Written::of(bounds).is_ok()).map(|(name, _)| name);
-    Meaning::NoName(braced.map(|(name, _)| name).or(before).unwrap_or(region).to_vec())
+}
+
+/// The ways to read a region, whatever records there are.
+pub fn readings(region: &[u8]) -> impl Iterator<Item = Reading<'_>> + Clone {
+    let whole = Reading { name: region, bounds: None };
+    let parted = region.iter().rposition(|byte| *byte == b':').map(|colon| before_and_behind(region, colon));
+    [braced(region), Some(whole), parted].into_iter().flatten()
+}
+
+/// The name before a colon, and the bounds behind it.
+fn before_and_behind(region: &[u8], colon: usize) -> Reading<'_> {
+    Reading { name: region.get(..colon).unwrap_or_default(), bounds: region.get(colon + 1..) }
 }
 
 /// A name in braces, and what stands behind a colon after it.
-fn braced(region: &[u8]) -> Option<(&[u8], Option<&[u8]>)> {
+fn braced(region: &[u8]) -> Option<Reading<'_>> {
     let inner = region.strip_prefix(b"{")?;
     let close = inner.iter().rposition(|byte| *byte == b'}')?;
     match (inner.get(..close)?, inner.get(close + 1..)?) {
-        (name, []) => Some((name, None)),
-        (name, [b':', bounds @ ..]) => Some((name, Some(bounds))),
+        (name, []) => Some(Reading { name, bounds: None }),
+        (name, [b':', bounds @ ..]) => Some(Reading { name, bounds: Some(bounds) }),
         _ => None,
     }
 }
 
-fn bounded(row: usize, bounds: &[u8]) -> Meaning {
+/// Whether a text may be meant as bounds, good or bad: digits, commas and hyphens, nothing at all, and the numbers of other tools
+/// (1.5k, 2e6, +5).
+fn like_bounds(text: &[u8]) -> bool {
+    let begins = text.first().is_none_or(|byte| byte.is_ascii_digit() || b",-+.".contains(byte));
+    begins && text.iter().all(|byte| byte.is_ascii_digit() || b",-+.eEkKmMgG".contains(byte))
+}
+
+/// What a region means.
+#[derive(Debug, Eq, PartialEq)]
+pub enum Meaning<'r> {
+    /// This row, with these bounds.
+    Row(usize, Written),
+    /// A name that exists, with bounds that can't be read, and why.
+    Bounds(usize, String),
+    /// More than one way to read it leads to a record.
+    Several(Vec<(Reading<'r>, usize)>),
+    /// No name in it exists: the name that was most likely meant.
+    NoName(&'r [u8]),
+}
+
+/// What a region means, where `find` tells the row of a name.
+pub fn meaning(region: &[u8], find: impl Fn(&[u8]) -> Option<usize>) -> Meaning<'_> {
+    let there: Vec<(Reading<'_>, usize)> =
+        readings(region).filter_map(|reading| Some((reading, find(reading.name)?))).collect();
+    let sensible = || there.iter().filter(|(reading, _)| reading.is_sensible());
+    if sensible().nth(1).is_some() {
+        return Meaning::Several(sensible().copied().collect());
+    }
+    // bounds that make no sense are told only where there is nothing better
+    match sensible().next().or(there.first()) {
+        Some((Reading { bounds: None, .. }, row)) => Meaning::Row(*row, Written::default()),
+        Some((Reading { bounds: Some(bounds), .. }, row)) => bounded(*row, bounds),
+        None => Meaning::NoName(meant(region)),
+    }
+}
+
+/// The name that was most likely meant: what stands in braces, or before a colon that bounds follow, or all.
+fn meant(region: &[u8]) -> &[u8] {
+    let bounded = |reading: &Reading<'_>| reading.bounds.is_some_and(|bounds| Written::of(bounds).is_ok());
+    let named = braced(region).or_else(|| readings(region).find(bounded));
+    named.map_or(region, |reading| reading.name)
+}
+
+/// Whether a name is all that stands before one of a region's colons.
+pub fn is_before_a_colon(name: &[u8], region: &[u8]) -> bool {
+    region.strip_prefix(name).is_some_and(|rest| rest.starts_with(b":"))
+}
+
+/// A form of a reading that can't be read in another way, if there is one; for a record of so many bases.
+pub fn plain_form(reading: Reading<'_>, length: u64, find: impl Fn(&[u8]) -> Option<usize>) -> Option<Vec<u8>> {
+    let behind = reading.bounds.map_or(vec![], |bounds| [b":", bounds].concat());
+    let whole = format!(":1-{length}").into_bytes();
+    let only = |form: &Vec<u8>| match meaning(form, &find) {
+        Meaning::Row(row, _) | Meaning::Bounds(row, _) => find(reading.name) == Some(row),
+        Meaning::Several(_) | Meaning::NoName(_) => false,
+    };
+    let forms = [behind, whole].into_iter().take(if reading.bounds.is_none() { 2 } else { 1 });
+    let forms =
+        forms.flat_map(|behind| [[b"{", reading.name, b"}", &behind].concat(), [reading.name, &behind].concat()]);
+    forms.into_iter().find(only)
+}
+
+fn bounded<'r>(row: usize, bounds: &[u8]) -> Meaning<'r> {
     match Written::of(bounds) {
         Ok(written) => Meaning::Row(row, written),
         Err(why) => Meaning::Bounds(row, why),
@@ -145,7 +205,12 @@ mod tests {
         match meaning(region.as_bytes(), find) {
             Meaning::Row(row, Written { start, end }) => format!("{} {} {}", names[row], number(start), number(end)),
             Meaning::Bounds(row, why) => format!("{}? {why}", names[row]),
-            Meaning::NoName(name) => format!("no {}", String::from_utf8_lossy(&name)),
+            Meaning::NoName(name) => format!("no {}", String::from_utf8_lossy(name)),
+            Meaning::Several(ways) => {
+                let form = |(reading, _)| plain_form(reading, 7, find).unwrap_or_default();
+                let forms = ways.into_iter().map(|way| String::from_utf8(form(way)).unwrap());
+                format!("say {}", forms.collect::<Vec<_>>().join(" or "))
+            }
         }
     }
 
@@ -177,13 +242,48 @@ mod tests {
     }
 
     #[test]
-    fn the_longest_name_that_exists() {
-        assert_eq!(told("a:b:5-9", &["a", "a:b"]), "a:b 5 9");
-        assert_eq!(told("a:5", &["a", "a:5"]), "a:5 _ _");
-        assert_eq!(told("{a}:5", &["a", "a:5"]), "a 5 _");
-        assert_eq!(told("a:b", &["a:b", "a"]), "a:b _ _");
-        assert_eq!(told("{odd}name", &["{odd}name"]), "{odd}name _ _");
-        assert_eq!(told("{odd}:5", &["{odd}"]), "{odd} 5 _");
+    fn names_with_colons_and_braces() {
+        for (region, names, means) in [
+            ("a:b:5-9", &["a", "a:b"][..], "a:b 5 9"),
+            ("a:b", &["a:b", "a"], "a:b _ _"),
+            ("a:b:c", &["a", "a:b"], "a:b? 'c' is no number"),
+            ("{a}:5", &["a", "a:5"], "a 5 _"),
+            ("{a:5}", &["a", "a:5"], "a:5 _ _"),
+            ("{a:5}:5", &["a", "a:5"], "a:5 5 _"),
+            ("a:5:5", &["a", "a:5"], "a:5 5 _"),
+            ("{odd}name", &["{odd}name"], "{odd}name _ _"),
+            ("{odd}:5", &["{odd}"], "{odd} 5 _"),
+            ("{odd}", &["{odd}"], "{odd} _ _"),
+            ("{odd", &["{odd"], "{odd _ _"),
+            ("{a", &["a"], "no {a"),
+            ("a}", &["a"], "no a}"),
+            ("{a}x", &["a"], "no {a}x"),
+            ("{}:5", &["a"], "no "),
+        ] {
+            assert_eq!(told(region, names), means, "{region} among {names:?}");
+        }
+    }
+
+    #[test]
+    fn more_than_one_way_to_read_it() {
+        for (region, names, says) in [
+            ("a:5", &["a", "a:5"][..], "say {a:5} or {a}:5"),
+            ("a:5-9", &["a:5-9", "a"], "say {a:5-9} or {a}:5-9"),
+            ("a:b:1,000", &["a:b", "a:b:1,000"], "say {a:b:1,000} or {a:b}:1,000"),
+            // what other tools take for bounds
+            ("a:", &["a", "a:"], "say {a:} or {a}:"),
+            ("a:-", &["a", "a:-"], "say {a:-} or {a}:-"),
+            ("a:1,0", &["a", "a:1,0"], "say {a:1,0} or {a}:1,0"),
+            ("a:1k", &["a", "a:1k"], "say {a:1k} or {a}:1k"),
+            // names in braces
+            ("{a}", &["a", "{a}"], "say a or {{a}}"),
+            ("{a}:5", &["a", "{a}"], "say a:5 or {{a}}:5"),
+            ("{a}:5", &["{a}", "{a}:5"], "say {{a}:5} or {{a}}:5"),
+            ("{a}:5", &["a", "{a}", "{a}:5"], "say a:5 or {{a}:5} or {{a}}:5"),
+            ("a:5", &["a", "a:5", "{a:5}"], "say a:5:1-7 or {a}:5"),
+        ] {
+            assert_eq!(told(region, names), says, "{region} among {names:?}");
+        }
     }
 
     #[test]

@@ -4,16 +4,34 @@ use crate::failure::Failure;
 use crate::faults;
 use crate::input::Input;
 use crate::progress::Progress;
+use std::io::Write;
 use wakeluri::Table;
 
+/// By which rule a file is indexed.
+#[derive(Clone, Copy, Debug, Eq, PartialEq)]
+pub enum Rule {
+    /// Each record that any index line can lead through is taken.
+    Complete,
+    /// As the original has it: the lines of a record are alike but for its last.
+    Strict,
+}
+
 /// The rows of a file, or why there are none, and where.
-pub fn index(fasta: &Input) -> Result<Table<'_>, Failure> {
+pub fn index(fasta: &Input, rule: Rule) -> Result<Table<'_>, Failure> {
     let file = fasta.bytes();
     let progress = Progress::working("indexing", &fasta.shown, file.len() as u64, fasta.is_mapped());
-    let (rows, refusal) = wakeluri::index_until_refused(file);
+    let (rows, refusal) = match rule {
+        Rule::Complete => wakeluri::index_until_refused(file),
+        Rule::Strict => wakeluri::index_strict_until_refused(file),
+    };
     drop(progress);
     match refusal {
-        None => Ok(rows),
+        None => {
+            if let Some(warning) = faults::lines_of_cr(fasta, &rows) {
+                let _ = writeln!(std::io::stderr(), "wakeluri: warning: {warning}");
+            }
+            Ok(rows)
+        }
         Some(refusal) => Err(faults::not_indexed(fasta, &rows, refusal)),
     }
 }

@@ -8,9 +8,10 @@ use common::Folder;
 fn answers() {
     let folder = Folder::new("json-answers");
     folder.write("f.fa", b">s\xff\nACGT\nAC\n>\"q\\\nGG\n");
-    folder
-        .run(&["--json", "index", "f.fa"])
-        .gave("{\"file\":\"f.fa\",\"index\":\"f.fa.fai\",\"records\":2,\"bases\":8}\n");
+    folder.run(&["--json", "index", "f.fa"]).gave(concat!(
+        "{\"file\":\"f.fa\",\"index\":\"f.fa.fai\",\"records\":2,\"bases\":8,",
+        "\"records_with_blank_lines\":0,\"records_without_bases\":0}\n",
+    ));
     folder.write("sheet.txt", b"s\xff:4-5\n\"q\\\n");
     folder.run(&["--json", "read", "f.fa", "-r", "sheet.txt"]).gave(concat!(
         "{\"region_hex\":\"73ff3a342d35\",\"name_hex\":\"73ff\",\"start\":4,\"end\":5,\"length\":6,\"bases\":\"TA\"}\n",
@@ -26,7 +27,7 @@ fn answers() {
 #[test]
 fn refusals_and_errors() {
     let folder = Folder::new("json-refusals");
-    folder.write("f.fa", ">s\nACGT\n\nAC\n");
+    folder.write("f.fa", ">s\nACGT\n\nAC\nA\n");
     let one = |words: &[&str], status: i32, starts: &str| {
         let answer = folder.run(words);
         answer.failed(status, &[]);
@@ -35,6 +36,11 @@ fn refusals_and_errors() {
     };
     one(
         &["--json", "index", "f.fa"],
+        1,
+        "{\"status\":1,\"file\":\"f.fa\",\"refused\":42,\"first\":12,\"second\":7,\"line\":5,\"byte\":12,\"words\":\"",
+    );
+    one(
+        &["--json", "index", "--strict", "f.fa"],
         1,
         "{\"status\":1,\"file\":\"f.fa\",\"refused\":6,\"first\":0,\"second\":4,\"line\":3,\"byte\":8,\"words\":\"",
     );

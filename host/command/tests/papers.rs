@@ -27,7 +27,12 @@ fn the_samples() {
     let ends = "its lines end in CR and LF, and the index is of lines that end in LF alone";
     folder.run(&["check", "stale.fa"]).refused("refused 23 (record 1, base 1)", &[ends]);
     folder.run(&["read", "stale.fa", "--regions", "regions.txt"]).refused("refused 23 (record 1, base 1)", &[ends]);
-    folder.run(&["index", "uneven.fa"]).refused("refused 6 (found 0, expected 4)", &["uneven.fa, line 3 (byte 8)"]);
+    folder.run(&["index", "genome.fa"]).gave("genome.fa.fai: 2 records (2 with blank lines), 266 bases\n");
+    folder.run(&["read", "genome.fa", "plasmid:66-75"]).gave(">plasmid:66-75\nTGCCGATTTG\n");
+    folder
+        .run(&["index", "--strict", "genome.fa"])
+        .refused("refused 6 (found 31, expected 70)", &["genome.fa, line 4"]);
+    folder.run(&["index", "uneven.fa"]).refused("refused 42 (offset 14, base 9)", &["uneven.fa, line 5 (byte 14)"]);
 }
 
 #[test]

@@ -30,6 +30,10 @@ fn file(numbers: &mut Numbers) -> (Vec<u8>, Vec<(String, u64)>) {
                 file += end;
             }
         }
+        // a blank line behind a record, as in genomes of an archive
+        if numbers.below(3) == 0 {
+            file += end;
+        }
         records.push((name, length));
     }
     if numbers.below(4) == 0 {

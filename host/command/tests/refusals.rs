@@ -6,7 +6,23 @@ mod common;
 use common::Folder;
 use std::fs::File;
 
-/// Files that no index can be made of.
+/// Indexing a file is refused, by itself and for a read, and nothing is left behind.
+#[track_caller]
+fn not_indexed(folder: &Folder, rule: &[&str], file: &[u8], code: &str, words: &[&str]) {
+    let run = |command: &[&str]| folder.run(&[command, rule].concat()).refused(code, words);
+    folder.write("f.fa", file);
+    folder.write("f.fa.fai", "an old one");
+    run(&["index", "f.fa"]);
+    assert_eq!(folder.read("f.fa.fai"), b"an old one", "the old index stays");
+    std::fs::remove_file(folder.at("f.fa.fai")).unwrap();
+    // without an index a read makes one, and meets the same
+    run(&["read", "f.fa", "s:1-1"]);
+    run(&["complement", "f.fa", "s"]);
+    run(&["index", "f.fa"]);
+    assert_eq!(folder.names(), ["f.fa"], "nothing is left behind");
+}
+
+/// Files that no rule takes: they are no FASTA.
 #[test]
 fn of_index() {
     let folder = Folder::new("of-index");
@@ -24,37 +40,159 @@ fn of_index() {
         (b"\x1f\x8b\x08rest", "refused 3", "this is a compressed file"),
         (b"\xef\xbb\xbf>s\nAC\n", "refused 3", "save the file as UTF-8 without a byte order mark"),
         (b"\xff\xfe>\0s\0\n\0", "refused 3", "UTF-16"),
-        (b">s\rACGT\rACGT\r", "refused 5 (offset 13)", "the lines of the file end in CR alone"),
         (
             b">s\nAC\n> t\nAC\n",
             "refused 4",
             "f.fa, line 3 (byte 6): the definition line has no name right after its '>'",
         ),
-        (b">s\n\nACGT\n", "refused 5 (offset 4)", "f.fa, line 2 (byte 3): the first line of s is blank"),
-        (b">s\nAC\n>t\n>u\nAC\n", "refused 5 (offset 9)", "f.fa, line 3 (byte 6): t has no bases"),
-        (b">s", "refused 5 (offset 2)", "f.fa, line 1 (byte 0): s has no bases"),
-        (b">s\nACGT\n\nACGT\n", "refused 6 (found 0, expected 4)", "f.fa, line 3 (byte 8): this line of s is blank"),
+    ] {
+        not_indexed(&folder, &[], file, code, &[words]);
+        not_indexed(&folder, &["--strict"], file, code, &[words]);
+    }
+    // behind records that only the complete rule takes
+    let words = "f.fa, line 7 (byte 14): the definition line has no name right after its '>'";
+    not_indexed(&folder, &[], b">s\n\nAC\n\n>t\n>u\n>\n", "refused 4", &[words]);
+}
+
+/// Files that no index can fit: record, line and base are named, the line is shown, and it is said what to do.
+#[test]
+fn where_no_index_fits() {
+    let folder = Folder::new("no-fit");
+    let long = [&b">s\n"[..], &[b'A'; 100], b"\n", &[b'C'; 100], b"GT\n"].concat();
+    for (file, code, words) in [
         (
-            b">s\nACGT\nAC\nACGT\n",
+            &b">s\nACGT\nAC\nACGT\n"[..],
+            "refused 42 (offset 11, base 7)",
+            &[
+                "f.fa, line 4 (byte 11): base 7 of s (record 1) lies at byte 11, and by the record's first lines",
+                "it would lie at byte 10: line 3 has 2 bases, and the first has 4; only the last may have fewer",
+                "here stands 'ACGT'",
+            ][..],
+        ),
+        (
+            b">t\n\n>s\n\nAC\n\nGTA\n",
+            "refused 42 (offset 14, base 5)",
+            &[
+                "f.fa, line 7 (byte 12): base 5 of s (record 2) lies at byte 14, and by the record's first lines",
+                "it would lie at byte 16: this line has 3 bases, and the first has 2",
+                "here stands 'GTA'",
+            ],
+        ),
+        (
+            b">s\nACGT\nACGT\r\nACGT\n",
+            "refused 42 (offset 14, base 9)",
+            &[
+                "f.fa, line 4 (byte 14): base 9 of s (record 1) lies at byte 14, and by the record's first lines",
+                "it would lie at byte 13: the ends of lines or the blank lines before it are not as behind the first",
+            ],
+        ),
+        (
+            &long,
+            "refused 42 (offset 204, base 201)",
+            &[
+                "f.fa, line 3 (byte 104)",
+                "this line has 102 bases, and the first has 100",
+                "here stands '..CCCCC",
+                "CGT'",
+            ],
+        ),
+    ] {
+        not_indexed(&folder, &[], file, code, words);
+        let next = "no index can fit this file: wrap its bases anew, all lines of a record alike";
+        folder.run(&["index", "f.fa"]).refused(code, &[next]);
+    }
+}
+
+/// What the complete rule takes and the original's refuses.
+#[test]
+fn of_index_strict() {
+    let folder = Folder::new("of-strict");
+    for (file, code, words, index, told) in [
+        (
+            &b">s\n\nACGT\n"[..],
+            "refused 5 (offset 4)",
+            "f.fa, line 2 (byte 3): the first line of s is blank",
+            "s\t4\t4\t4\t5\n",
+            "1 record (1 with blank lines), 4 bases",
+        ),
+        (
+            b">s\nAC\n>t\n>u\nAC\n",
+            "refused 5 (offset 9)",
+            "f.fa, line 3 (byte 6): t has no bases",
+            "s\t2\t3\t2\t3\nt\t0\t9\t1\t2\nu\t2\t12\t2\t3\n",
+            "3 records (1 without bases), 4 bases",
+        ),
+        (
+            b">s",
+            "refused 5 (offset 2)",
+            "f.fa, line 1 (byte 0): s has no bases",
+            "s\t0\t2\t1\t2\n",
+            "1 record (1 without bases), 0 bases",
+        ),
+        (
+            b">s\nACGT\n\nACGT\n>t\n\n",
+            "refused 6 (found 0, expected 4)",
+            "f.fa, line 3 (byte 8): this line of s is blank",
+            "s\t8\t3\t4\t6\nt\t0\t17\t1\t2\n",
+            "2 records (1 with blank lines, 1 without bases), 8 bases",
+        ),
+        (
+            b">s\nACGT\nAC\n\n",
             "refused 6 (found 2, expected 4)",
             "f.fa, line 3 (byte 8): this line of s has 2 bases, and the lines before it have 4",
+            "s\t6\t3\t4\t5\n",
+            "1 record (1 with blank lines), 6 bases",
         ),
         (
             b">s\nACGT\nACGT\r\n",
             "refused 7 (found 6, expected 5)",
             "f.fa, line 3 (byte 8): this line of s has as many bases as those before it and another end",
+            "s\t8\t3\t4\t5\n",
+            "1 record, 8 bases",
         ),
     ] {
-        folder.write("f.fa", file);
-        folder.write("f.fa.fai", "an old one");
-        folder.run(&["index", "f.fa"]).refused(code, &[words]);
-        assert_eq!(folder.read("f.fa.fai"), b"an old one", "the old index stays");
+        not_indexed(&folder, &["--strict"], file, code, &[words, "or leave out --strict"]);
+        folder.run(&["index", "f.fa"]).gave(&format!("f.fa.fai: {told}\n"));
+        assert_eq!(String::from_utf8(folder.read("f.fa.fai")).unwrap(), index);
+        assert_eq!(folder.run(&["check", "f.fa"]).status, Some(0));
         std::fs::remove_file(folder.at("f.fa.fai")).unwrap();
-        // without an index a read makes one, and meets the same
-        folder.run(&["read", "f.fa", "s:1-1"]).refused(code, &[words]);
-        folder.run(&["index", "f.fa"]).refused(code, &[words]);
-        assert_eq!(folder.names(), ["f.fa"], "nothing is left behind");
     }
+}
+
+/// A read without an index takes what `index` takes, and of all records one without bases is none the less one.
+#[test]
+fn blank_lines_and_no_bases_in_a_read() {
+    let folder = Folder::new("blank-read");
+    folder.write("f.fa", ">s\nACGT\nAC\n\n>t\n>u\n\nG\n\nT\n");
+    for _ in 0..2 {
+        folder.run(&["read", "f.fa", "s:4-6", "u"]).gave(">s:4-6\nTAC\n>u\nGT\n");
+        folder.run(&["read", "f.fa", "t"]).refused("refused 17 (length 0)", &["t has no bases"]);
+        folder
+            .run(&["revcomp", "f.fa"])
+            .gave(">s reverse complement\nGTACGT\n>t reverse complement\n>u reverse complement\nAC\n");
+        // once without an index, and once with it
+        assert_eq!(folder.run(&["index", "f.fa"]).status, Some(0));
+    }
+    folder.run(&["--json", "index", "f.fa"]).gave(concat!(
+        "{\"file\":\"f.fa\",\"index\":\"f.fa.fai\",\"records\":3,\"bases\":8,",
+        "\"records_with_blank_lines\":2,\"records_without_bases\":1}\n",
+    ));
+}
+
+/// A file whose lines end in CR alone is one line, which reads as a record without bases: that is told, and by the strict rule refused.
+#[test]
+fn lines_that_end_in_cr_alone() {
+    let folder = Folder::new("cr-alone");
+    let words =
+        "f.fa: s has no bases: the lines of the file end in CR alone, so that all of it is one line\n  save it with LF";
+    folder.write("f.fa", b">s\rACGT\rACGT\r");
+    let answer = folder.run(&["index", "f.fa"]);
+    assert_eq!((answer.status, answer.out.as_str()), (Some(0), "f.fa.fai: 1 record (1 without bases), 0 bases\n"));
+    assert!(answer.err.starts_with(&format!("wakeluri: warning: {words}")), "{}", answer.err);
+    std::fs::remove_file(folder.at("f.fa.fai")).unwrap();
+    folder.run(&["read", "f.fa", "s"]).refused("refused 17 (length 0)", &[words]);
+    let words = "the lines of the file end in CR alone";
+    not_indexed(&folder, &["--strict"], b">s\rACGT\rACGT\r", "refused 5 (offset 13)", &[words]);
 }
 
 /// A file over 1 TiB.

@@ -4,15 +4,17 @@
 //! in a definition that the proofs rest on would show as a difference.
 
 mod checker;
+mod complete;
 mod lines;
 mod reads;
 mod rows;
 
 use checker::{check, program};
+use complete::fitted_record;
 use lines::{content, definition, first_line, from, run};
 use questions::form::{Bounds, No, Row, Rows, Speaker, Told};
 use reads::{complemented, counted, exact, raw, sequence};
-use rows::{fill, find, index_content, is_plain, record, write_line};
+use rows::{file_rows, fill, find, index_content, is_plain, record, write_line};
 
 /// No byte input may be longer.
 const LIMIT: usize = 1 << 40;
@@ -73,27 +75,11 @@ impl Speaker for Model {
     }
 
     fn index_file(&self, file: &[u8], table: &mut [u64]) -> Told {
-        if let Err(no) = within_limit(&[file]) {
-            return counted(Err(no));
-        }
-        let (mut at, mut stopped) = (0, false);
-        let rows = std::iter::from_fn(|| {
-            if stopped {
-                return None;
-            }
-            match record(file, at) {
-                Ok(None) => None,
-                Ok(Some((row, next))) => {
-                    at = next;
-                    Some(Ok(row))
-                }
-                Err(no) => {
-                    stopped = true;
-                    Some(Err(no))
-                }
-            }
-        });
-        fill(table, rows)
+        file_rows(file, table, record)
+    }
+
+    fn index_complete(&self, file: &[u8], table: &mut [u64]) -> Told {
+        file_rows(file, table, fitted_record)
     }
 
     fn index_line(&self, line: &[u8]) -> Result<(Row, u64), No> {

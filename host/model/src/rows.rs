@@ -1,7 +1,7 @@
 //! The rows of a file and of an index text, and those of a table that was lent.
 
 use crate::lines::{bases, content, definition, first_line, from};
-use crate::reads::put;
+use crate::reads::{counted, put};
 use crate::{n, no, within_limit};
 use questions::form::{No, Row, Rows, Told};
 
@@ -38,6 +38,37 @@ pub(crate) fn record(file: &[u8], at: u64) -> Result<Option<(Row, u64)>, No> {
     let length = lines.iter().map(|line| bases(line).len()).sum();
     let next = position + lines.iter().map(|line| n(line.len())).sum::<u64>();
     Ok(Some(([at + name_start, name_length, n(length), position, n(count), n(width)], next)))
+}
+
+// ---- a whole file ----
+
+/// Rows of a file from its start on, each by a rule for one record.
+pub(crate) fn file_rows(
+    file: &[u8],
+    table: &mut [u64],
+    record: impl Fn(&[u8], u64) -> Result<Option<(Row, u64)>, No>,
+) -> Told {
+    if let Err(no) = within_limit(&[file]) {
+        return counted(Err(no));
+    }
+    let (mut at, mut stopped) = (0, false);
+    let rows = std::iter::from_fn(|| {
+        if stopped {
+            return None;
+        }
+        match record(file, at) {
+            Ok(None) => None,
+            Ok(Some((row, next))) => {
+                at = next;
+                Some(Ok(row))
+            }
+            Err(no) => {
+                stopped = true;
+                Some(Err(no))
+            }
+        }
+    });
+    fill(table, rows)
 }
 
 /// Writes a row at a count of rows, or refuses where none is free.

@@ -53,6 +53,8 @@ pub trait Speaker {
     fn index_record(&self, file: &[u8], at: u64) -> Result<Option<(Row, u64)>, No>;
     /// `idx`.
     fn index_file(&self, file: &[u8], table: &mut [u64]) -> Told;
+    /// `fit`: the same by the complete rule.
+    fn index_complete(&self, file: &[u8], table: &mut [u64]) -> Told;
     /// `ixl`: the row, and 1 if the line is plain.
     fn index_line(&self, line: &[u8]) -> Result<(Row, u64), No>;
     /// `ixc`: the row.
@@ -274,13 +276,13 @@ fn answer(speaker: &impl Speaker, question: &str, line: &mut String) -> Option<(
                 }
             });
         }
-        "idx" | "ixt" => {
+        "idx" | "fit" | "ixt" => {
             let (text, mut table) = (words.bytes()?, words.table()?);
             words.end()?;
-            let told = if family == "idx" {
-                speaker.index_file(&text, &mut table)
-            } else {
-                speaker.read_index(&text, &mut table)
+            let told = match family {
+                "idx" => speaker.index_file(&text, &mut table),
+                "fit" => speaker.index_complete(&text, &mut table),
+                _ => speaker.read_index(&text, &mut table),
             };
             tell_rows(line, told, &table);
         }

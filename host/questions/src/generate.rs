@@ -10,7 +10,7 @@ mod written;
 
 use by_chance::{
     Sample, WIDTHS, a_row, about, damage, file, index_text, name, numeral, place, sample, some_bounds, some_room,
-    some_rows, some_table, wanted,
+    some_rows, some_table, spaced_file, wanted,
 };
 pub use chance::Chance;
 use every::Source;
@@ -47,9 +47,9 @@ impl Iterator for Questions {
 }
 
 fn question_by_chance(chance: &mut Chance) -> String {
-    const FAMILIES: [&str; 28] = [
-        "def", "dfc", "lin", "run", "seq", "lim", "rec", "idx", "idx", "idx", "idx", "ixl", "ixc", "ixt", "ixt", "wrl",
-        "fnd", "exr", "exr", "exr", "rar", "rar", "exn", "ran", "cmp", "rev", "chk", "chk",
+    const FAMILIES: [&str; 31] = [
+        "def", "dfc", "lin", "run", "seq", "lim", "rec", "idx", "idx", "idx", "idx", "fit", "fit", "fit", "ixl", "ixc",
+        "ixt", "ixt", "wrl", "fnd", "exr", "exr", "exr", "rar", "rar", "exn", "ran", "cmp", "rev", "chk", "chk",
     ];
     if chance.once_in(500) {
         return ask("prg").bytes(&file(chance).text).0;
@@ -64,7 +64,9 @@ fn question_by_chance(chance: &mut Chance) -> String {
         }
         "lin" | "run" | "rec" => {
             let file = file(chance).text;
-            ask(family).bytes(&file).number(place(chance, &file)).0
+            // a record is at the start of a file, at least
+            let at = if family == "rec" && chance.once_in(2) { 0 } else { place(chance, &file) };
+            ask(family).bytes(&file).number(at).0
         }
         "seq" | "lim" => {
             let sample = file(chance);
@@ -75,7 +77,11 @@ fn question_by_chance(chance: &mut Chance) -> String {
             let (line, enough) = if family == "lim" { (line.number(limit), limit.min(row[2])) } else { (line, row[2]) };
             line.bytes(&some_room(chance, enough)).0
         }
-        "idx" => {
+        "fit" if chance.once_in(2) => {
+            let (text, records) = spaced_file(chance);
+            ask(family).bytes(&text).table(&some_table(chance, records)).0
+        }
+        "idx" | "fit" => {
             let sample = file(chance);
             let table = some_table(chance, sample.rows.len());
             ask(family).bytes(&sample.text).table(&table).0

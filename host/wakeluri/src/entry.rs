@@ -51,10 +51,16 @@ pub fn index_record(file: &[u8], at: u64) -> Row {
     unsafe { sys::wakeluri_index_record(file.as_ptr(), file.len(), at) }
 }
 
-/// A row for each record of a file, from the table's first on; tells how many. Refuses 1 to 8.
+/// A row for each record of a file, from the table's first on, by the original's rule; tells how many. Refuses 1 to 8.
 pub fn index_file(file: &[u8], table: &mut [u8]) -> Answer {
     // SAFETY: each pointer comes from a slice, with its length; `table` is lent to this call alone.
     unsafe { sys::wakeluri_index_file(file.as_ptr(), file.len(), table.as_mut_ptr(), table.len()) }
+}
+
+/// The same by the complete rule, which takes every file that any index leads through. Refuses 1, then record by record 2 to 4, 42, 8.
+pub fn index_complete(file: &[u8], table: &mut [u8]) -> Answer {
+    // SAFETY: each pointer comes from a slice, with its length; `table` is lent to this call alone.
+    unsafe { sys::wakeluri_index_complete(file.as_ptr(), file.len(), table.as_mut_ptr(), table.len()) }
 }
 
 /// What an index line says, given with its end; its name starts at 0. Refuses 1, 9 to 12.

@@ -42,10 +42,13 @@ mod text;
 
 pub use bounds::Bounds;
 pub use refusal::{Call, Refusal};
-pub use table::{Record, Table, check, index, index_until_refused, read_index, read_index_until_refused};
+pub use table::{
+    Record, Table, check, index, index_strict, index_strict_until_refused, index_until_refused, read_index,
+    read_index_until_refused,
+};
 pub use text::{
-    Definition, complement, complement_into, definition_content, definition_line, index_line, index_record, read_line,
-    read_run, read_sequence, read_sequence_limit, reverse_complement, reverse_complement_into,
+    Definition, complement, complement_into, definition_content, definition_line, index_line, index_record_strict,
+    read_line, read_run, read_sequence, read_sequence_limit, reverse_complement, reverse_complement_into,
 };
 
 /// The identity of the kit that the linked library was proved with.

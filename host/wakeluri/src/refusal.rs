@@ -107,6 +107,9 @@ impl Refusal {
             23 => format!("base {second} of record {first} is not where its index line says"),
             24 => format!("the byte {} at place {first} has no complement", shown(second)),
             25 => format!("row {first} is not in the table, its name is not in the bytes, or its lines have no bases"),
+            42 => format!(
+                "no index line can lead to base {second} of a record, which lies at offset {first}, and to those before it"
+            ),
             number => format!("it was refused for a reason that this version has no words for, {number}"),
         }
     }
@@ -114,7 +117,9 @@ impl Refusal {
     /// The numbers, for a program to read: `refused 17 (length 6)`.
     ///
     /// ```
-    /// let refusal = wakeluri::index(b">s\nACGT\n\n\n").unwrap_err();
+    /// let refusal = wakeluri::index(b">s\nACGT\n\nACGT\nAC\n").unwrap_err();
+    /// assert_eq!(refusal.code(), "refused 42 (offset 14, base 9)");
+    /// let refusal = wakeluri::index_strict(b">s\nACGT\n\n\n").unwrap_err();
     /// assert_eq!(refusal.code(), "refused 6 (found 0, expected 4)");
     /// ```
     pub fn code(&self) -> String {
@@ -138,6 +143,7 @@ impl Refusal {
             23 => format!("refused {number} (record {first}, base {second})"),
             24 => format!("refused {number} (place {first}, byte {second})"),
             25 => format!("refused {number} (row {first})"),
+            42 => format!("refused {number} (offset {first}, base {second})"),
             _ => format!("refused {number} ({first}, {second})"),
         }
     }

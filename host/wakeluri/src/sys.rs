@@ -72,6 +72,7 @@ unsafe extern "C" {
     pub(crate) fn wakeluri_read_sequence_limit(file: *const u8, file_length: usize, at: u64, limit: u64, out: *mut u8, out_length: usize) -> Answer;
     pub(crate) fn wakeluri_index_record(file: *const u8, file_length: usize, at: u64) -> Row;
     pub(crate) fn wakeluri_index_file(file: *const u8, file_length: usize, table: *mut u8, table_length: usize) -> Answer;
+    pub(crate) fn wakeluri_index_complete(file: *const u8, file_length: usize, table: *mut u8, table_length: usize) -> Answer;
     pub(crate) fn wakeluri_index_line(line: *const u8, line_length: usize) -> Row;
     pub(crate) fn wakeluri_index_content(content: *const u8, content_length: usize) -> Row;
     pub(crate) fn wakeluri_read_index(index: *const u8, index_length: usize, table: *mut u8, table_length: usize) -> Answer;

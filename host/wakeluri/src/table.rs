@@ -52,9 +52,11 @@ pub struct Table<'n> {
     in_use: usize,
 }
 
-/// A row for each record of a FASTA file. Refuses 1 to 7.
+/// A row for each record of a FASTA file. Refuses 1 to 4, and 42 only where no index of the file can ever be right.
 ///
-/// It takes time in proportion to the file, and memory in proportion to the records.
+/// The lines of a record need not be alike: it is taken if the numbers of any index line lead to each of its bases. So a blank line
+/// at its end is no fault, nor is a record without bases. [`index_strict`] takes what noodles-fasta takes; where it gives a row, this
+/// gives the same. It takes time in proportion to the file, and memory in proportion to the records.
 ///
 /// ```
 /// let table = wakeluri::index(b">s\nACGT\nAC\n")?;
@@ -62,10 +64,18 @@ pub struct Table<'n> {
 /// assert_eq!((record.name, record.length, record.position), (&b"s"[..], 6, 3));
 /// assert_eq!((record.line_bases, record.line_width), (4, 5));
 ///
-/// let refusal = wakeluri::index(b">s\nACGT\nACGT\r\n").unwrap_err();
+/// // blank lines, and a record without bases
+/// let fasta = b">s\nACGT\nAC\n\n>t\n>u\n\nG\n\nT\n";
+/// let text = wakeluri::index(fasta)?.write_index()?;
+/// assert_eq!(text, b"s\t6\t3\t4\t5\nt\t0\t15\t1\t2\nu\t2\t19\t1\t3\n");
+/// assert_eq!(wakeluri::check(fasta, &text), Ok(()));
+///
+/// // the third line begins where no numbers can lead to it and to the lines before it
+/// let refusal = wakeluri::index(b">s\nACGT\nACGT\r\nACGT\n").unwrap_err();
 /// assert_eq!(
 ///     refusal.to_string(),
-///     "a line has 6 bytes with its end, and its record's lines have 5: refused 7 (found 6, expected 5)"
+///     "no index line can lead to base 9 of a record, which lies at offset 14, and to those before it: \
+///      refused 42 (offset 14, base 9)"
 /// );
 /// # Ok::<(), wakeluri::Refusal>(())
 /// ```
@@ -77,11 +87,39 @@ pub fn index(fasta: &[u8]) -> Result<Table<'_>, Refusal> {
 /// A row for each record of a FASTA file up to the first that is refused, and that refusal.
 ///
 /// ```
-/// let (table, refusal) = wakeluri::index_until_refused(b">s\nAC\n>t\n\nGT\n");
+/// let (table, refusal) = wakeluri::index_until_refused(b">s\nAC\n>t\nG\n\nGT\n");
+/// assert_eq!(table.len(), 1);
+/// assert_eq!(refusal.map(|refusal| (refusal.number, refusal.first, refusal.second)), Some((42, 13, 3)));
+/// ```
+pub fn index_until_refused(fasta: &[u8]) -> (Table<'_>, Option<Refusal>) {
+    // no record has fewer than three bytes, but a last one
+    filled(fasta, fasta.len() / 3 + 1, Call::Index, entry::index_complete)
+}
+
+/// A row for each record of a FASTA file whose lines are alike, as noodles-fasta takes it. Refuses 1 to 7.
+///
+/// ```
+/// assert_eq!(wakeluri::index_strict(b">s\nACGT\nAC\n"), wakeluri::index(b">s\nACGT\nAC\n"));
+///
+/// let refusal = wakeluri::index_strict(b">s\nACGT\nACGT\r\n").unwrap_err();
+/// assert_eq!(
+///     refusal.to_string(),
+///     "a line has 6 bytes with its end, and its record's lines have 5: refused 7 (found 6, expected 5)"
+/// );
+/// ```
+pub fn index_strict(fasta: &[u8]) -> Result<Table<'_>, Refusal> {
+    let (table, refusal) = index_strict_until_refused(fasta);
+    refusal.map_or(Ok(table), Err)
+}
+
+/// As [`index_strict`], up to the first record that is refused, and that refusal.
+///
+/// ```
+/// let (table, refusal) = wakeluri::index_strict_until_refused(b">s\nAC\n>t\n\nGT\n");
 /// assert_eq!(table.len(), 1);
 /// assert_eq!(refusal.map(|refusal| (refusal.number, refusal.first)), Some((5, 10)));
 /// ```
-pub fn index_until_refused(fasta: &[u8]) -> (Table<'_>, Option<Refusal>) {
+pub fn index_strict_until_refused(fasta: &[u8]) -> (Table<'_>, Option<Refusal>) {
     // no record has fewer than four bytes
     filled(fasta, fasta.len() / 4 + 1, Call::Index, entry::index_file)
 }

@@ -103,15 +103,16 @@ fn record(names: &[u8], row: entry::Row) -> Option<Record<'_>> {
     Record::of(names, numbers)
 }
 
-/// The record at an offset, and the offset behind it; none at or past the end. Refuses 1 to 7.
+/// The record at an offset, by the rule of [`index_strict`](crate::index_strict), and the offset behind it; none at or past the end.
+/// Refuses 1 to 7.
 ///
 /// ```
 /// let fasta = b">s\nAC\n>t\nGGG\n";
-/// let (first, next) = wakeluri::index_record(fasta, 0)?.expect("a record");
+/// let (first, next) = wakeluri::index_record_strict(fasta, 0)?.expect("a record");
 /// assert_eq!((first.name, first.length, next), (&b"s"[..], 2, 6));
 /// # Ok::<(), wakeluri::Refusal>(())
 /// ```
-pub fn index_record(fasta: &[u8], at: u64) -> Result<Option<(Record<'_>, u64)>, Refusal> {
+pub fn index_record_strict(fasta: &[u8], at: u64) -> Result<Option<(Record<'_>, u64)>, Refusal> {
     let row = entry::index_record(fasta, at);
     Refusal::of(Call::Index, row.refusal, row.first, row.second)?;
     Ok(if row.found == 0 { None } else { record(fasta, row).map(|record| (record, row.next)) })

@@ -1,7 +1,7 @@
 //! The marked examples of the rules, and what must come out right though it surprises.
 
 use wakeluri::entry::{self, Answer};
-use wakeluri::{Bounds, Table, check, complement, index, read_index, reverse_complement};
+use wakeluri::{Bounds, Refusal, Table, check, complement, index, index_strict, read_index, reverse_complement};
 
 /// A table of one row.
 fn row(numbers: [u64; 6]) -> Vec<u8> {
@@ -13,10 +13,22 @@ fn no(answer: Answer) -> (u64, u64, u64) {
     (answer.refusal, answer.first, answer.second)
 }
 
-fn index_text(fasta: &[u8]) -> Result<String, (u64, u64, u64)> {
-    let table = index(fasta).map_err(|r| (r.number, r.first, r.second))?;
+fn text(table: Result<Table<'_>, Refusal>) -> Result<String, (u64, u64, u64)> {
+    let table = table.map_err(|r| (r.number, r.first, r.second))?;
     let text = table.write_index().expect("a name without tab and LF");
     Ok(String::from_utf8(text).expect("text"))
+}
+
+/// The index of a file by the original's rule.
+fn strict_text(fasta: &[u8]) -> Result<String, (u64, u64, u64)> {
+    text(index_strict(fasta))
+}
+
+/// The index of a file by the complete rule, which the checker accepts.
+fn index_text(fasta: &[u8]) -> Result<String, (u64, u64, u64)> {
+    let text = text(index(fasta))?;
+    assert_eq!(checked(fasta, text.as_bytes()), (0, 0, 0));
+    Ok(text)
 }
 
 fn checked(fasta: &[u8], text: &[u8]) -> (u64, u64, u64) {
@@ -26,17 +38,30 @@ fn checked(fasta: &[u8], text: &[u8]) -> (u64, u64, u64) {
 #[test]
 fn m1_two_records() {
     let fasta = b">sq0\nACGT\n>sq1\nNNNN\nNNNN\nNN\n";
-    assert_eq!(index_text(fasta).as_deref(), Ok("sq0\t4\t5\t4\t5\nsq1\t10\t15\t4\t5\n"));
+    assert_eq!(strict_text(fasta).as_deref(), Ok("sq0\t4\t5\t4\t5\nsq1\t10\t15\t4\t5\n"));
+    assert_eq!(index_text(fasta), strict_text(fasta));
 }
 
 #[test]
 fn m2_to_m8_what_is_indexed() {
+    assert_eq!(strict_text(b">s\nACGT\n\n").as_deref(), Ok("s\t4\t3\t4\t5\n"));
+    assert_eq!(strict_text(b">s\nACGT\n\n\n"), Err((6, 0, 4)));
+    assert_eq!(strict_text(b">s\nACGT\nACGT\r\n"), Err((7, 6, 5)));
+    assert_eq!(strict_text(b">s\n\nACGT\n"), Err((5, 4, 0)));
+    assert_eq!(strict_text(b">s\nACGT\r\nACGTA"), Err((6, 5, 4)));
+    assert_eq!(strict_text(b">s"), Err((5, 2, 0)));
+    assert_eq!(strict_text(b">s\nACGT\r").as_deref(), Ok("s\t4\t3\t4\t5\n"));
+}
+
+/// The same files by the complete rule.
+#[test]
+fn what_the_complete_rule_takes_of_them() {
     assert_eq!(index_text(b">s\nACGT\n\n").as_deref(), Ok("s\t4\t3\t4\t5\n"));
-    assert_eq!(index_text(b">s\nACGT\n\n\n"), Err((6, 0, 4)));
-    assert_eq!(index_text(b">s\nACGT\nACGT\r\n"), Err((7, 6, 5)));
-    assert_eq!(index_text(b">s\n\nACGT\n"), Err((5, 4, 0)));
-    assert_eq!(index_text(b">s\nACGT\r\nACGTA"), Err((6, 5, 4)));
-    assert_eq!(index_text(b">s"), Err((5, 2, 0)));
+    assert_eq!(index_text(b">s\nACGT\n\n\n").as_deref(), Ok("s\t4\t3\t4\t5\n"));
+    assert_eq!(index_text(b">s\nACGT\nACGT\r\n").as_deref(), Ok("s\t8\t3\t4\t5\n"));
+    assert_eq!(index_text(b">s\n\nACGT\n").as_deref(), Ok("s\t4\t4\t4\t5\n"));
+    assert_eq!(index_text(b">s\nACGT\r\nACGTA"), Err((42, 13, 9)));
+    assert_eq!(index_text(b">s").as_deref(), Ok("s\t0\t2\t1\t2\n"));
     assert_eq!(index_text(b">s\nACGT\r").as_deref(), Ok("s\t4\t3\t4\t5\n"));
 }
 
@@ -255,6 +280,54 @@ fn rows_that_stand_after_a_refusal() {
     assert_eq!((no(answer), answer.count), ((8, 0, 0), 0));
 }
 
+/// Blank lines before, between and behind the lines of a record; records without bases; and where no numbers lead to every base.
+#[test]
+fn what_the_complete_rule_asks_of_lines() {
+    // as genomes come: a blank line behind a short last line
+    assert_eq!(index_text(b">s\nACGT\nAC\n\n>t\nGG\n\n").as_deref(), Ok("s\t6\t3\t4\t5\nt\t2\t15\t2\t3\n"));
+    // every second line blank
+    assert_eq!(index_text(b">s\n\nAC\n\nGT\n\nA\n").as_deref(), Ok("s\t5\t4\t2\t4\n"));
+    // ends of the same width: CR and LF, or LF and a blank line
+    assert_eq!(index_text(b">s\nAC\r\nGT\n\nAC\r\n").as_deref(), Ok("s\t6\t3\t2\t4\n"));
+    // no bases, in blank lines or none
+    assert_eq!(index_text(b">s\n>t\n\r\n\n>u").as_deref(), Ok("s\t0\t3\t1\t2\nt\t0\t6\t1\t2\nu\t0\t11\t1\t2\n"));
+    assert_eq!(index_text(b"").as_deref(), Ok(""));
+    // a blank line between some lines and not between others; a line that is longer, or shorter before others
+    assert_eq!(index_text(b">s\nAC\nGT\n\nAC\n"), Err((42, 10, 5)));
+    assert_eq!(index_text(b">s\nAC\n\nGT\nAC\n"), Err((42, 10, 5)));
+    assert_eq!(index_text(b">s\nAC\nGTA\n"), Err((42, 8, 5)));
+    assert_eq!(index_text(b">s\nAC\nG\nTA\n"), Err((42, 8, 4)));
+    // 2 to 4 come record by record, before and after it
+    assert_eq!(index_text(b">s\nAC\nGTA\n>\n"), Err((42, 8, 5)));
+    assert_eq!(index_text(b">s\n\n>\n"), Err((4, 0, 0)));
+    assert_eq!(index_text(b"\n>s\n"), Err((2, 0, 0)));
+    assert_eq!(index_text(b"s\n"), Err((3, 0, 0)));
+}
+
+#[test]
+fn rows_that_stand_after_a_refusal_of_the_complete_rule() {
+    let mut table = vec![7; 3 * 48 + 5];
+    let answer = entry::index_complete(b">s\nAC\n>t\n\n>u\nA\nCG\n", &mut table);
+    assert_eq!((no(answer), answer.count), ((42, 16, 3), 2));
+    assert_eq!(&table[..96], [row([1, 1, 2, 3, 2, 3]), row([7, 1, 0, 9, 1, 2])].concat());
+    assert!(table[96..].iter().all(|b| *b == 7));
+    // 42 comes before 8, and 8 only for a good record
+    let answer = entry::index_complete(b">s\nA\nCG\n", &mut []);
+    assert_eq!((no(answer), answer.count), ((42, 6, 3), 0));
+    let answer = entry::index_complete(b">s\n", &mut []);
+    assert_eq!((no(answer), answer.count), ((8, 0, 0), 0));
+}
+
+/// As short as records can be: three bytes each, and two for the last.
+#[test]
+fn a_row_for_each_of_many_records_without_bases() {
+    for fasta in [b">s\n".repeat(5_000), [&b">s\n".repeat(5_000)[..], b">t"].concat()] {
+        let table = index(&fasta).expect("good records");
+        assert_eq!(table.len(), fasta.len().div_ceil(3));
+        assert!(table.records().all(|record| record.length == 0 && record.line_bases == 1 && record.line_width == 2));
+    }
+}
+
 #[test]
 fn a_name_with_a_tab_is_not_written() {
     let table = Table::from_bytes(b"a\tb", row([0, 3, 1, 1, 1, 1]), 1);
@@ -304,7 +377,7 @@ fn complements() {
 
 #[test]
 fn every_refusal_has_words() {
-    for number in 1..=25 {
+    for number in (1..=25).chain([42]) {
         for call in [wakeluri::Call::Index, wakeluri::Call::Check, wakeluri::Call::ReadIndex] {
             let told = wakeluri::Refusal { number, first: 3, second: 4, call }.to_string();
             assert!(!told.contains("no words for"), "{told}");

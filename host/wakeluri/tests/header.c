@@ -54,6 +54,11 @@ static void ordinary_calls(void) {
     a = wakeluri_index_file(BYTES(fasta), table, sizeof table);
     put_row(expected, first_row);
     MUST(a.refusal == 0 && a.count == 2 && memcmp(table, expected, 48) == 0 && table[96] == 7 && table[143] == 7);
+    memset(table, 7, sizeof table);
+    a = wakeluri_index_complete(BYTES(">s one\nACGT\nAC\n\n>t\n"), table, sizeof table);
+    MUST(a.refusal == 0 && a.count == 2 && memcmp(table, expected, 48) == 0 && table[96] == 7 && table[143] == 7);
+    a = wakeluri_index_complete(BYTES(">s\nAC\nGTA\n"), table, sizeof table);
+    MUST(a.refusal == 42 && a.first == 8 && a.second == 5 && a.count == 0);
 
     r = wakeluri_index_line(BYTES("s\t6\t7\t4\t5\n"));
     MUST(r.refusal == 0 && r.plain == 1 && r.name_length == 1 && r.length == 6 && r.line_width == 5);
@@ -122,6 +127,7 @@ static void beyond_the_limit(void) {
     REFUSED(wakeluri_read_sequence_limit(big, n, 0, 1, out, 0));
     REFUSED(wakeluri_index_record(big, n, 0));
     REFUSED(wakeluri_index_file(big, n, table, 0));
+    REFUSED(wakeluri_index_complete(big, n, table, 0));
     REFUSED(wakeluri_index_line(big, n));
     REFUSED(wakeluri_index_content(big, n));
     REFUSED(wakeluri_read_index(big, n, table, 0));

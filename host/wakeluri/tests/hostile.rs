@@ -93,7 +93,7 @@ fn stayed(answer: Answer, out: &[u8]) {
 /// Rows that were written, and nothing else.
 fn rows_stayed(answer: Answer, table: &[u8]) {
     let written = answer.count as usize * 48;
-    assert!(answer.refusal <= 12 && written <= table.len());
+    assert!((answer.refusal <= 12 || answer.refusal == 42) && written <= table.len());
     assert!(table[written..].iter().all(|b| *b == b'.'));
 }
 
@@ -103,7 +103,7 @@ fn call(chance: &mut Chance) {
     let row = if chance.once_in(2) { 0 } else { row };
     let (at, limit, bounds, mut out) = (number(chance), number(chance), bounds(chance), room(chance));
     let name = bytes(chance, b"s");
-    match chance.below(20) {
+    match chance.below(21) {
         0 => assert!(entry::definition_line(&file).refusal <= 4),
         1 => assert!(entry::definition_content(&file).refusal <= 4),
         2 => {
@@ -134,7 +134,11 @@ fn call(chance: &mut Chance) {
         15 => stayed(entry::read_exact_by_name(&file, &file, &table, in_use, &name, bounds, &mut out), &out),
         16 => stayed(entry::read_raw_by_name(&file, &file, &table, in_use, &name, bounds, &mut out), &out),
         17 => stayed(entry::complement(&bytes(chance, b"ACGTN"), &mut out), &out),
-        18 => stayed(entry::reverse_complement(&bytes(chance, b"ACGTN"), &mut out), &out),
+        18 => {
+            let mut table = vec![b'.'; chance.below(150)].into_boxed_slice();
+            rows_stayed(entry::index_complete(&file, &mut table), &table);
+        }
+        19 => stayed(entry::reverse_complement(&bytes(chance, b"ACGTN"), &mut out), &out),
         _ => assert!(entry::check(&file, &index(chance)).refusal <= 23),
     }
 }
@@ -144,12 +148,16 @@ fn comfortable_call(chance: &mut Chance) {
     let (file, bytes, in_use, row) = (fasta(chance), table(chance), number(chance), number(chance));
     let table = Table::from_bytes(&file, bytes.into_vec(), in_use as usize);
     let bounds = bounds(chance);
-    let _ = match chance.below(6) {
+    let _ = match chance.below(7) {
         0 => table.read_exact(&file, row as usize, bounds).map(|bases| bases.len()),
         1 => table.read_raw(&file, row as usize, bounds).map(|bases| bases.len()),
         2 => table.read_exact_by_name(&file, b"s", bounds).map(|bases| bases.len()),
         3 => table.write_index_line(row as usize, &mut vec![]).map(|()| 0),
         4 => Ok(table.records().count()),
+        5 => wakeluri::index_strict(&file).and_then(|table| table.write_index()).map(|text| {
+            assert_eq!(wakeluri::index(&file).and_then(|table| table.write_index()).as_deref(), Ok(&text[..]));
+            text.len()
+        }),
         _ => wakeluri::index(&file).and_then(|table| table.write_index()).map(|text| {
             assert_eq!(wakeluri::check(&file, &text), Ok(()));
             text.len()

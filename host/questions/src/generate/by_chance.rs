@@ -115,6 +115,45 @@ pub(super) fn file(chance: &mut Chance) -> Sample {
     sample
 }
 
+/// Ends of a line, with blank lines behind it, by their count of bytes from 1: a record's lines may have any of one count, and one
+/// index line leads through them all.
+const SPACES: [&[&[u8]]; 4] = [
+    &[b"\n"],
+    &[b"\n\n", b"\r\n"],
+    &[b"\n\n\n", b"\r\n\n", b"\n\r\n"],
+    &[b"\n\n\n\n", b"\r\n\r\n", b"\n\r\n\n", b"\n\n\r\n"],
+];
+
+/// Some records whose lines may have blank ones before, between and behind them, damaged or not; and how many were made.
+pub(super) fn spaced_file(chance: &mut Chance) -> (Vec<u8>, usize) {
+    let (mut text, records) = (vec![], chance.one_of(&[1, 1, 2, 2, 3, 5]));
+    for _ in 0..records {
+        text.extend(spaced_record(chance));
+    }
+    if chance.once_in(4) {
+        text.truncate(text.len() - chance.below(4));
+    }
+    if chance.once_in(2) {
+        damage(chance, &mut text);
+    }
+    (text, records)
+}
+
+fn spaced_record(chance: &mut Chance) -> Vec<u8> {
+    let mut text = b">s\n".to_vec();
+    text.extend(chance.one_of(&[&b""[..], b"", b"\n", b"\r\n", b"\n\n"]));
+    let line_bases = if chance.once_in(4) { chance.one_of(&WIDTHS) } else { 1 + chance.below(5) };
+    let length = (line_bases * chance.below(5) + chance.below(line_bases + 1)).min(400);
+    let bases: Vec<u8> = (0..length).map(|_| base(chance)).collect();
+    let ends = chance.one_of(&SPACES);
+    for line in bases.chunks(line_bases) {
+        text.extend(line);
+        text.extend(chance.one_of(ends));
+    }
+    text.extend(chance.one_of(&[&b""[..], b"", b"\n", b"\r\n", b"\n\n\n"]));
+    text
+}
+
 /// A number about one that is right, or an awkward one.
 pub(super) fn about(chance: &mut Chance, right: u64) -> u64 {
     match chance.below(12) {

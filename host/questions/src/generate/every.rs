@@ -14,8 +14,10 @@ pub(super) fn sources() -> Vec<Source> {
         every_sequence(),
         every_limit(),
         every_record(),
-        every_file(),
-        every_two_records(),
+        every_file("idx"),
+        every_file("fit"),
+        every_two_records("idx"),
+        every_two_records("fit"),
         every_index_line(),
         every_index(),
         every_check(),
@@ -80,14 +82,14 @@ fn every_record() -> Source {
     Box::new(from_inside.chain(from_start))
 }
 
-fn every_file() -> Source {
+fn every_file(family: &'static str) -> Source {
     let files = after(b">s\n", b"A\n\r>", 8).chain(strings(b">\n\rAC \t", 6));
-    Box::new(files.map(|file| ask("idx").bytes(&file).table(&table(15)).0))
+    Box::new(files.map(move |file| ask(family).bytes(&file).table(&table(15)).0))
 }
 
-fn every_two_records() -> Source {
+fn every_two_records(family: &'static str) -> Source {
     let files = after(b">s\nAA\n>t\r\n", b"A\n\r>", 6);
-    Box::new(files.flat_map(|file| [0, 6, 12].map(|numbers| ask("idx").bytes(&file).table(&table(numbers)).0)))
+    Box::new(files.flat_map(move |file| [0, 6, 12].map(|numbers| ask(family).bytes(&file).table(&table(numbers)).0)))
 }
 
 fn every_index_line() -> Source {
