@@ -1,4 +1,4 @@
-//! Every small file: the complete rule takes those of which an index can be right, and no others.
+//! Every small file: the complete rule takes those of which an index can be right, and no others, and its rows read every base.
 //!
 //! The files are `>s` and a line feed, with so many more bytes of `A`, LF, CR and `>`. All index lines that could matter are tried on
 //! the records that are refused: so that no index can fit is seen here by trial, as it is proved in crates/fitting.
@@ -17,9 +17,11 @@ fn files() -> impl Iterator<Item = Vec<u8>> {
     })
 }
 
-/// Where the records of a file begin: at its lines that begin with '>'.
-fn starts(file: &[u8]) -> Vec<usize> {
-    (0..file.len()).filter(|at| file[*at] == b'>' && (*at == 0 || file[at - 1] == b'\n')).collect()
+/// The records of a file: each begins at a line that begins with '>'.
+fn records(file: &[u8]) -> Vec<&[u8]> {
+    let starts = (0..file.len()).filter(|at| file[*at] == b'>' && (*at == 0 || file[at - 1] == b'\n'));
+    let ends = starts.clone().skip(1).chain([file.len()]);
+    starts.zip(ends).map(|(start, end)| &file[start..end]).collect()
 }
 
 /// Whether a record alone has an index that the checker accepts, by trial of every line whose numbers can matter: more bases in a line
@@ -37,10 +39,11 @@ fn any_line_fits(record: &[u8], bases: usize) -> bool {
     })
 }
 
-/// How many bases a record has, by the line rule.
-fn bases(record: &[u8]) -> usize {
+/// The bases of a record, by the line rule.
+fn bases(record: &[u8]) -> Vec<u8> {
     let lines = record.split_inclusive(|byte| *byte == b'\n').skip(1);
-    lines.map(|line| line.strip_suffix(b"\n").unwrap_or(line)).map(|l| l.strip_suffix(b"\r").unwrap_or(l).len()).sum()
+    let contents = lines.map(|line| line.strip_suffix(b"\n").unwrap_or(line));
+    contents.flat_map(|line| line.strip_suffix(b"\r").unwrap_or(line)).copied().collect()
 }
 
 #[test]
@@ -56,13 +59,16 @@ fn every_small_file() {
             None => {
                 complete += 1;
                 assert_eq!(check(&file, &rows.write_index().expect("an index")), Ok(()), "{}", file.escape_ascii());
+                for (row, record) in records(&file).into_iter().enumerate() {
+                    let read = rows.read_exact(&file, row, ..).map_err(|refusal| refusal.number);
+                    let expected = Some(bases(record)).filter(|bases| !bases.is_empty()).ok_or(17);
+                    assert_eq!(read, expected, "{}", file.escape_ascii());
+                }
             }
             Some(42) => {
                 refused += 1;
-                let starts = starts(&file);
-                let end = starts.get(rows.len() + 1).copied().unwrap_or(file.len());
-                let record = &file[starts[rows.len()]..end];
-                assert!(!any_line_fits(record, bases(record)), "{}", file.escape_ascii());
+                let record = records(&file)[rows.len()];
+                assert!(!any_line_fits(record, bases(record).len()), "{}", file.escape_ascii());
             }
             Some(number) => {
                 bad_definition += 1;
