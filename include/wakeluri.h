@@ -63,8 +63,13 @@ struct wakeluri_answer wakeluri_read_sequence_limit(const uint8_t *file, size_t 
 /* The row of the record at an offset, and the offset behind it. Refuses 1 to 7. */
 struct wakeluri_row wakeluri_index_record(const uint8_t *file, size_t file_length, uint64_t at);
 
-/* A row for each record of a file, from the table's first on; tells how many. Refuses 1 to 8. */
+/* A row for each record of a file, from the table's first on, by the original's rule; tells how many. Refuses 1 to 8. */
 struct wakeluri_answer wakeluri_index_file(const uint8_t *file, size_t file_length, uint8_t *table, size_t table_length);
+
+/* The same by the complete rule, which takes every file that any index leads through: blank lines and records without bases too. Where
+ * the other call gives a record's row, this one gives the same. Refuses 1, then record by record 2 to 4, 42 and 8. 42 tells the offset
+ * and the base position of the first base that the record's numbers don't lead to: no index fits this file. */
+struct wakeluri_answer wakeluri_index_complete(const uint8_t *file, size_t file_length, uint8_t *table, size_t table_length);
 
 /* What an index line says, given with its end; its name starts at 0. Refuses 1, 9 to 12. */
 struct wakeluri_row wakeluri_index_line(const uint8_t *line, size_t line_length);

@@ -208,8 +208,8 @@ pub enum Rule {
     Complete,
 }
 
-// The record at `at`, by a rule.
-fn step_at(s: &[u8], at: usize, rule: Rule) -> Step
+// Indexes the record at `at` of a file that is not too long, by a rule.
+pub fn index_at(s: &[u8], at: usize, rule: Rule) -> Step
     ensures { λ r. ⌜ r ≡ stepBy rule (now (s .entry)) at ⌝ }
 {
     match rule {
@@ -225,7 +225,7 @@ fn index_rows(s: &[u8], table: &mut [u64], rule: Rule) -> Filled
     let mut at = 0;
     let mut n = 0;
     loop {
-        let step = step_at(s, at, rule);
+        let step = index_at(s, at, rule);
         let answer = step.answer;
         match answer {
             Indexed::Row(x) => {
