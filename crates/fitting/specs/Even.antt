@@ -8,7 +8,7 @@ use native.Mathlib.Omega.{arith}
 use Rattle.lines.specs.Lines.{basesOf, firstLine, sumBases, basesAt}
 use Rattle.record.specs.EvenLines.{EvenLines, length-basesAt, even-place}
 use Rattle.record.specs.EvenLines.EvenLines.{none as no-more, last as last-line, more as line-more}
-use Rattle.indexer.specs.Index.{good}
+use Rattle.indexer.specs.Rule.{good}
 use Rattle.fitting.specs.Fit.{distance, fromBases, numbersAt, fit}
 use Rattle.fitting.specs.Leads.{place-zero, leads-good}
 use Rattle.fitting.specs.FirstLine.{Broken, numbers-line}

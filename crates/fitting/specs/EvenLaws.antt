@@ -18,7 +18,8 @@ use Rattle.indexer.specs.Laws.{like-room}
 use Rattle.fitting.specs.declared.Based.{Based}
 use Rattle.fitting.specs.declared.Even.{Even}
 use Rattle.fitting.specs.declared.Even.the-variants.{Lines, Not}
-use Rattle.fitting.specs.Fit.{sequenceSays}
+use Rattle.indexer.specs.Rule.{sequenceBy}
+use Rattle.fitting.specs.Fit.{complete}
 use Rattle.fitting.specs.FirstLine.{broken-here}
 use Rattle.fitting.specs.Even.{Same, even-same}
 use Rattle.fitting.specs.Lay.{BasedAt, no-bases, no-lines}
@@ -140,8 +141,8 @@ pub even-record : (s : List ℕ) (at e : ℕ) (name : Span) → at ≤ e → (x 
       });
       next = record { at = j };
     }
-    ≡ sequenceSays at (e - at) name (seqAt s e)
-unfolding sequenceSays
+    ≡ sequenceBy complete at (e - at) name (seqAt s e)
+unfolding sequenceBy
 even-record s at e name le x hx n j (even same hn hj) =
     let split : at + (e - at) ≡ e = omega arith in
     rw (split, same .fits, hn, hj, hx) (rw (split, same .numbers))

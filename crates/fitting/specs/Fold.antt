@@ -14,7 +14,7 @@ use Rattle.lines.specs.Laws.{seqAt-next, first-within}
 use Rattle.record.specs.Place.{placeOf}
 use Rattle.record.specs.Laws.{place-first}
 use Rattle.record.specs.EvenLines.{length-upFrom, getD-upFrom, length-basesAt}
-use Rattle.indexer.specs.Index.{Verdict, good}
+use Rattle.indexer.specs.Rule.{Verdict, good}
 use Rattle.walking.specs.Places.{firstElsewhere}
 use Rattle.walking.specs.PlaceLaws.{firstOf, all-there, elsewhere-append}
 use Rattle.walking.specs.declared.Placed.{Placed}

@@ -1,5 +1,4 @@
 pub mod Fit
-pub mod FitFile
 pub mod Marked
 pub mod Leads
 pub mod Sound
@@ -8,6 +7,5 @@ pub mod Even
 pub mod Lay
 pub mod Laws
 pub mod EvenLaws
-pub mod FileLaws
 pub mod Fold
 pub mod Rules

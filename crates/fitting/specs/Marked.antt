@@ -10,16 +10,18 @@ use Rattle.record.specs.Place.{placeOf}
 use Rattle.record.specs.Row.{wordsOf, words}
 use Rattle.table.specs.declared.Stop.{Stop}
 use Rattle.table.specs.declared.Stop.the-variants.{Ended, Refused}
+use Rattle.indexer.specs.Rule.{sequenceBy, groupsBy, fileBy}
 use Rattle.walking.specs.Places.{firstElsewhere}
-use Rattle.fitting.specs.Fit.{besides, distance, numbersOf, fromBases, numbersAt, fit, sequenceSays}
-use Rattle.fitting.specs.FitFile.{fileOf, fileAt}
+use Rattle.fitting.specs.declared.Rule.the-variants.{Complete}
+use Rattle.fitting.specs.Fit.{besides, distance, numbersOf, fromBases, numbersAt, fit}
+use Rattle.fitting.specs.Rules.{rowsBy}
 
 pub record Answer : Type 0 where
   pub numbers : List ℕ
   pub stop : Stop
 
 abbrev pub answerOf : List ℕ → Answer
-answerOf s = record { numbers = words (fileAt s 0 .rows); stop = fileAt s 0 .stop }
+answerOf s = record { numbers = words (rowsBy Complete s 0 .rows); stop = rowsBy Complete s 0 .stop }
 
 unfoldable pub files : List (List ℕ)
 files =
@@ -48,5 +50,5 @@ answers =
     ∷ []
 
 pub marked : map answerOf files ≡ answers
-unfolding files answers lines chop ends contentOf seqOf sumBases sumWidths upFrom basesAt groups isSpace run keep contentSays lineSays placeOf wordsOf words besides distance numbersOf fromBases numbersAt firstElsewhere fit sequenceSays fileOf fileAt
+unfolding files answers lines chop ends contentOf seqOf sumBases sumWidths upFrom basesAt groups isSpace run keep contentSays lineSays placeOf wordsOf words besides distance numbersOf fromBases numbersAt firstElsewhere fit sequenceBy groupsBy fileBy
 marked = refl

@@ -21,7 +21,8 @@ ghost use lib.ListN.{length};
 ghost use Rattle.lines.specs.Lines.{firstLine, seqAt};
 ghost use Rattle.record.specs.Row.{rowCount};
 ghost use Rattle.table.specs.Fill.{FilledAs, heldIn};
-ghost use Rattle.fitting.specs.Fit.{sequenceSays, fittedAt};
+ghost use Rattle.indexer.specs.Rule.{sequenceBy, recordBy};
+ghost use Rattle.fitting.specs.Fit.{complete};
 ghost use Rattle.fitting.specs.Rules.{stepBy, rowsBy, rowsIn};
 ghost use Rattle.fitting.specs.Lay.{BasedAt, NumbersAt};
 ghost use Rattle.fitting.specs.EvenLaws.{EvenSaid};
@@ -124,7 +125,7 @@ fn numbers_at(s: &[u8], at: usize) -> Numbers
 // The record at `at`, whose definition line ends at `e` and gives a name, whatever its lines.
 fn fit_lines(s: &[u8], at: usize, e: usize, name: Span) -> Step
     requires { ⌜ (at < e) × (e ≤ length (now s)) × (name .start ≤ e - at) ⌝ }
-    ensures { λ r. ⌜ r ≡ sequenceSays at (e - at) name (seqAt (now (s .entry)) e) ⌝ }
+    ensures { λ r. ⌜ r ≡ sequenceBy complete at (e - at) name (seqAt (now (s .entry)) e) ⌝ }
 {
     let n = numbers_at(s, e);
     let p = n.position;
@@ -157,7 +158,7 @@ fn fit_lines(s: &[u8], at: usize, e: usize, name: Span) -> Step
 // The record at `at`, whose definition line ends at `e` and gives a name.
 fn fit_sequence(s: &[u8], at: usize, e: usize, name: Span) -> Step
     requires { ⌜ (at < e) × (e ≤ length (now s)) × (name .start ≤ e - at) ⌝ }
-    ensures { λ r. ⌜ r ≡ sequenceSays at (e - at) name (seqAt (now (s .entry)) e) ⌝ }
+    ensures { λ r. ⌜ r ≡ sequenceBy complete at (e - at) name (seqAt (now (s .entry)) e) ⌝ }
 {
     let first = lines::sequence_line(s, e);
     let found = even_lines(s, e, first);
@@ -180,7 +181,7 @@ fn fit_sequence(s: &[u8], at: usize, e: usize, name: Span) -> Step
 
 // The record at `at`.
 fn fit_at(s: &[u8], at: usize) -> Step
-    ensures { λ r. ⌜ r ≡ fittedAt (now (s .entry)) at ⌝ }
+    ensures { λ r. ⌜ r ≡ recordBy complete (now (s .entry)) at ⌝ }
 {
     if s.len() <= at {
         return Step {

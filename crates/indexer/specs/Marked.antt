@@ -9,8 +9,9 @@ use Rattle.definition.specs.Definition.{isSpace, run, keep, contentSays, lineSa
 use Rattle.record.specs.Row.{wordsOf, words}
 use Rattle.table.specs.declared.Stop.{Stop}
 use Rattle.table.specs.declared.Stop.the-variants.{Ended, Refused}
-use Rattle.indexer.specs.Index.{fitsLast, restOf, judge, sequenceSays}
-use Rattle.indexer.specs.File.{fileOf, fileAt}
+use Rattle.indexer.specs.Rule.{sequenceBy, groupsBy, fileBy}
+use Rattle.indexer.specs.Index.{fitsLast, restOf, judge}
+use Rattle.indexer.specs.File.{fileAt}
 
 pub record Answer : Type 0 where
   pub numbers : List ℕ
@@ -52,5 +53,5 @@ answers =
     ∷ []
 
 pub marked : map answerOf files ≡ answers
-unfolding files answers lines chop ends contentOf seqOf sumBases sumWidths groups isSpace run keep contentSays lineSays wordsOf words fitsLast restOf judge sequenceSays fileOf fileAt
+unfolding files answers lines chop ends contentOf seqOf sumBases sumWidths groups isSpace run keep contentSays lineSays wordsOf words fitsLast restOf judge sequenceBy groupsBy fileBy
 marked = refl

@@ -1,5 +1,5 @@
--- The complete indexer's call on a file that it takes to its end: its index lines are accepted (`call-fits-accepted`), and on the rows that
--- it leaves in the table, an exact read of bases inside a record, with room for them, gives just those bases (`fitted-reads`).
+-- The complete indexer's call on a file that it takes to its end: on the rows that it leaves in the table, an exact read of bases inside a
+-- record, with room for them, gives just those bases (`fitted-reads`).
 use Prim.Native.Nat.{ℕ, _+_, _-_, _≤_, _<_}
 use mathlib.Core.Path.{_≡_, ap, sym, _∙_}
 use mathlib.Core.List.{List, _++_, map}
@@ -17,22 +17,20 @@ use Rattle.record.specs.Bases.{byteAt}
 use Rattle.record.specs.Laws.{held-stored, sound-row, length-places, getD-places}
 use Rattle.table.specs.declared.Filled.{Filled}
 use Rattle.table.specs.declared.Stop.the-variants.{Ended}
-use Rattle.table.specs.Fill.{FilledAs, heldIn}
-use Rattle.table.specs.Laws.{held-all}
+use Rattle.table.specs.Fill.{FilledAs}
 use Rattle.region.specs.declared.Bound.the-variants.{Given}
 use Rattle.region.specs.declared.RegionRead.the-variants.{Bytes}
 use Rattle.region.specs.Region.{leaves, startOf, endOf, basesTo}
 use Rattle.region.specs.Exact.{offsetsOf, exactOf, exactRead}
 use Rattle.region.specs.Dependence.{readable-given, exact-reads}
-use Rattle.fitting.specs.FitFile.{fileAt, fileIn}
-use Rattle.checker.specs.Accepts.{recordAt, sequenceAt, limit}
-use Rattle.checker.specs.Check.{checkOf}
-use Rattle.checker.specs.Exactly.{accepted-if}
+use Rattle.fitting.specs.declared.Rule.the-variants.{Complete}
+use Rattle.fitting.specs.Fit.{complete}
+use Rattle.fitting.specs.Rules.{rowsBy, rowsIn}
+use Rattle.checker.specs.Accepts.{recordAt, sequenceAt}
 use Rattle.checker.specs.Sequences.{sequence-here, sequence-inside}
-use Rattle.checker.specs.declared.Verdict.the-variants.{Accepted}
-use Rattle.mission.specs.IndexedLaws.{along-all, held-ended, within-ended}
-use Rattle.mission.specs.Leading.{indexText, noRow, rowIn, LeadsTo, leading-at}
-use Rattle.mission.specs.Fitted.{rows-lead, fits-accepted}
+use Rattle.mission.specs.IndexedLaws.{along-all, taken}
+use Rattle.mission.specs.Leading.{noRow, rowIn, LeadsTo, leading-at}
+use Rattle.mission.specs.FittedLaws.{rows-lead}
 use Rattle.mission.specs.ReadsLaws.{base-inside, bases-part}
 use Rattle.mission.specs.Reads.{basesBetween, Asked}
 
@@ -63,36 +61,16 @@ module _ (f : List ℕ) (r : ℕ) (h : r < length (groups (lines f))) (x : Recor
 
 -- ---- a file that the call takes to its end
 
--- it is within the limit, the table has room for its rows, and they are all
-pub record Taken (f : List ℕ) (n : ℕ) : Type 0 where
-  pub fits : length f ≤ limit
-  pub room : length (fileAt f 0 .rows) ≤ n
-  pub whole : fileIn f n ≡ fileAt f 0
-  pub ended : fileAt f 0 .stop ≡ Ended
-
-pub taken : (f : List ℕ) (n : ℕ) → fileIn f n .stop ≡ Ended → Taken f n
-unfolding fileIn overLimit
-taken f n h =
-    let w = within-ended (length f) (heldIn n n (fileAt f 0)) h in
-    let r = held-ended n (fileAt f 0) (w .1) in
-    let a = held-all n n (fileAt f 0) r in
-    record { fits = w .0; room = r; whole = rw (le-ltb _ _ (w .0)) a; ended = rw a at (w .1) }
-
-pub call-fits-accepted : (f : List ℕ) (n : ℕ) → fileIn f n .stop ≡ Ended → length (indexText f (fileIn f n .rows)) ≤ limit → checkOf f (indexText f (fileIn f n .rows)) ≡ Accepted
-call-fits-accepted f n h m =
-    let t = taken f n h in
-    rw (t .whole) (accepted-if f (indexText f (fileAt f 0 .rows)) (fits-accepted f (t .fits) (t .ended) (rw (t .whole) at m)))
-
-pub fitted-reads : (f t t′ : List ℕ) (told : Filled) (r a e : ℕ) (out : List ℕ) → FilledAs (fileIn f (rowCount t)) t t′ told → told .stop ≡ Ended → Asked f r a e out
+pub fitted-reads : (f t t′ : List ℕ) (told : Filled) (r a e : ℕ) (out : List ℕ) → FilledAs (rowsIn Complete f (rowCount t)) t t′ told → told .stop ≡ Ended → Asked f r a e out
     → exactRead f t′ (told .rows) r (Given (record { 0 = a })) (Given (record { 0 = e })) out
     ≡ leaves (Bytes (basesTo a e)) (basesBetween f r a e ++ drop (basesTo a e) out)
 unfolding exactRead overLimit
 fitted-reads f t t′ told r a e out filled ended q =
-    let k = taken f (rowCount t) (sym (filled .stop) ∙ ended) in
-    let n : r < length (fileAt f 0 .rows) = omega (arith, along-all (rows-lead f) (k .ended), q .record′) in
-    let d : LeadsTo f (sequenceAt (groups (lines f)) r) (recordAt (groups (lines f)) r) (rowIn (fileAt f 0 .rows) r) = leading-at f (fileAt f 0 .rows) (fileAt f 0 .stop) (rows-lead f) r n in
+    let k = taken complete f (rowCount t) (sym (filled .stop) ∙ ended) in
+    let n : r < length (rowsBy Complete f 0 .rows) = omega (arith, along-all (rows-lead f) (k .ended), q .record′) in
+    let d : LeadsTo f (sequenceAt (groups (lines f)) r) (recordAt (groups (lines f)) r) (rowIn (rowsBy Complete f 0 .rows) r) = leading-at f (rowsBy Complete f 0 .rows) (rowsBy Complete f 0 .stop) (rows-lead f) r n in
     let s = d .lined (omega (arith, k .fits)) in
-    let held : heldAt (withRows t 0 (fileAt f 0 .rows)) (length (fileAt f 0 .rows)) r ≡ held.Row (rowIn (fileAt f 0 .rows) r) =
-    held-stored t noRow (fileAt f 0 .rows) r (k .room) n ∙ sym (sound-row r (rowIn (fileAt f 0 .rows) r) (λ z. omega (arith, s .some-bases)) (λ z. omega (arith, s .some-width))) in
+    let held : heldAt (withRows t 0 (rowsBy Complete f 0 .rows)) (length (rowsBy Complete f 0 .rows)) r ≡ held.Row (rowIn (rowsBy Complete f 0 .rows) r) =
+    held-stored t noRow (rowsBy Complete f 0 .rows) r (k .room) n ∙ sym (sound-row r (rowIn (rowsBy Complete f 0 .rows) r) (λ z. omega (arith, s .some-bases)) (λ z. omega (arith, s .some-width))) in
     rw (le-ltb 1099511627776 (length f) (k .fits), rw (k .whole) at (filled .table), rw (k .whole) at (filled .rows), held)
-    (leading-reads f r (q .record′) (rowIn (fileAt f 0 .rows) r) d a e out q)
+    (leading-reads f r (q .record′) (rowIn (rowsBy Complete f 0 .rows) r) d a e out q)

@@ -1,6 +1,7 @@
 pub mod IndexedLaws
 pub mod Leading
 pub mod Indexed
+pub mod FittedLaws
 pub mod Fitted
 pub mod ReadsLaws
 pub mod Reads

@@ -25,8 +25,9 @@ use Rattle.index_line.specs.Decimal.{allDigits, valueFrom, numberFrom, digitsOf
 use Rattle.index_line.specs.Fields.{cutAt, fieldSays, numbersFrom, tabbed, textOf}
 use Rattle.index_line.specs.IndexLine.{fieldsOf, plainEnd, nameOf, nameIn, lineOf}
 use Rattle.index_line.specs.IndexLine as index
-use Rattle.indexer.specs.Index.{fitsLast, restOf, judge, sequenceSays}
-use Rattle.indexer.specs.File.{fileOf, fileAt}
+use Rattle.indexer.specs.Rule.{sequenceBy, groupsBy, fileBy}
+use Rattle.indexer.specs.Index.{fitsLast, restOf, judge}
+use Rattle.indexer.specs.File.{fileAt}
 use Rattle.region.specs.declared.Bound.{Bound}
 use Rattle.region.specs.declared.Bound.the-variants.{Given}
 use Rattle.region.specs.declared.RegionRead.{RegionRead}
@@ -142,5 +143,5 @@ answers =
     ∷ []
 
 pub marked : asked ≡ answers
-unfolding asked answers indexLines numbersOf overLimit lines chop ends contentOf seqOf sumBases sumWidths upFrom basesAt groups sameBytes partner firstOr faults reverseComplementOf isSpace run keep refusalOf definition.contentSays definition.lineSays placeOf placesFrom offsetOf hasPlace addressOf rowCount rowAt soundRow heldAt endsLine skipped scanFrom scanAt scanAll allDigits valueFrom numberFrom digitsOf numberOf plainNumber digits widthFrom width decimalOf cutAt fieldSays numbersFrom tabbed textOf fieldsOf plainEnd nameOf nameIn lineOf index.contentSays index.lineSays fitsLast restOf judge sequenceSays fileOf fileAt refuses gives isZero crossed badBounds boundedRow startOf endOf inFile pastLength bytesAt basesFrom regionOf exactIn exactOf exactRead scanTo pours rawAt rawIn rawOf rawRead firstElsewhere checker.sequenceSays entrySays againstLines recordSays recordsSay checkOf
+unfolding asked answers indexLines numbersOf overLimit lines chop ends contentOf seqOf sumBases sumWidths upFrom basesAt groups sameBytes partner firstOr faults reverseComplementOf isSpace run keep refusalOf definition.contentSays definition.lineSays placeOf placesFrom offsetOf hasPlace addressOf rowCount rowAt soundRow heldAt endsLine skipped scanFrom scanAt scanAll allDigits valueFrom numberFrom digitsOf numberOf plainNumber digits widthFrom width decimalOf cutAt fieldSays numbersFrom tabbed textOf fieldsOf plainEnd nameOf nameIn lineOf index.contentSays index.lineSays fitsLast restOf judge sequenceBy groupsBy fileBy refuses gives isZero crossed badBounds boundedRow startOf endOf inFile pastLength bytesAt basesFrom regionOf exactIn exactOf exactRead scanTo pours rawAt rawIn rawOf rawRead firstElsewhere checker.sequenceSays entrySays againstLines recordSays recordsSay checkOf
 marked = refl

@@ -7,7 +7,8 @@ use lib.ListN.{length}
 use borrow.Author.Needs.{needs}
 use Rattle.record.specs.Row.{rowWords, rowCount}
 use Rattle.table.specs.Fill.{withFirst}
-use Rattle.fitting.specs.Rules.{rowsBy, by-row, by-end, by-refused}
+use Rattle.indexer.specs.RuleLaws.{file-row, file-end, file-refused}
+use Rattle.fitting.specs.Rules.{rowsBy}
 use Rattle.byte_table.specs.Laws.{length-numbers}
 use Rattle.byte_table.specs.FillLaws.{OnwardIn, in-start, in-count, in-last, in-full, in-kept}
 use Rattle.byte_table.proofs.fill.index_rows.Statement.{statement}
@@ -43,7 +44,7 @@ enum-told c = search needs
 row : (c : tie.After-answer Inv-loop μ-loop) → let l = c .before .before .before in
     let rows = rowsBy (l .before .before .before .args .rule) (l .before .before .before .args .file .now) in let x = c .before .before .index-at .result in
     (rows (l .loop .at) ≡ withFirst (c .answer .given .0 .0) (rows (x .next .at))) × (l .loop .at < length (l .before .before .before .args .file .now)) × (l .loop .at < x .next .at)
-row c = by-row _ _ _ _ (c .before .before .index-at .ensures) _ (c .answer .given .1)
+row c = file-row _ _ _ _ (c .before .before .index-at .ensures) _ (c .answer .given .1)
 
 add-n : tie.Need-add-n Inv-loop μ-loop
 add-n c = omega (arith, counted (c .before .before .before .before .before .before .before .before .before .before))
@@ -77,7 +78,7 @@ same-length-2 : tie.Need-same-length-2 Inv-loop μ-loop
 same-length-2 c = search needs
 
 returns-2 : tie.Need-returns-2 Inv-loop μ-loop
-returns-2 c = in-last _ _ _ _ _ (c .before .before .before .loop .inv .1) _ (by-end _ _ _ _ (c .before .before .index-at .ensures) (c .enum-told2 .given .1))
+returns-2 c = in-last _ _ _ _ _ (c .before .before .before .loop .inv .1) _ (file-end _ _ _ _ (c .before .before .index-at .ensures) (c .enum-told2 .given .1))
 
 enum-known-answer-2 : tie.Need-enum-known-answer-2 Inv-loop μ-loop
 enum-known-answer-2 c = search needs
@@ -86,7 +87,7 @@ same-length-3 : tie.Need-same-length-3 Inv-loop μ-loop
 same-length-3 c = search needs
 
 returns-3 : tie.Need-returns-3 Inv-loop μ-loop
-returns-3 c = in-last _ _ _ _ _ (c .before .before .before .before .loop .inv .1) _ (by-refused _ _ _ _ (c .before .before .before .index-at .ensures) _ (c .before .answer2 .given .1))
+returns-3 c = in-last _ _ _ _ _ (c .before .before .before .before .loop .inv .1) _ (file-refused _ _ _ _ (c .before .before .before .index-at .ensures) _ (c .before .answer2 .given .1))
 
 pub index-rows-spec : {M : Type 1} → statement M
 index-rows-spec =

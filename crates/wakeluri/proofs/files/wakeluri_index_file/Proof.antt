@@ -1,6 +1,5 @@
 -- `wakeluri::files::wakeluri_index_file` meets its contract: what the call by the original's rule answers is told, and what it leaves is left.
 -- Assumes nothing.
-use Rattle.fitting.specs.Rules.{strict-in}
 use Rattle.wakeluri.specs.Laws.{filled-told}
 use borrow.Author.Needs.{needs}
 use Rattle.wakeluri.proofs.files.wakeluri_index_file.Statement.{statement}
@@ -16,7 +15,7 @@ same-length : tie.Need-same-length
 same-length c = search needs
 
 returns : tie.Need-returns
-returns c = rw (← strict-in _ _) (filled-told _ _ _ _ _ (c .before .before .before .index-file .ensures) (c .filled-answer .ensures))
+returns c = filled-told _ _ _ _ _ (c .before .before .before .index-file .ensures) (c .filled-answer .ensures)
 
 pub wakeluri-index-file-spec : {M : Type 1} → statement M
 wakeluri-index-file-spec =
