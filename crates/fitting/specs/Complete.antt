@@ -1,6 +1,6 @@
--- The complete indexer's rule for one record. By the line rule its bases lie at some offsets. Its position is the first of them, its line
--- bases are how many lie side by side from there, and its line width is how far the first base behind those is from the first of all;
--- where no base is behind them, the width of their line. If these numbers lead to every base, they are the row. Else no numbers do.
+-- The complete rule for one record. By the line rule its bases lie at some offsets. Its position is the first of them, its line bases are
+-- how many lie side by side from there, and its line width is how far the first base behind those is from the first of all; where no
+-- base is behind them, the width of their line. If these numbers lead to every base, they are the row. Else no numbers do (Leads.antt).
 use Prim.Native.Nat.{ℕ, suc, _+_, _-_}
 use mathlib.Core.List.{List, [], _∷_}
 use mathlib.Core.Bool.{cond}

@@ -13,7 +13,7 @@ use Rattle.table.specs.declared.Stop.the-variants.{Ended, Refused}
 use Rattle.indexer.specs.Rule.{sequenceBy, groupsBy, fileBy}
 use Rattle.walking.specs.Places.{firstElsewhere}
 use Rattle.fitting.specs.declared.Rule.the-variants.{Complete}
-use Rattle.fitting.specs.Fit.{besides, distance, numbersOf, fromBases, numbersAt, fit}
+use Rattle.fitting.specs.Complete.{besides, distance, numbersOf, fromBases, numbersAt, fit}
 use Rattle.fitting.specs.Rules.{rowsBy}
 
 pub record Answer : Type 0 where
@@ -49,6 +49,6 @@ answers =
     ∷ record { numbers = 1 ∷ 1 ∷ 2 ∷ 3 ∷ 2 ∷ 3 ∷ []; stop = Ended }
     ∷ []
 
-pub marked : map answerOf files ≡ answers
+pub come-out : map answerOf files ≡ answers
 unfolding files answers lines chop ends contentOf seqOf sumBases sumWidths upFrom basesAt groups isSpace run keep contentSays lineSays placeOf wordsOf words besides distance numbersOf fromBases numbersAt firstElsewhere fit sequenceBy groupsBy fileBy
-marked = refl
+come-out = refl

@@ -16,8 +16,8 @@ use Rattle.walking.specs.Places.{walkedAs}
 use Rattle.walking.specs.declared.Placed.the-variants.{There, Elsewhere}
 use Rattle.walking.specs.declared.Walked.{Walked}
 use Rattle.fitting.specs.declared.Numbers.{Numbers}
-use Rattle.fitting.specs.Fit.{placeBy, placesSay, fit, complete}
-use Rattle.fitting.specs.Lay.{NumbersAt}
+use Rattle.fitting.specs.Complete.{placeBy, placesSay, fit, complete}
+use Rattle.fitting.specs.BlankLines.{NumbersAt}
 
 -- ---- a record whose definition line has been read, by its numbers r and the walk v from their position on
 

@@ -22,7 +22,7 @@ use Rattle.walking.specs.Places.{firstElsewhere}
 use Rattle.walking.specs.PlaceLaws.{PlacesSaid, all-there, places-said}
 use Rattle.walking.specs.PlaceLaws.PlacesSaid.{all, one}
 use Rattle.walking.specs.declared.Placed.{Placed}
-use Rattle.fitting.specs.Fit.{besides, distance, numbersOf, numbersAt, placeBy, placesSay, fit}
+use Rattle.fitting.specs.Complete.{besides, distance, numbersOf, numbersAt, placeBy, placesSay, fit}
 use Rattle.fitting.specs.declared.Numbers.{Numbers}
 
 -- numbers lead to the first m of bases at some offsets

@@ -7,7 +7,7 @@ use Rattle.indexer.specs.Rule.{SequenceRule, recordBy, fileBy, callBy}
 use Rattle.indexer.specs.Index.{ported}
 use Rattle.fitting.specs.declared.Rule.{Rule}
 use Rattle.fitting.specs.declared.Rule.the-variants.{Strict, Complete}
-use Rattle.fitting.specs.Fit.{complete}
+use Rattle.fitting.specs.Complete.{complete}
 
 abbrev pub ruleOf : Rule → SequenceRule
 ruleOf Strict = ported

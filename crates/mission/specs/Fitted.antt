@@ -25,7 +25,7 @@ use Rattle.indexer.specs.declared.Indexed.the-variants as indexed
 use Rattle.indexer.specs.Rule.{fileBy, callBy}
 use Rattle.indexer.specs.Index.{ported}
 use Rattle.fitting.specs.declared.Rule.the-variants.{Strict, Complete}
-use Rattle.fitting.specs.Fit.{complete}
+use Rattle.fitting.specs.Complete.{complete}
 use Rattle.fitting.specs.Rules.{stepBy, rowsBy, rowsIn}
 use Rattle.checker.specs.Accepts.{limit, Accepts}
 use Rattle.checker.specs.Check.{checkOf}

@@ -25,12 +25,12 @@ use Rattle.index_line.specs.Laws.{line-sound}
 use Rattle.indexer.specs.Rule.{Verdict, good, bad, judgedBy, sequenceBy, definedBy, firstBy, recordBy, stepped, groupsBy, fileBy}
 use Rattle.indexer.specs.Index.{judge, ported}
 use Rattle.indexer.specs.declared.Indexed.the-variants as indexed
-use Rattle.fitting.specs.Fit.{fit, numbersAt, rowOf, complete}
+use Rattle.fitting.specs.Complete.{fit, numbersAt, rowOf, complete}
 use Rattle.fitting.specs.declared.Numbers.{Numbers}
 use Rattle.fitting.specs.Leads.{any-leads, leads-good, good-leads}
 use Rattle.fitting.specs.Sound.{numbers-sound}
-use Rattle.fitting.specs.FirstLine.{Broken, broken-here}
-use Rattle.fitting.specs.Even.{Same, even-same}
+use Rattle.fitting.specs.FirstLine.{Terminated, terminated-here}
+use Rattle.fitting.specs.Even.{FirstLineFits, even-fits}
 use Rattle.checker.specs.Accepts.{bytesOf, recordAt, sequenceAt, Matches}
 use Rattle.mission.specs.IndexedLaws.{name-spaceless, name-bytes, sequence-within, FirstGroup, first-group, good-even, Along, along-file}
 use Rattle.mission.specs.Leading.{LeadsTo}
@@ -96,22 +96,22 @@ all-fit (g ∷ gs) at h =
 -- ---- a record that the ported indexer takes
 
 -- a good record's numbers are the same, and lead to every base
-good-same : (start : ℕ) (ls : List (List ℕ)) → judge start ls ≡ good → Broken ls → Same start ls
-good-same start [] h b = absurd (omega (arith, good-even start [] h .1))
-good-same start (l ∷ ls) h b = let e = good-even start (l ∷ ls) h in even-same start l ls (e .0) (e .1) b
+good-fits : (start : ℕ) (ls : List (List ℕ)) → judge start ls ≡ good → Terminated ls → FirstLineFits start ls
+good-fits start [] h b = absurd (omega (arith, good-even start [] h .1))
+good-fits start (l ∷ ls) h b = let e = good-even start (l ∷ ls) h in even-fits start l ls (e .0) (e .1) b
 
 -- a record's sequence lines, by its place in a file
-lines-broken : (f : List ℕ) (at : ℕ) (l : List ℕ) (ls : List (List ℕ)) → lines (drop at f) ≡ l ∷ ls → Broken (seqOf ls)
+lines-terminated : (f : List ℕ) (at : ℕ) (l : List ℕ) (ls : List (List ℕ)) → lines (drop at f) ≡ l ∷ ls → Terminated (seqOf ls)
 unfolding seqAt
-lines-broken f at l ls h =
+lines-terminated f at l ls h =
     let e : seqAt f (at + length l) ≡ seqOf ls = rw (← drop-drop (length l) at f, lines-behind (drop at f) l ls h) in
-    rw e at (broken-here f (at + length l) (omega (arith, sequence-within f at l ls h)))
+    rw e at (terminated-here f (at + length l) (omega (arith, sequence-within f at l ls h)))
 
 -- a good record's answer is the same
-same-answer : (at n : ℕ) (d : Definition) (ls : List (List ℕ)) → judge (at + n) ls ≡ good → Broken ls → sequenceBy complete at n (d .name) ls ≡ sequenceBy ported at n (d .name) ls
+same-answer : (at n : ℕ) (d : Definition) (ls : List (List ℕ)) → judge (at + n) ls ≡ good → Terminated ls → sequenceBy complete at n (d .name) ls ≡ sequenceBy ported at n (d .name) ls
 unfolding sequenceBy
 same-answer at n d ls j b =
-    let s = good-same (at + n) ls j b in
+    let s = good-fits (at + n) ls j b in
     rw (s .fits, j, s .numbers)
 
 module _ (f : List ℕ) where
@@ -120,19 +120,19 @@ module _ (f : List ℕ) where
   unfolding recordBy sequenceBy
   same-record at x h = go (lines (drop at f)) refl h
     where
-      judged : (l : List ℕ) (ls : List (List ℕ)) → Broken (seqOf ls) → (d : Definition) (v : Verdict) → judge (at + length l) (seqOf ls) ≡ v → judgedBy ported at (length l) (d .name) (seqOf ls) v .answer ≡ indexed.Row x
+      judged : (l : List ℕ) (ls : List (List ℕ)) → Terminated (seqOf ls) → (d : Definition) (v : Verdict) → judge (at + length l) (seqOf ls) ≡ v → judgedBy ported at (length l) (d .name) (seqOf ls) v .answer ≡ indexed.Row x
           → sequenceBy complete at (length l) (d .name) (seqOf ls) ≡ sequenceBy ported at (length l) (d .name) (seqOf ls)
       judged l ls b d good j q = same-answer at (length l) d (seqOf ls) j b
       judged l ls b d (bad y) j q = let z : _≡_ {A = ℕ} 0 1 = cc in absurd (omega arith)
 
-      defined : (l : List ℕ) (ls : List (List ℕ)) → Broken (seqOf ls) → (p : Parsed) → definedBy ported at (length l) (seqOf ls) p .answer ≡ indexed.Row x
+      defined : (l : List ℕ) (ls : List (List ℕ)) → Terminated (seqOf ls) → (p : Parsed) → definedBy ported at (length l) (seqOf ls) p .answer ≡ indexed.Row x
           → definedBy complete at (length l) (seqOf ls) p ≡ definedBy ported at (length l) (seqOf ls) p
       defined l ls b (Named d) q = judged l ls b d (judge (at + length l) (seqOf ls)) refl q
       defined l ls b (Bad y) q = refl
 
       go : (ls : List (List ℕ)) → lines (drop at f) ≡ ls → firstBy ported at ls .answer ≡ indexed.Row x → firstBy complete at ls ≡ firstBy ported at ls
       go [] e q = refl
-      go (l ∷ ls) e q = defined l ls (lines-broken f at l ls e) (lineSays l) q
+      go (l ∷ ls) e q = defined l ls (lines-terminated f at l ls e) (lineSays l) q
 
   -- so on a file that the ported one takes to its end, both give the same
   pub agree-groups : (gs : List Group) (at : ℕ) → groups (lines (drop at f)) ≡ gs → groupsBy ported gs at .stop ≡ stop.Ended → groupsBy complete gs at ≡ groupsBy ported gs at
@@ -143,8 +143,8 @@ module _ (f : List ℕ) where
       k : FirstGroup f at g gs
       k = first-group f at g gs h
 
-      broken : Broken (g .seq)
-      broken = rw (k .sequence) at (lines-broken f at (g .def) (k .others) (k .here))
+      broken : Terminated (g .seq)
+      broken = rw (k .sequence) at (lines-terminated f at (g .def) (k .others) (k .here))
 
       Behind : Type 0
       Behind = (o : ℕ) → groups (lines (drop o f)) ≡ gs → groupsBy ported gs o .stop ≡ stop.Ended → groupsBy complete gs o ≡ groupsBy ported gs o

@@ -24,7 +24,7 @@ use Rattle.region.specs.Region.{leaves, startOf, endOf, basesTo}
 use Rattle.region.specs.Exact.{offsetsOf, exactOf, exactRead}
 use Rattle.region.specs.Dependence.{readable-given, exact-reads}
 use Rattle.fitting.specs.declared.Rule.the-variants.{Complete}
-use Rattle.fitting.specs.Fit.{complete}
+use Rattle.fitting.specs.Complete.{complete}
 use Rattle.fitting.specs.Rules.{rowsBy, rowsIn}
 use Rattle.checker.specs.Accepts.{recordAt, sequenceAt}
 use Rattle.checker.specs.Sequences.{sequence-here, sequence-inside}
