@@ -2,10 +2,8 @@
 use Prim.Native.Nat.{ℕ, _+_, _≤_, _<_}
 use mathlib.Core.Path.{_≡_, refl, _∙_}
 use mathlib.Core.List.{List}
-use mathlib.Core.Bool.{false}
 use lib.ListN.{length, getD}
 use Rattle.refusal.specs.declared.Refusal.{Refusal}
-use Rattle.refusal.specs.Numbers.{overLimit}
 use Rattle.record.specs.declared.Record.{Record}
 use Rattle.record.specs.declared.Stored.{Stored}
 use Rattle.record.specs.declared.Stored.the-variants as stored
@@ -15,8 +13,6 @@ use Rattle.table.specs.Laws.{Onward, onward-start, onward-last, onward-full, on
 use Rattle.table.specs.declared.Stop.{Stop}
 use Rattle.table.specs.declared.Stop.the-variants.{Refused}
 use Rattle.table.specs.declared.Filled.{Filled}
-use Rattle.indexer.specs.declared.Indexer.{Indexer}
-use Rattle.indexer.specs.Index.{recordAt, recordRead}
 use Rattle.byte_table.specs.Numbers.{numbersIn, restOf}
 use Rattle.byte_table.specs.Rows.{StoredIn}
 use Rattle.byte_table.specs.Fill.{FilledBytes}
@@ -65,9 +61,3 @@ filled-bytes f t a r h m = record { filled = h .filled; bytes = became-bytes t (
 -- no row at all
 pub filled-nothing : (t : List ℕ) (x : Stop) → ((i : ℕ) → getD t i 0 < 256) → FilledBytes (nothing x) t t (record { rows = 0; stop = x })
 filled-nothing t x m = record { filled = filled-none (numbersIn t) x; bytes = bytes-back t m }
-
--- ---- a file that is not too long
-
-pub record-within : (s : List ℕ) (c : Indexer) → overLimit (length s) ≡ false → recordRead s c ≡ recordAt s (c .at)
-unfolding recordRead
-record-within s c e = rw e

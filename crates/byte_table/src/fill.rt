@@ -1,35 +1,30 @@
 // A table that is lent as bytes filled with rows, from its first: those of a whole FASTA file, or of a whole index. They refuse as the
 // calls over a table of numbers do; rows before a refusal stand, and the bytes behind them stay as they were.
 use crate::rows;
+use fitting::Rule;
 use index::LineRow;
 use indexer::Indexed;
-use indexer::Indexer;
 use lines::Cursor;
 use record::Stored;
 use refusal::Refusal;
 use table::Filled;
 use table::Stop;
-ghost use mathlib.Core.Path.{_≡_};
-ghost use mathlib.Core.Bool.{false};
-ghost use lib.ListN.{length};
-ghost use Rattle.refusal.specs.Numbers.{overLimit};
 ghost use Rattle.record.specs.Row.{rowCount};
 ghost use Rattle.table.specs.Fill.{heldIn};
-ghost use Rattle.indexer.specs.File.{fileAt, fileIn};
+ghost use Rattle.fitting.specs.Rules.{rowsBy, rowsIn};
 ghost use Rattle.index.specs.Index.{indexAt, indexIn};
 ghost use Rattle.byte_table.specs.Numbers.{numbersIn};
 ghost use Rattle.byte_table.specs.Fill.{FilledBytes};
 ghost use Rattle.byte_table.specs.FillLaws.{FilledRows};
 
-// A row for each record of a file that is not too long.
-fn index_rows(file: &[u8], table: &mut [u8]) -> Filled
-    requires { ⌜ overLimit (length (now file)) ≡ false ⌝ }
-    ensures { λ r. ⌜ FilledRows (heldIn (rowCount (numbersIn (now (table .entry)))) (rowCount (numbersIn (now (table .entry)))) (fileAt (now (file .entry)) 0)) (now (table .entry)) (now (table .exit)) r ⌝ }
+// A row for each record of a file, by a rule.
+fn index_rows(file: &[u8], table: &mut [u8], rule: Rule) -> Filled
+    ensures { λ r. ⌜ FilledRows (heldIn (rowCount (numbersIn (now (table .entry)))) (rowCount (numbersIn (now (table .entry)))) (rowsBy rule (now (file .entry)) 0)) (now (table .entry)) (now (table .exit)) r ⌝ }
 {
     let mut at = 0;
     let mut n = 0;
     loop {
-        let step = Indexer { at }.index_record(file);
+        let step = fitting::index_at(file, at, rule);
         let answer = step.answer;
         match answer {
             Indexed::Row(x) => {
@@ -63,9 +58,9 @@ fn index_rows(file: &[u8], table: &mut [u8]) -> Filled
     }
 }
 
-// Indexes a whole file into a table, from its first row on.
-pub fn index_file(file: &[u8], table: &mut [u8]) -> Filled
-    ensures { λ r. ⌜ FilledBytes (fileIn (now (file .entry)) (rowCount (numbersIn (now (table .entry))))) (now (table .entry)) (now (table .exit)) r ⌝ }
+// Indexes a whole file by a rule into a table, from its first row on.
+pub fn index_file(file: &[u8], table: &mut [u8], rule: Rule) -> Filled
+    ensures { λ r. ⌜ FilledBytes (rowsIn rule (now (file .entry)) (rowCount (numbersIn (now (table .entry))))) (now (table .entry)) (now (table .exit)) r ⌝ }
 {
     if refusal::over_limit(file.len()) {
         return Filled {
@@ -73,7 +68,7 @@ pub fn index_file(file: &[u8], table: &mut [u8]) -> Filled
             stop: Stop::Refused(Refusal::TooLong),
         };
     }
-    index_rows(file, table)
+    index_rows(file, table, rule)
 }
 
 // A row for each line of an index.

@@ -1,7 +1,8 @@
 // count [WORK FILE ..]: does each work once on its file, so that the instructions it takes can be counted as the difference of two
-// runs (tools/instruction-goals). A work is `index`, `check`, with the index on standard input, or `reverse`, the reverse complement of
-// the whole file. It writes a line for each, as `index 1`, the count of rows, `check 0`, or `reverse 60`, the count of bytes, and then
-// those bytes: a buffer that nobody reads, the compiler would not write. Where it is refused, `refused 24 3 45`. A file, or an index, has at most 65,536 bytes; what is behind them is not read.
+// runs (tools/instruction-goals). A work is `index`, by the ported rule, `fit`, by the complete one, `check`, with the index on standard
+// input, or `reverse`, the reverse complement of the whole file. It writes a line for each, as `index 1` or `fit 1`, the count of rows,
+// `check 0`, or `reverse 60`, the count of bytes, and then those bytes: a buffer that nobody reads, the compiler would not write. Where
+// it is refused, `refused 24 3 45`. A file, or an index, has at most 65,536 bytes; what is behind them is not read.
 ghost use Prim.Native.Nat.{_≤_};
 use checker::Verdict;
 use complement::Complemented;
@@ -34,24 +35,13 @@ fn say_refused(why: Refusal) {
     io::write_all(STDOUT_FILENO, b"\n");
 }
 
-// Indexes a file.
-fn index(fasta: &[u8]) {
+// Indexes a file by a rule.
+fn index(work: &[u8], fasta: &[u8], rule: Rule) {
     let mut table = [0u64; 6144];
-    let told = indexer::index_file(fasta, &mut table);
+    let told = fitting::index_file(fasta, &mut table, rule);
     let stop = told.stop;
     match stop {
-        Stop::Ended => say(b"index", told.rows),
-        Stop::Refused(why) => say_refused(why),
-    }
-}
-
-// Indexes a file by the complete rule.
-fn fit(fasta: &[u8]) {
-    let mut table = [0u64; 6144];
-    let told = fitting::index_file(fasta, &mut table, Rule::Complete);
-    let stop = told.stop;
-    match stop {
-        Stop::Ended => say(b"fit", told.rows),
+        Stop::Ended => say(work, told.rows),
         Stop::Refused(why) => say_refused(why),
     }
 }
@@ -94,8 +84,8 @@ fn reverse(bases: &[u8]) {
 // Does the work whose name has this first letter.
 fn work(letter: u8, file: &[u8]) {
     match letter {
-        b'i' => index(file),
-        b'f' => fit(file),
+        b'i' => index(b"index", file, Rule::Strict),
+        b'f' => index(b"fit", file, Rule::Complete),
         b'c' => check_input(file),
         b'r' => reverse(file),
         _ => {}

@@ -23,7 +23,7 @@ Check file index a = a ≡ verdictAnswer (checkOf file index)
 abbrev pub ReadIndex : List ℕ → List ℕ → Answer → List ℕ → Type 0
 ReadIndex index table a table′ = tells a table′ ≡ filledTold (indexIn index (rowCount (numbersIn table))) table
 
--- wakeluri_index_file(file, table), by the ported rule or by the complete one
+-- wakeluri_index_file(file, table), by the ported rule, and wakeluri_index_complete(file, table), by the complete one
 abbrev pub IndexFile : Rule → List ℕ → List ℕ → Answer → List ℕ → Type 0
 IndexFile rule file table a table′ = tells a table′ ≡ filledTold (rowsIn rule file (rowCount (numbersIn table))) table
 

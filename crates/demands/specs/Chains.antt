@@ -12,15 +12,15 @@ use Rattle.table.specs.Fill.{Found}
 use Rattle.index_line.specs.Fields.{frontWritten}
 use Rattle.index.specs.Index.{indexIn}
 use Rattle.fitting.specs.declared.Rule.{Rule}
-use Rattle.fitting.specs.Rules.{rowsIn}
+use Rattle.fitting.specs.Rules.{ruleOf, rowsIn}
 use Rattle.checker.specs.Accepts.{limit, Accepts}
 use Rattle.byte_table.specs.Numbers.{numbersIn}
 use Rattle.wakeluri.specs.declared.answer.Answer.{Answer}
 use Rattle.wakeluri.specs.Told.{tells, writtenTold}
-use Rattle.mission.specs.IndexedLaws.{Along}
+use Rattle.mission.specs.IndexedLaws.{Along, taken}
 use Rattle.mission.specs.Leading.{lineIn, rowIn, LeadsTo, indexText, leading-accepted}
 use Rattle.mission.specs.TableOf.{recordCount, Gives, TableOf}
-use Rattle.mission.specs.TableLaws.{accepted-gives, taken-by}
+use Rattle.mission.specs.TableLaws.{accepted-gives}
 use Rattle.mission.specs.Tables.{indexed-gives, indexed-leads}
 use Rattle.demands.specs.Calls.{ReadIndex, IndexFile, WriteIndexLine}
 use Rattle.demands.specs.Host.{AreBytes, Filled, LineNeeds, joined}
@@ -72,7 +72,7 @@ module _ (rule : Rule) (file table table′ : List ℕ) (filled : Answer) (bytes
       }
 
   leads : Along (LeadsTo file) 0 (groups (lines file)) (fileRows rule file table .rows) (fileRows rule file table .stop)
-  leads = rw (taken-by rule file (size table) (found .stop) .whole) (indexed-leads rule file)
+  leads = rw (taken (ruleOf rule) file (size table) (found .stop) .whole) (indexed-leads rule file)
 
   -- and the line of each row is written
   abbrev line : ℕ → List ℕ

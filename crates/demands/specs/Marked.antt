@@ -23,8 +23,9 @@ use Rattle.index_line.specs.Decimal.{allDigits, valueFrom, numberFrom, digitsOf
 use Rattle.index_line.specs.Fields.{cutAt, fieldSays, numbersFrom, tabbed, textOf, frontWritten, textWritten}
 use Rattle.index_line.specs.IndexLine.{fieldsOf, plainEnd, nameOf, nameIn, writtenAs}
 use Rattle.index_line.specs.IndexLine as index
-use Rattle.indexer.specs.Index.{fitsLast, restOf, judge, sequenceSays}
-use Rattle.indexer.specs.File.{fileOf, fileAt, fileIn}
+use Rattle.indexer.specs.Rule.{sequenceBy, groupsBy, fileBy, callBy}
+use Rattle.indexer.specs.Index.{fitsLast, restOf, judge}
+use Rattle.indexer.specs.File.{fileIn}
 use Rattle.region.specs.Region.{refuses, gives, isZero, crossed, badBounds, boundedRow, startOf, endOf}
 use Rattle.region.specs.Exact.{inFile, pastLength, bytesAt, basesFrom, regionOf, exactIn, exactOf, exactRead}
 use Rattle.region.specs.Raw.{scanTo, pours, rawAt, rawIn, rawOf, rawRead}
@@ -130,5 +131,5 @@ answers =
     ∷ []
 
 pub marked : asked ≡ answers
-unfolding asked answers joined numbersOf overLimit lines chop ends contentOf seqOf sumBases sumWidths upFrom basesAt groups sameBytes partner firstOr faults reverseComplementOf sized complementIs outputOf isSpace run keep refusalOf definition.contentSays definition.lineSays placeOf placesFrom offsetOf hasPlace addressOf wordsOf words rowCount rowAt soundRow heldAt namedIn namedAt endsLine skipped scanFrom scanAt scanAll heldIn firstWhere allDigits valueFrom numberFrom digitsOf numberOf plainNumber digits widthFrom width decimalOf cutAt fieldSays numbersFrom tabbed textOf frontWritten textWritten fieldsOf plainEnd nameOf nameIn writtenAs index.contentSays index.lineSays fitsLast restOf judge sequenceSays fileOf fileAt fileIn refuses gives isZero crossed badBounds boundedRow startOf endOf inFile pastLength bytesAt basesFrom regionOf exactIn exactOf exactRead scanTo pours rawAt rawIn rawOf rawRead firstElsewhere checker.sequenceSays entrySays againstLines recordSays recordsSay checkOf fromBytes toBytes firstNumbers numbersIn rest bytesOf withNumbers boundOf regionAnswer writtenAnswer complementAnswer filledAnswer verdictAnswer regionTold writtenTold complementTold filledTold
+unfolding asked answers joined numbersOf overLimit lines chop ends contentOf seqOf sumBases sumWidths upFrom basesAt groups sameBytes partner firstOr faults reverseComplementOf sized complementIs outputOf isSpace run keep refusalOf definition.contentSays definition.lineSays placeOf placesFrom offsetOf hasPlace addressOf wordsOf words rowCount rowAt soundRow heldAt namedIn namedAt endsLine skipped scanFrom scanAt scanAll heldIn firstWhere allDigits valueFrom numberFrom digitsOf numberOf plainNumber digits widthFrom width decimalOf cutAt fieldSays numbersFrom tabbed textOf frontWritten textWritten fieldsOf plainEnd nameOf nameIn writtenAs index.contentSays index.lineSays fitsLast restOf judge sequenceBy groupsBy fileBy callBy refuses gives isZero crossed badBounds boundedRow startOf endOf inFile pastLength bytesAt basesFrom regionOf exactIn exactOf exactRead scanTo pours rawAt rawIn rawOf rawRead firstElsewhere checker.sequenceSays entrySays againstLines recordSays recordsSay checkOf fromBytes toBytes firstNumbers numbersIn rest bytesOf withNumbers boundOf regionAnswer writtenAnswer complementAnswer filledAnswer verdictAnswer regionTold writtenTold complementTold filledTold
 marked = refl

@@ -3,7 +3,7 @@
 use wakeluri::answer::Answer;
 use wakeluri::files;
 use wakeluri::rows;
-ghost use Rattle.fitting.specs.declared.Rule.the-variants.{Strict};
+ghost use Rattle.fitting.specs.declared.Rule.the-variants.{Strict, Complete};
 ghost use Rattle.demands.specs.Calls.{Check, ReadIndex, IndexFile, WriteIndexLine, ReadExact};
 
 fn check(file: &[u8], index: &[u8]) -> Answer
@@ -22,6 +22,12 @@ fn index_file(file: &[u8], table: &mut [u8]) -> Answer
     ensures { λ a. ⌜ IndexFile Strict (now (file .entry)) (now (table .entry)) a (now (table .exit)) ⌝ }
 {
     files::wakeluri_index_file(file, table)
+}
+
+fn index_complete(file: &[u8], table: &mut [u8]) -> Answer
+    ensures { λ a. ⌜ IndexFile Complete (now (file .entry)) (now (table .entry)) a (now (table .exit)) ⌝ }
+{
+    files::wakeluri_index_complete(file, table)
 }
 
 fn write_index_line(names: &[u8], table: &[u8], in_use: u64, row: u64, out: &mut [u8]) -> Answer

@@ -1,6 +1,7 @@
 // faidx [FILE ..]: writes the index of FASTA, of at most 65,536 bytes and 1,024 records, to standard output: a line for each record,
 // and for a refusal one line, as `refused 6 0 4`, behind those of the records before it. Longer input gives only `refused 1 0 0`.
 // It reads standard input, or each file named, of which `-` is standard input.
+use fitting::Rule;
 use index_line::Written;
 use libc::STDIN_FILENO;
 use libc::STDOUT_FILENO;
@@ -48,7 +49,7 @@ fn say_rows(names: &[u8], table: &[u64], rows: usize, line: &mut [u8]) {
 
 // Writes the index of some FASTA, whose rows are put in `table`, and whose lines are made in `line`.
 fn say_index(fasta: &[u8], table: &mut [u64], line: &mut [u8]) {
-    let told = indexer::index_file(fasta, table);
+    let told = fitting::index_file(fasta, table, Rule::Strict);
     say_rows(fasta, table, told.rows, line);
     let stop = told.stop;
     match stop {

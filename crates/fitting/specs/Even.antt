@@ -8,10 +8,10 @@ use native.Mathlib.Omega.{arith}
 use Rattle.lines.specs.Lines.{basesOf, firstLine, sumBases, basesAt}
 use Rattle.record.specs.EvenLines.{EvenLines, length-basesAt, even-place}
 use Rattle.record.specs.EvenLines.EvenLines.{none as no-more, last as last-line, more as line-more}
-use Rattle.indexer.specs.Index.{good}
-use Rattle.fitting.specs.Fit.{distance, fromBases, numbersAt, fit}
+use Rattle.indexer.specs.Rule.{good}
+use Rattle.fitting.specs.Complete.{distance, fromBases, numbersAt, fit}
 use Rattle.fitting.specs.Leads.{place-zero, leads-good}
-use Rattle.fitting.specs.FirstLine.{Broken, numbers-line}
+use Rattle.fitting.specs.FirstLine.{Terminated, numbers-line}
 
 module _ (start : ℕ) where
   -- lines without a base have no offsets
@@ -34,7 +34,7 @@ module _ (start : ℕ) where
           let v : getD (basesAt (start + w) ls) 0 0 ≡ o = rw q in
           omega (arith, k, v)
 
-  even-numbers : (l : List ℕ) (ls : List (List ℕ)) → EvenLines (length (basesOf l)) (length l) (l ∷ ls) → 0 < length (basesOf l) → Broken (l ∷ ls)
+  even-numbers : (l : List ℕ) (ls : List (List ℕ)) → EvenLines (length (basesOf l)) (length l) (l ∷ ls) → 0 < length (basesOf l) → Terminated (l ∷ ls)
       → numbersAt start (l ∷ ls) ≡ record { position = start; bases = length (basesOf l); width = length l }
   unfolding numbersAt fromBases distance sumBases
   even-numbers l ls e z b =
@@ -46,12 +46,13 @@ module _ (start : ℕ) where
       behind (last-line p q) = rw (no-offsets (start + length l) ls q)
       behind (line-more p q r) = next-line (length (basesOf l)) (length l) ls z r
 
-  pub record Same (ls : List (List ℕ)) : Type 0 where
+  -- the numbers are those of the first line, and lead to every base
+  pub record FirstLineFits (ls : List (List ℕ)) : Type 0 where
     pub numbers : numbersAt start ls ≡ record { position = start; bases = firstLine ls .bases; width = firstLine ls .width }
     pub fits : fit start ls ≡ good
 
-  pub even-same : (l : List ℕ) (ls : List (List ℕ)) → EvenLines (length (basesOf l)) (length l) (l ∷ ls) → 0 < length (basesOf l) → Broken (l ∷ ls) → Same (l ∷ ls)
+  pub even-fits : (l : List ℕ) (ls : List (List ℕ)) → EvenLines (length (basesOf l)) (length l) (l ∷ ls) → 0 < length (basesOf l) → Terminated (l ∷ ls) → FirstLineFits (l ∷ ls)
   unfolding fit
-  even-same l ls e z b =
+  even-fits l ls e z b =
       let n = even-numbers l ls e z b in
       record { numbers = n; fits = rw n (leads-good _ (basesAt start (l ∷ ls)) (λ j m. even-place (length (basesOf l)) (length l) z start (l ∷ ls) e j m)) }

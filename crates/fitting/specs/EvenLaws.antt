@@ -15,18 +15,19 @@ use Rattle.record.specs.EvenLines.{EvenLines, length-basesAt}
 use Rattle.record.specs.EvenLines.EvenLines.{none as no-more, last as last-line, more as line-more}
 use Rattle.indexer.specs.declared.Indexed.the-variants as indexed
 use Rattle.indexer.specs.Laws.{like-room}
-use Rattle.fitting.specs.declared.Based.{Based}
+use Rattle.fitting.specs.declared.LineAt.{LineAt}
 use Rattle.fitting.specs.declared.Even.{Even}
 use Rattle.fitting.specs.declared.Even.the-variants.{Lines, Not}
-use Rattle.fitting.specs.Fit.{sequenceSays}
-use Rattle.fitting.specs.FirstLine.{broken-here}
-use Rattle.fitting.specs.Even.{Same, even-same}
-use Rattle.fitting.specs.Lay.{BasedAt, no-bases, no-lines}
+use Rattle.indexer.specs.Rule.{sequenceBy}
+use Rattle.fitting.specs.Complete.{complete}
+use Rattle.fitting.specs.FirstLine.{terminated-here}
+use Rattle.fitting.specs.Even.{FirstLineFits, even-fits}
+use Rattle.fitting.specs.BlankLines.{PastBlank, no-bases, no-lines}
 
 -- what is said of the sequence from an offset on: its lines are even, it has so many bases, and it ends there; or nothing
-pub data EvenSaid (s : List ℕ) (at : ℕ) : Even → Type 0 where
-  even : {n e : ℕ} → Same at (seqAt s at) → n ≡ sumBases (seqAt s at) → e ≡ at + sumWidths (seqAt s at) → EvenSaid s at (Lines n e)
-  nothing : EvenSaid s at Not
+pub data EvenLinesAt (s : List ℕ) (at : ℕ) : Even → Type 0 where
+  even : {n e : ℕ} → FirstLineFits at (seqAt s at) → n ≡ sumBases (seqAt s at) → e ≡ at + sumWidths (seqAt s at) → EvenLinesAt s at (Lines n e)
+  nothing : EvenLinesAt s at Not
 
 -- ---- the lines like the first
 
@@ -64,7 +65,7 @@ module _ (s : List ℕ) (at : ℕ) (h : at ≤ length s) (x : Line) (hx : x ≡ 
       pub last-fits : (at + x .width + k * x .width + y .width ≤ length s) × (y .bases ≤ y .width)
       last-fits = rw hy (first-within s (at + x .width + k * x .width) (like-fits .0), bases-le (seqAt s (at + x .width + k * x .width)))
 
-      module _ (z : x .bases ≡ 0 → ⊥) (short : y .bases ≤ x .bases) (r : Based) (hr : BasedAt s (at + x .width + k * x .width + y .width) r) (blank : r .line .bases ≡ 0) where
+      module _ (z : x .bases ≡ 0 → ⊥) (short : y .bases ≤ x .bases) (r : LineAt) (hr : PastBlank s (at + x .width + k * x .width + y .width) r) (blank : r .line .bases ≡ 0) where
         -- no base is behind the last of them
         none-behind : sumBases (seqAt s (at + x .width + k * x .width + y .width)) ≡ 0
         none-behind =
@@ -105,14 +106,14 @@ module _ (s : List ℕ) (at : ℕ) (h : at ≤ length s) (x : Line) (hx : x ≡ 
         onto : Onto s x (at + x .width) k (at + x .width + k * x .width)
         onto = rw hk (onto-all s x (at + x .width) (first-fits .0))
 
-        pub even-said : EvenSaid s at (Lines (x .bases + k * x .bases + y .bases) (r .at))
+        pub even-said : EvenLinesAt s at (Lines (x .bases + k * x .bases + y .bases) (r .at))
         unfolding sumBases sumWidths
         even-said = go (seqAt s at) refl hx
           where
             next : seqAt s (at + x .width) ≡ tailOf (seqAt s at)
             next = rw hx (seqAt-next s at h)
 
-            go : (ls : List (List ℕ)) → seqAt s at ≡ ls → x ≡ firstLine ls → EvenSaid s at (Lines (x .bases + k * x .bases + y .bases) (r .at))
+            go : (ls : List (List ℕ)) → seqAt s at ≡ ls → x ≡ firstLine ls → EvenLinesAt s at (Lines (x .bases + k * x .bases + y .bases) (r .at))
             go [] e q = absurd (z (ap (λ (l : Line). l .bases) q))
             go (l ∷ ls) e q =
                 let b : length (basesOf l) ≡ x .bases = sym (ap (λ (v : Line). v .bases) q) in
@@ -121,14 +122,14 @@ module _ (s : List ℕ) (at : ℕ) (h : at ≤ length s) (x : Line) (hx : x ≡ 
                 let c : EvenLines (x .bases) (x .width) ls = rw t at (onto .even (left .even)) in
                 let d : EvenLines (length (basesOf l)) (length l) ls = rw (b, w) c in
                 let u : EvenLines (length (basesOf l)) (length l) (l ∷ ls) = line-more refl refl d in
-                let v : Same at (l ∷ ls) = even-same at l ls u (omega (arith, b, z)) (rw e at (broken-here s at h)) in
+                let v : FirstLineFits at (l ∷ ls) = even-fits at l ls u (omega (arith, b, z)) (rw e at (terminated-here s at h)) in
                 let n : x .bases + k * x .bases + y .bases ≡ sumBases (seqAt s at) = rw e (omega (arith, b, rw t at (onto .bases), left .bases)) in
                 let j : r .at ≡ at + sumWidths (seqAt s at) = rw e (omega (arith, w, rw t at (onto .widths), left .widths)) in
                 even (rw e v) n j
 
 -- ---- a record whose lines are even, by its first line x
 
-pub even-record : (s : List ℕ) (at e : ℕ) (name : Span) → at ≤ e → (x : Line) → x ≡ firstLine (seqAt s e) → (n j : ℕ) → EvenSaid s e (Lines n j)
+pub even-record : (s : List ℕ) (at e : ℕ) (name : Span) → at ≤ e → (x : Line) → x ≡ firstLine (seqAt s e) → (n j : ℕ) → EvenLinesAt s e (Lines n j)
     → record {
       answer = indexed.Row (record {
         «name_start» = at + name .start;
@@ -140,8 +141,8 @@ pub even-record : (s : List ℕ) (at e : ℕ) (name : Span) → at ≤ e → (x 
       });
       next = record { at = j };
     }
-    ≡ sequenceSays at (e - at) name (seqAt s e)
-unfolding sequenceSays
+    ≡ sequenceBy complete at (e - at) name (seqAt s e)
+unfolding sequenceBy
 even-record s at e name le x hx n j (even same hn hj) =
     let split : at + (e - at) ≡ e = omega arith in
     rw (split, same .fits, hn, hj, hx) (rw (split, same .numbers))

@@ -11,20 +11,20 @@ use Rattle.lines.specs.Lines.{chop, ends, basesOf, seqAt, none, firstLine, tail
 use Rattle.lines.specs.Laws.{chop-le, ends-chop, seqAt-next}
 use Rattle.lines.specs.Alike.{isLike, firstLike, unlike-last}
 use Rattle.record.specs.EvenLines.{length-upFrom}
-use Rattle.fitting.specs.Fit.{besides, distance, numbersOf}
+use Rattle.fitting.specs.Complete.{besides, distance, numbersOf}
 use Rattle.fitting.specs.Sound.{bases-inside}
 
 -- ---- a line without a byte behind its bases is the last
 
--- has a line a byte behind its bases, if another follows
-abbrev pub Broken : List (List ℕ) → Type 0
-Broken ls = none (tailOf ls) ≡ false → firstLine ls .bases < firstLine ls .width
+-- the first line has a byte behind its bases, if another follows
+abbrev pub Terminated : List (List ℕ) → Type 0
+Terminated ls = none (tailOf ls) ≡ false → firstLine ls .bases < firstLine ls .width
 
-pub broken-here : (s : List ℕ) (at : ℕ) → at ≤ length s → Broken (seqAt s at)
+pub terminated-here : (s : List ℕ) (at : ℕ) → at ≤ length s → Terminated (seqAt s at)
 unfolding firstLike isLike
-broken-here s at h = go (seqAt s at) refl
+terminated-here s at h = go (seqAt s at) refl
   where
-    go : (ls : List (List ℕ)) → seqAt s at ≡ ls → Broken ls
+    go : (ls : List (List ℕ)) → seqAt s at ≡ ls → Terminated ls
     go [] e = λ n. absurd (true≢false n)
     go (l ∷ ls) e = λ n. ended (ends 10 l) refl n
       where

@@ -1,25 +1,23 @@
--- Laws of one record: its numbers and the walk over its lines, and its definition.
-use Prim.Native.Nat.{ℕ, _+_, _-_, _≤_, _<_}
+-- Laws of one record by the complete rule: its numbers, and the walk over its lines.
+use Prim.Native.Nat.{ℕ, _+_, _-_, _≤_}
 use mathlib.Core.Path.{_≡_, ap, sym, _∙_}
 use mathlib.Core.List.{List}
-use lib.ListN.{length, drop-of-length-le}
+use lib.ListN.{length}
 use native.Mathlib.Omega.{arith}
 use Rattle.refusal.specs.declared.Refusal.the-variants.{NoIndexFits}
 use Rattle.lines.specs.declared.Span.{Span}
-use Rattle.lines.specs.Lines.{part, lineEnd, lines, seqAt, sumBases, sumWidths}
-use Rattle.lines.specs.Laws.{linesAt-cut, lineEnd-le, part-length}
-use Rattle.definition.specs.declared.Parsed.{Parsed}
-use Rattle.definition.specs.Definition.{lineSays}
+use Rattle.lines.specs.Lines.{seqAt, sumBases, sumWidths}
 use Rattle.record.specs.EvenLines.{length-basesAt}
 use Rattle.record.specs.declared.Position.{Position}
 use Rattle.record.specs.declared.Offset.{Offset}
 use Rattle.indexer.specs.declared.Indexed.the-variants as indexed
+use Rattle.indexer.specs.Rule.{sequenceBy}
 use Rattle.walking.specs.Places.{walkedAs}
 use Rattle.walking.specs.declared.Placed.the-variants.{There, Elsewhere}
 use Rattle.walking.specs.declared.Walked.{Walked}
 use Rattle.fitting.specs.declared.Numbers.{Numbers}
-use Rattle.fitting.specs.Fit.{placeBy, placesSay, fit, sequenceSays, definedAs, fittedAt}
-use Rattle.fitting.specs.Lay.{NumbersAt}
+use Rattle.fitting.specs.Complete.{placeBy, placesSay, fit, complete}
+use Rattle.fitting.specs.BlankLines.{NumbersAt}
 
 -- ---- a record whose definition line has been read, by its numbers r and the walk v from their position on
 
@@ -52,25 +50,11 @@ module _ (s : List ℕ) (at e : ℕ) (name : Span) (le : at ≤ e) (r : Numbers)
           });
           next = record { at = v .next };
         }
-        ≡ sequenceSays at (e - at) name (seqAt s e)
-    unfolding sequenceSays
+        ≡ sequenceBy complete at (e - at) name (seqAt s e)
+    unfolding sequenceBy
     fit-there t = rw (split, verdict, t, same-bases, same-next, n .numbers, split)
 
     pub fit-elsewhere : (p : Position) (o : Offset) → v .placed ≡ Elsewhere p o
-        → record { answer = indexed.Refused (NoIndexFits (o .0) (p .0)); next = record { at = at } } ≡ sequenceSays at (e - at) name (seqAt s e)
-    unfolding sequenceSays
+        → record { answer = indexed.Refused (NoIndexFits (o .0) (p .0)); next = record { at = at } } ≡ sequenceBy complete at (e - at) name (seqAt s e)
+    unfolding sequenceBy
     fit-elsewhere p o t = rw (split, verdict, t)
-
--- ---- the record at an offset
-
-module _ (s : List ℕ) (at : ℕ) where
-  pub record-end : length s ≤ at → record { answer = indexed.End; next = record { at = at } } ≡ fittedAt s at
-  unfolding fittedAt lines
-  record-end h = rw (drop-of-length-le s h)
-
-  -- the definition line, by what it says
-  pub record-here : (e : ℕ) (d v : Parsed) → at < length s → e ≡ lineEnd s at → d ≡ lineSays (part s at e) → d ≡ v
-      → definedAs at (e - at) (seqAt s e) v ≡ fittedAt s at
-  unfolding fittedAt seqAt
-  record-here e d v h he hd hv =
-      rw (← hv, hd, he) (rw (linesAt-cut s at h, part-length s at (lineEnd s at) (lineEnd-le s at (omega arith))))

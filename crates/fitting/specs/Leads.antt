@@ -17,12 +17,12 @@ use Rattle.record.specs.Laws.{place-first, place-row, place-line}
 use Rattle.refusal.specs.declared.Refusal.{Refusal}
 use Rattle.refusal.specs.declared.Refusal.the-variants.{NoIndexFits}
 use Rattle.lines.specs.Lines.{basesAt}
-use Rattle.indexer.specs.Index.{good, bad}
+use Rattle.indexer.specs.Rule.{good, bad}
 use Rattle.walking.specs.Places.{firstElsewhere}
 use Rattle.walking.specs.PlaceLaws.{PlacesSaid, all-there, places-said}
 use Rattle.walking.specs.PlaceLaws.PlacesSaid.{all, one}
 use Rattle.walking.specs.declared.Placed.{Placed}
-use Rattle.fitting.specs.Fit.{besides, distance, numbersOf, numbersAt, placeBy, placesSay, fit}
+use Rattle.fitting.specs.Complete.{besides, distance, numbersOf, numbersAt, placeBy, placesSay, fit}
 use Rattle.fitting.specs.declared.Numbers.{Numbers}
 
 -- numbers lead to the first m of bases at some offsets

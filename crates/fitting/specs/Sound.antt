@@ -14,7 +14,7 @@ use Rattle.lines.specs.Laws.{chop-le}
 use Rattle.lines.specs.Sums.{sum-le}
 use Rattle.record.specs.EvenLines.{length-upFrom, getD-upFrom, length-basesAt}
 use Rattle.fitting.specs.declared.Numbers.{Numbers}
-use Rattle.fitting.specs.Fit.{besides, distance, numbersOf, fromBases, numbersAt}
+use Rattle.fitting.specs.Complete.{besides, distance, numbersOf, fromBases, numbersAt}
 use Rattle.fitting.specs.Leads.{beside-le}
 
 -- ---- where the bases of some lines lie

@@ -21,10 +21,11 @@ ghost use lib.ListN.{length};
 ghost use Rattle.lines.specs.Lines.{firstLine, seqAt};
 ghost use Rattle.record.specs.Row.{rowCount};
 ghost use Rattle.table.specs.Fill.{FilledAs, heldIn};
-ghost use Rattle.fitting.specs.Fit.{sequenceSays, fittedAt};
+ghost use Rattle.indexer.specs.Rule.{sequenceBy, recordBy};
+ghost use Rattle.fitting.specs.Complete.{complete};
 ghost use Rattle.fitting.specs.Rules.{stepBy, rowsBy, rowsIn};
-ghost use Rattle.fitting.specs.Lay.{BasedAt, NumbersAt};
-ghost use Rattle.fitting.specs.EvenLaws.{EvenSaid};
+ghost use Rattle.fitting.specs.BlankLines.{PastBlank, NumbersAt};
+ghost use Rattle.fitting.specs.EvenLaws.{EvenLinesAt};
 
 // Position, line bases and line width.
 pub struct Numbers {
@@ -33,25 +34,25 @@ pub struct Numbers {
     pub width: usize,
 }
 
-// A place of a sequence, and the line there; 0 and 0 where there is none.
-struct Based {
+// A place of a sequence, and the line there; width and bases are 0 where there is none.
+struct LineAt {
     at: usize,
     line: Line,
 }
 
 // The first line from `at` on that has a base; where there is none, where the sequence ends.
-fn first_based(s: &[u8], at: usize) -> Based
+fn past_blank_lines(s: &[u8], at: usize) -> LineAt
     requires { ⌜ at ≤ length (now s) ⌝ }
-    ensures { λ r. ⌜ BasedAt (now (s .entry)) at r ⌝ }
+    ensures { λ r. ⌜ PastBlank (now (s .entry)) at r ⌝ }
 {
     let mut i = at;
     loop {
         let line = lines::sequence_line(s, i);
         if line.bases != 0 {
-            return Based { at: i, line };
+            return LineAt { at: i, line };
         }
         if line.width == 0 {
-            return Based { at: i, line };
+            return LineAt { at: i, line };
         }
         i += line.width;
     }
@@ -67,7 +68,7 @@ enum Even {
 // may follow, and then blank lines.
 fn even_lines(s: &[u8], at: usize, first: Line) -> Even
     requires { ⌜ (at ≤ length (now s)) × (first ≡ firstLine (seqAt (now s) at)) ⌝ }
-    ensures { λ r. ⌜ EvenSaid (now (s .entry)) at r ⌝ }
+    ensures { λ r. ⌜ EvenLinesAt (now (s .entry)) at r ⌝ }
 {
     if first.bases == 0 {
         return Even::Not;
@@ -80,9 +81,9 @@ fn even_lines(s: &[u8], at: usize, first: Line) -> Even
     if first.bases < last.bases {
         return Even::Not;
     }
-    let behind = first_based(s, i + last.width);
-    let line = behind.line;
-    if line.bases != 0 {
+    let behind = past_blank_lines(s, i + last.width);
+    let after = behind.line;
+    if after.bases != 0 {
         return Even::Not;
     }
     Even::Lines {
@@ -96,7 +97,7 @@ fn numbers_at(s: &[u8], at: usize) -> Numbers
     requires { ⌜ at ≤ length (now s) ⌝ }
     ensures { λ r. ⌜ NumbersAt (now (s .entry)) at r ⌝ }
 {
-    let first = first_based(s, at);
+    let first = past_blank_lines(s, at);
     let line = first.line;
     if line.bases == 0 {
         return Numbers {
@@ -105,7 +106,7 @@ fn numbers_at(s: &[u8], at: usize) -> Numbers
             width: 2,
         };
     }
-    let next = first_based(s, first.at + line.width);
+    let next = past_blank_lines(s, first.at + line.width);
     let behind = next.line;
     if behind.bases == 0 {
         return Numbers {
@@ -124,7 +125,7 @@ fn numbers_at(s: &[u8], at: usize) -> Numbers
 // The record at `at`, whose definition line ends at `e` and gives a name, whatever its lines.
 fn fit_lines(s: &[u8], at: usize, e: usize, name: Span) -> Step
     requires { ⌜ (at < e) × (e ≤ length (now s)) × (name .start ≤ e - at) ⌝ }
-    ensures { λ r. ⌜ r ≡ sequenceSays at (e - at) name (seqAt (now (s .entry)) e) ⌝ }
+    ensures { λ r. ⌜ r ≡ sequenceBy complete at (e - at) name (seqAt (now (s .entry)) e) ⌝ }
 {
     let n = numbers_at(s, e);
     let p = n.position;
@@ -157,7 +158,7 @@ fn fit_lines(s: &[u8], at: usize, e: usize, name: Span) -> Step
 // The record at `at`, whose definition line ends at `e` and gives a name.
 fn fit_sequence(s: &[u8], at: usize, e: usize, name: Span) -> Step
     requires { ⌜ (at < e) × (e ≤ length (now s)) × (name .start ≤ e - at) ⌝ }
-    ensures { λ r. ⌜ r ≡ sequenceSays at (e - at) name (seqAt (now (s .entry)) e) ⌝ }
+    ensures { λ r. ⌜ r ≡ sequenceBy complete at (e - at) name (seqAt (now (s .entry)) e) ⌝ }
 {
     let first = lines::sequence_line(s, e);
     let found = even_lines(s, e, first);
@@ -180,7 +181,7 @@ fn fit_sequence(s: &[u8], at: usize, e: usize, name: Span) -> Step
 
 // The record at `at`.
 fn fit_at(s: &[u8], at: usize) -> Step
-    ensures { λ r. ⌜ r ≡ fittedAt (now (s .entry)) at ⌝ }
+    ensures { λ r. ⌜ r ≡ recordBy complete (now (s .entry)) at ⌝ }
 {
     if s.len() <= at {
         return Step {
@@ -208,8 +209,8 @@ pub enum Rule {
     Complete,
 }
 
-// The record at `at`, by a rule.
-fn step_at(s: &[u8], at: usize, rule: Rule) -> Step
+// Indexes the record at `at` of a file that is not too long, by a rule.
+pub fn index_at(s: &[u8], at: usize, rule: Rule) -> Step
     ensures { λ r. ⌜ r ≡ stepBy rule (now (s .entry)) at ⌝ }
 {
     match rule {
@@ -225,7 +226,7 @@ fn index_rows(s: &[u8], table: &mut [u64], rule: Rule) -> Filled
     let mut at = 0;
     let mut n = 0;
     loop {
-        let step = step_at(s, at, rule);
+        let step = index_at(s, at, rule);
         let answer = step.answer;
         match answer {
             Indexed::Row(x) => {

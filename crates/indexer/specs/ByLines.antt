@@ -27,8 +27,9 @@ use Rattle.table.specs.Laws.{held-nothing, held-none, held-first}
 use Rattle.indexer.specs.declared.Indexed.the-variants as indexed
 use Rattle.indexer.specs.declared.Step.{Step}
 use Rattle.indexer.specs.declared.Rest.{Rest}
-use Rattle.indexer.specs.Index.{lineOf, fitsLast, restOf, sequenceSays, definedAs, restSays}
-use Rattle.indexer.specs.File.{stepped, fileOf, fileAt}
+use Rattle.indexer.specs.Rule.{definedBy, stepped, groupsBy, fileBy}
+use Rattle.indexer.specs.Index.{lineOf, fitsLast, restOf, ported, sequenceSays, restSays}
+use Rattle.indexer.specs.File.{fileOf, fileAt}
 use Rattle.indexer.specs.Laws.{rest-done, rest-bases, rest-width, rest-on, answerAs, judge-none, judge-some}
 
 -- ---- the machine
@@ -211,11 +212,11 @@ module _ (all : ℕ) where
 
   module _ (l : List ℕ) (ls : List (List ℕ)) (ih : (c : Phase) → Claim ls c) where
     definition-step : (at : ℕ) → Claim (l ∷ ls) (wants-definition at)
-    unfolding Claim judgeAll fileOf definitionOut
+    unfolding Claim judgeAll groupsBy definitionOut
     definition-step at f rs = rw (groups-cut l ls) (go (lineSays l) (none (seqOf ls)) refl)
       where
         go : (p : Parsed) (t : Bool) → none (seqOf ls) ≡ t
-            → found (run (applied all f rs (definitionOut at (length l) t p)) ls) ≡ plus rs (heldIn f all (stepped (definedAs at (length l) (seqOf ls) p) (fileOf (groups (afterSeq ls)))))
+            → found (run (applied all f rs (definitionOut at (length l) t p)) ls) ≡ plus rs (heldIn f all (stepped (definedBy ported at (length l) (seqOf ls) p) (fileOf (groups (afterSeq ls)))))
         go (Named d) true e =
             refused-step (Refused (NoBases (at + length l))) f rs ls
             ∙ same-step rs f (fileOf (groups (afterSeq ls))) (rw (add-zero (at + length l)) at (judge-none at (length l) (d .name) [] refl) ∙ ap (sequenceSays at (length l) (d .name)) (sym (none-seq ls e)))
@@ -267,7 +268,7 @@ module _ (all : ℕ) where
             ∙ said (rest-on x m z (l ∷ seqOf ls) p (eqb-true _ _ q) (eqb-true _ _ r))
 
   claims : (ls : List (List ℕ)) (c : Phase) → Claim ls c
-  unfolding Claim judgeAll fileOf groups seqOf
+  unfolding Claim judgeAll groupsBy groups seqOf
   claims [] (wants-definition at) = λ f rs. rw (held-nothing f all Ended, append-nil rs)
   claims [] (wants-first d) = λ f rs h. absurd (true≢false h)
   claims [] (wants-line d x m z) = λ f rs h. absurd (true≢false h)
@@ -282,7 +283,7 @@ module _ (all : ℕ) where
   start = state (wants-definition 0) all []
 
   pub by-lines : (s : List ℕ) → found (judgeAll (stepLine all) start (lines s)) ≡ heldIn all all (fileAt s 0)
-  unfolding Claim fileAt
+  unfolding Claim fileBy
   by-lines s = claims (lines s) (wants-definition 0) all []
 
   -- K1 over definitions: a file in any pieces, and the end

@@ -1,30 +1,21 @@
--- What indexing one record gives, in document 01's words, over the lines of the file.
+-- What indexing one record gives by the ported rule, in document 01's words, over the lines of the file.
 use Prim.Native.Nat.{ℕ, _+_}
 use mathlib.Core.List.{List, [], _∷_}
 use mathlib.Core.Bool.{Bool, cond, _&&_}
-use lib.ListN.{length, drop}
+use lib.ListN.{length}
 use lib.Dec.{eqb, leb}
 use Rattle.refusal.specs.Numbers.{overLimit}
-use Rattle.refusal.specs.declared.Refusal.{Refusal}
 use Rattle.refusal.specs.declared.Refusal.the-variants.{TooLong, NoBases, LineBases, LineWidth}
 use Rattle.lines.specs.declared.Line.{Line}
 use Rattle.lines.specs.declared.Span.{Span}
-use Rattle.lines.specs.Lines.{lines, basesOf, seqOf, firstLine, none, sumBases, sumWidths}
-use Rattle.definition.specs.declared.Parsed.{Parsed}
-use Rattle.definition.specs.declared.Parsed.the-variants.{Named, Bad}
-use Rattle.definition.specs.Definition.{lineSays, refusalOf}
+use Rattle.lines.specs.Lines.{basesOf, firstLine, none, sumBases, sumWidths}
 use Rattle.record.specs.declared.Record.{Record}
 use Rattle.indexer.specs.declared.Indexer.{Indexer}
-use Rattle.indexer.specs.declared.Indexed.{Indexed}
 use Rattle.indexer.specs.declared.Indexed.the-variants as indexed
 use Rattle.indexer.specs.declared.Step.{Step}
 use Rattle.indexer.specs.declared.Rest.{Rest}
 use Rattle.indexer.specs.declared.Rest.the-variants as rest
-
--- whether a record's lines are good, or the first refusal
-pub data Verdict : Type 0 where
-  good : Verdict
-  bad : Refusal → Verdict
+use Rattle.indexer.specs.Rule.{Verdict, good, bad, SequenceRule, sequenceBy, recordBy}
 
 -- width and bases of a line
 abbrev pub lineOf : List ℕ → Line
@@ -60,27 +51,17 @@ rowOf at n name ls =
       «line_width» = firstLine ls .width;
     }
 
--- an answer, with the place behind a record, or the place where it was
-abbrev pub judgedAs : ℕ → ℕ → Span → List (List ℕ) → Verdict → Step
-judgedAs at n name ls good = record { answer = indexed.Row (rowOf at n name ls); next = record { at = at + n + sumWidths ls } }
-judgedAs at n name ls (bad x) = record { answer = indexed.Refused x; next = record { at = at } }
+-- the rule
+abbrev pub ported : SequenceRule
+ported = record { judge = judge; row = rowOf }
 
 -- a record whose definition line has been read
-unfoldable pub sequenceSays : ℕ → ℕ → Span → List (List ℕ) → Step
-sequenceSays at n name ls = judgedAs at n name ls (judge (at + n) ls)
-
-abbrev pub definedAs : ℕ → ℕ → List (List ℕ) → Parsed → Step
-definedAs at n ls (Named d) = sequenceSays at n (d .name) ls
-definedAs at n ls (Bad f) = record { answer = indexed.Refused (refusalOf f 0); next = record { at = at } }
-
--- the record whose definition is the first of some lines, which begin at an offset
-abbrev pub recordOf : ℕ → List (List ℕ) → Step
-recordOf at [] = record { answer = indexed.End; next = record { at = at } }
-recordOf at (d ∷ ls) = definedAs at (length d) (seqOf ls) (lineSays d)
+abbrev pub sequenceSays : ℕ → ℕ → Span → List (List ℕ) → Step
+sequenceSays = sequenceBy ported
 
 -- the record at an offset of a file
-unfoldable pub recordAt : List ℕ → ℕ → Step
-recordAt s at = recordOf at (lines (drop at s))
+abbrev pub recordAt : List ℕ → ℕ → Step
+recordAt = recordBy ported
 
 -- the call: the size limit first
 unfoldable pub recordRead : List ℕ → Indexer → Step

@@ -1,9 +1,9 @@
--- Laws of one record: its lines after the first, turn by turn, and its definition.
+-- Laws of one record by the ported rule: its lines after the first, turn by turn.
 use Prim.Native.Nat.{ℕ, zero, suc, _+_, _-_, _*_, _≤_, _<_}
 use mathlib.Core.Path.{_≡_, refl, ap, sym, _∙_}
 use mathlib.Core.List.{List, [], _∷_}
 use mathlib.Core.Bool.{Bool, true, false, cond, _&&_, true≢false}
-use lib.ListN.{length, drop, drop-of-length-le}
+use lib.ListN.{length}
 use lib.Dec.{eqb, leb, leb·zero}
 use borrow.Author.Tests.{eq-eqb, ne-eqb, le-leb, lt-leb}
 use native.Mathlib.Omega.{arith}
@@ -13,12 +13,11 @@ use Rattle.refusal.specs.declared.Refusal.{Refusal}
 use Rattle.refusal.specs.declared.Refusal.the-variants.{NoBases, LineBases, LineWidth}
 use Rattle.lines.specs.declared.Line.{Line}
 use Rattle.lines.specs.declared.Span.{Span}
-use Rattle.lines.specs.Lines.{part, lineEnd, lines, basesOf, seqOf, seqAt, firstLine, tailOf, none, sumBases, sumWidths}
-use Rattle.lines.specs.Laws.{seqAt-next, linesAt-cut, lineEnd-le, part-length}
+use Rattle.lines.specs.Lines.{basesOf, seqAt, firstLine, tailOf, none, sumBases, sumWidths}
+use Rattle.lines.specs.Laws.{seqAt-next}
 use Rattle.lines.specs.Alike.{LineLike, firstLike, alike, alike-passes, alike-within, alike-ends, unlike-last}
-use Rattle.definition.specs.declared.Parsed.{Parsed}
-use Rattle.definition.specs.Definition.{lineSays}
-use Rattle.indexer.specs.Index.{Verdict, good, bad, fitsLast, restOf, judge, rowOf, judgedAs, sequenceSays, definedAs, recordOf, recordAt, restAs, restSays}
+use Rattle.indexer.specs.Rule.{Verdict, good, bad, judgedBy, sequenceBy}
+use Rattle.indexer.specs.Index.{fitsLast, restOf, judge, ported, sequenceSays, restAs, restSays}
 use Rattle.indexer.specs.declared.Indexed.{Indexed}
 use Rattle.indexer.specs.declared.Indexed.the-variants as indexed
 use Rattle.indexer.specs.declared.Step.{Step}
@@ -172,17 +171,17 @@ answerAs at name p x (rest.Refused r) = record { answer = indexed.Refused r; nex
 module _ (at n : ℕ) (name : Span) where
   pub judge-none : (ls : List (List ℕ)) → firstLine ls .bases ≡ 0
       → record { answer = indexed.Refused (NoBases (at + n + firstLine ls .width)); next = record { at = at } } ≡ sequenceSays at n name ls
-  unfolding judge sequenceSays
+  unfolding judge sequenceBy
   judge-none [] h = rw (add-zero (at + n))
   judge-none (l ∷ ls) h = rw (eq-eqb (length (basesOf l)) 0 h)
 
   pub judge-some : (ls : List (List ℕ)) → (firstLine ls .bases ≡ 0 → ⊥)
       → answerAs at name (at + n) (firstLine ls) (restSays (firstLine ls) (firstLine ls .bases) (at + n + firstLine ls .width) (tailOf ls)) ≡ sequenceSays at n name ls
-  unfolding judge sequenceSays restSays sumBases sumWidths
+  unfolding judge sequenceBy restSays sumBases sumWidths
   judge-some [] h = absurd (h refl)
   judge-some (l ∷ ls) h = rw (ne-eqb (length (basesOf l)) 0 h) (go (restOf (firstLine (l ∷ ls)) ls))
     where
-      go : (v : Verdict) → answerAs at name (at + n) (firstLine (l ∷ ls)) (restAs (length (basesOf l)) (at + n + length l) ls v) ≡ judgedAs at n name (l ∷ ls) v
+      go : (v : Verdict) → answerAs at name (at + n) (firstLine (l ∷ ls)) (restAs (length (basesOf l)) (at + n + length l) ls v) ≡ judgedBy ported at n name (l ∷ ls) v
       go good = rw (add-assoc (at + n) (length l) (sumWidths ls))
       go (bad r) = refl
 
@@ -198,17 +197,3 @@ module _ (s : List ℕ) (at e : ℕ) (name : Span) (le : at ≤ e) (h : e ≤ le
       → answerAs at name e x v ≡ sequenceSays at (e - at) name (seqAt s e)
   record-some z r v hr hv =
       rw (← hv, hr, hx, seqAt-next s e h) (rw split at (judge-some at (e - at) name (seqAt s e) (rw hx at z)))
-
--- ---- the record at an offset
-
-module _ (s : List ℕ) (at : ℕ) where
-  pub record-end : length s ≤ at → record { answer = indexed.End; next = record { at = at } } ≡ recordAt s at
-  unfolding recordAt lines
-  record-end h = rw (drop-of-length-le s h)
-
-  -- the definition line, by what it says
-  pub record-here : (e : ℕ) (d v : Parsed) → at < length s → e ≡ lineEnd s at → d ≡ lineSays (part s at e) → d ≡ v
-      → definedAs at (e - at) (seqAt s e) v ≡ recordAt s at
-  unfolding recordAt seqAt
-  record-here e d v h he hd hv =
-      rw (← hv, hd, he) (rw (linesAt-cut s at h, part-length s at (lineEnd s at) (lineEnd-le s at (omega arith))))

@@ -1,23 +1,17 @@
-// The indexer: a row for each record of a FASTA file. A record is a definition line and the lines of its sequence, which all have
+// The ported indexer: the row of one record of a FASTA file. A record is a definition line and the lines of its sequence, which all have
 // the first line's bases and width, but for the last, which may have less. Refuses a file over the size limit (1), a bad definition
-// line (2 to 4), no bases in the first line (5), a line of other bases (6) or width (7), and a table without a free row (8).
+// line (2 to 4), no bases in the first line (5), and a line of other bases (6) or width (7). The loop over a file is in `fitting`.
 ghost use mathlib.Core.Path.{_≡_};
 ghost use Prim.Native.Nat.{_+_, _-_, _≤_, _<_};
 ghost use lib.ListN.{length};
 ghost use Rattle.lines.specs.Lines.{seqAt};
-ghost use Rattle.record.specs.Row.{rowCount};
-ghost use Rattle.table.specs.Fill.{FilledAs, heldIn};
 ghost use Rattle.indexer.specs.Index.{fitsLast, restSays, sequenceSays, recordAt, recordRead};
-ghost use Rattle.indexer.specs.File.{fileAt, fileIn};
 use definition::Parsed;
 use lines::Line;
 use lines::Span;
 use record::Offset;
 use record::Record;
-use record::Stored;
 use refusal::Refusal;
-use table::Filled;
-use table::Stop;
 
 // A place in a file, from which the record that begins there is indexed.
 pub struct Indexer {
@@ -163,58 +157,4 @@ impl Indexer {
         }
         index_at(s, self.at)
     }
-}
-
-// A row for each record of the file, from the table's first row on.
-fn index_rows(s: &[u8], table: &mut [u64]) -> Filled
-    ensures { λ r. ⌜ FilledAs (heldIn (rowCount (now (table .entry))) (rowCount (now (table .entry))) (fileAt (now (s .entry)) 0)) (now (table .entry)) (now (table .exit)) r ⌝ }
-{
-    let mut at = 0;
-    let mut n = 0;
-    loop {
-        let step = index_at(s, at);
-        let answer = step.answer;
-        match answer {
-            Indexed::Row(x) => {
-                let stored = x.store(table, n);
-                match stored {
-                    Stored::Kept => {
-                        n += 1;
-                        at = step.next.at;
-                    }
-                    Stored::Refused(f) => {
-                        return Filled {
-                            rows: n,
-                            stop: Stop::Refused(f),
-                        };
-                    }
-                }
-            }
-            Indexed::End => {
-                return Filled {
-                    rows: n,
-                    stop: Stop::Ended,
-                };
-            }
-            Indexed::Refused(f) => {
-                return Filled {
-                    rows: n,
-                    stop: Stop::Refused(f),
-                };
-            }
-        }
-    }
-}
-
-// Indexes a whole file into a lent table, from its first row on.
-pub fn index_file(s: &[u8], table: &mut [u64]) -> Filled
-    ensures { λ r. ⌜ FilledAs (fileIn (now (s .entry)) (rowCount (now (table .entry)))) (now (table .entry)) (now (table .exit)) r ⌝ }
-{
-    if refusal::over_limit(s.len()) {
-        return Filled {
-            rows: 0,
-            stop: Stop::Refused(Refusal::TooLong),
-        };
-    }
-    index_rows(s, table)
 }

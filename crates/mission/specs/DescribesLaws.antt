@@ -14,7 +14,8 @@ use Rattle.definition.specs.declared.Definition.{Definition}
 use Rattle.definition.specs.declared.Parsed.the-variants.{Named}
 use Rattle.record.specs.EvenLines.{length-allBases}
 use Rattle.record.specs.declared.Record.{Record}
-use Rattle.indexer.specs.Index.{judge, good, rowOf}
+use Rattle.indexer.specs.Rule.{good}
+use Rattle.indexer.specs.Index.{judge, rowOf, ported}
 use Rattle.indexer.specs.File.{fileAt}
 use Rattle.mission.specs.IndexedLaws.{name-spaceless, name-bytes, sequence-within, FirstGroup, good-even, good-places, first-within, Along, along-file, along-map}
 use Rattle.mission.specs.Leading.{LeadsTo}
@@ -65,7 +66,7 @@ leads-to {f} {start} {g} {x} d =
 
 -- so it is along the rows of a file
 pub file-described : (f : List ℕ) → Along (Describes f) 0 (groups (lines f)) (fileAt f 0 .rows) (fileAt f 0 .stop)
-file-described f = along-file (Describes f) f (described f)
+file-described f = along-file ported (Describes f) f (described f)
 
 -- so they lead to their bases
 pub file-leads : (f : List ℕ) → Along (LeadsTo f) 0 (groups (lines f)) (fileAt f 0 .rows) (fileAt f 0 .stop)

@@ -17,6 +17,7 @@ use Rattle.table.specs.declared.Stop.the-variants.{Ended}
 use Rattle.index_line.specs.Fields.{wrote}
 use Rattle.index_line.specs.declared.Written.the-variants.{Bytes}
 use Rattle.index_line.specs.IndexLine.{writtenAs}
+use Rattle.indexer.specs.Index.{ported}
 use Rattle.indexer.specs.File.{fileAt, fileIn}
 use Rattle.index.specs.Index.{indexAt, indexIn}
 use Rattle.checker.specs.Check.{checkOf}
@@ -65,18 +66,18 @@ module _ (f : List ℕ) where
 module _ (f : List ℕ) (n : ℕ) (ended : fileIn f n .stop ≡ Ended) where
   -- it gives a row for each record
   pub call-counted : RowsDescribe f (fileIn f n)
-  call-counted = rw (taken f n ended .whole) (rows-counted f)
+  call-counted = rw (taken ported f n ended .whole) (rows-counted f)
 
   module _ (small : length (indexText f (fileIn f n .rows)) ≤ limit) where
     -- the index lines of its rows, within the limit, read back by the whole-index call, with a table of as many rows
     pub call-read-back : SameRows f (indexText f (fileIn f n .rows)) (fileIn f n .rows) (indexIn (indexText f (fileIn f n .rows)) n)
     call-read-back =
-        let t = taken f n ended in
+        let t = taken ported f n ended in
         let s = rows-read-back f (omega (arith, t .fits)) in
         rw (t .whole) (rw (index-whole (text f) n (rw (t .whole) at small) (omega (arith, s .count, t .room))) s)
 
     -- and the checker accepts them
     pub call-checked : checkOf f (indexText f (fileIn f n .rows)) ≡ Accepted
     call-checked =
-        let t = taken f n ended in
+        let t = taken ported f n ended in
         rw (t .whole) (index-checked f (t .fits) (rw (t .whole) at ended) (rw (t .whole) at small))

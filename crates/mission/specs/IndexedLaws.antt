@@ -44,8 +44,8 @@ use Rattle.index_line.specs.IndexLine as index
 use Rattle.index_line.specs.Numbers.{both}
 use Rattle.index_line.specs.Laws.{Lined, line-sound}
 use Rattle.index_line.specs.RoundTrip.{entryOf, written-reads}
-use Rattle.indexer.specs.Index.{Verdict, good, bad, lineOf, fitsLast, restOf, judge, rowOf, judgedAs, sequenceSays, definedAs}
-use Rattle.indexer.specs.File.{groupSays, stepped, fileOf, fileAt, fileIn}
+use Rattle.indexer.specs.Rule.{Verdict, good, bad, SequenceRule, judgedBy, sequenceBy, definedBy, stepped, groupBy, groupsBy, fileBy, callBy}
+use Rattle.indexer.specs.Index.{lineOf, fitsLast, restOf, judge, rowOf}
 use Rattle.index.specs.Index.{indexAt, indexIn}
 use Rattle.checker.specs.Check.{spanOf}
 use Rattle.checker.specs.Accepts.{bytesOf, recordAt, sequenceAt, limit}
@@ -211,25 +211,25 @@ unfolding sumWidths
 first-within [] = omega arith
 first-within (l ∷ ls) = omega arith
 
--- ---- the rows of a file, group by group
+-- ---- the rows of a file by a rule, group by group
 
 -- what a group, which begins at an offset, adds: its row, or the refusal that ends the file
-data GroupSaid (at : ℕ) (g : Group) (behind : ℕ → Found) : Found → Type 0 where
-  its-row : (d : Definition) → lineSays (g .def) ≡ Named d → judge (at + length (g .def)) (g .seq) ≡ good
-      → GroupSaid at g behind (withFirst (rowOf at (length (g .def)) (d .name) (g .seq)) (behind (at + length (g .def) + sumWidths (g .seq))))
-  its-refusal : (x : Refusal) → GroupSaid at g behind (nothing (stop.Refused x))
+data GroupSaid (rule : SequenceRule) (at : ℕ) (g : Group) (behind : ℕ → Found) : Found → Type 0 where
+  its-row : (d : Definition) → lineSays (g .def) ≡ Named d → rule .judge (at + length (g .def)) (g .seq) ≡ good
+      → GroupSaid rule at g behind (withFirst (rule .row at (length (g .def)) (d .name) (g .seq)) (behind (at + length (g .def) + sumWidths (g .seq))))
+  its-refusal : (x : Refusal) → GroupSaid rule at g behind (nothing (stop.Refused x))
 
-group-said : (at : ℕ) (g : Group) (behind : ℕ → Found) → GroupSaid at g behind (stepped (groupSays at g) behind)
-unfolding sequenceSays
-group-said at g behind = go (lineSays (g .def)) refl
+group-said : (rule : SequenceRule) (at : ℕ) (g : Group) (behind : ℕ → Found) → GroupSaid rule at g behind (stepped (groupBy rule at g) behind)
+unfolding sequenceBy
+group-said rule at g behind = go (lineSays (g .def)) refl
   where
-    judged : (d : Definition) → lineSays (g .def) ≡ Named d → (v : Verdict) → judge (at + length (g .def)) (g .seq) ≡ v
-        → GroupSaid at g behind (stepped (judgedAs at (length (g .def)) (d .name) (g .seq) v) behind)
+    judged : (d : Definition) → lineSays (g .def) ≡ Named d → (v : Verdict) → rule .judge (at + length (g .def)) (g .seq) ≡ v
+        → GroupSaid rule at g behind (stepped (judgedBy rule at (length (g .def)) (d .name) (g .seq) v) behind)
     judged d h good e = its-row d h e
     judged d h (bad x) e = its-refusal x
 
-    go : (p : Parsed) → lineSays (g .def) ≡ p → GroupSaid at g behind (stepped (definedAs at (length (g .def)) (g .seq) p) behind)
-    go (Named d) h = judged d h (judge (at + length (g .def)) (g .seq)) refl
+    go : (p : Parsed) → lineSays (g .def) ≡ p → GroupSaid rule at g behind (stepped (definedBy rule at (length (g .def)) (g .seq) p) behind)
+    go (Named d) h = judged d h (rule .judge (at + length (g .def)) (g .seq)) refl
     go (Bad x) h = its-refusal _
 
 -- rows along groups, the first of which begins at an offset, and why there are no more: P holds of where a group's sequence begins, the
@@ -241,21 +241,21 @@ pub data Along (P : ℕ → Group → Record → Type 0) : ℕ → List Group �
       → Along P (at + length (g .def) + sumWidths (g .seq)) gs xs s → Along P at (g ∷ gs) (x ∷ xs) s
 
 -- what holds of the row of every group of a file holds along its rows
-module _ (P : ℕ → Group → Record → Type 0) (f : List ℕ)
-    (holds : (at : ℕ) (g : Group) (gs : List Group) (d : Definition) → FirstGroup f at g gs → lineSays (g .def) ≡ Named d → judge (at + length (g .def)) (g .seq) ≡ good
-    → P (at + length (g .def)) g (rowOf at (length (g .def)) (d .name) (g .seq))) where
-  along-groups : (gs : List Group) (at : ℕ) → groups (lines (drop at f)) ≡ gs → Along P at gs (fileOf gs at .rows) (fileOf gs at .stop)
-  unfolding fileOf
+module _ (rule : SequenceRule) (P : ℕ → Group → Record → Type 0) (f : List ℕ)
+    (holds : (at : ℕ) (g : Group) (gs : List Group) (d : Definition) → FirstGroup f at g gs → lineSays (g .def) ≡ Named d → rule .judge (at + length (g .def)) (g .seq) ≡ good
+    → P (at + length (g .def)) g (rule .row at (length (g .def)) (d .name) (g .seq))) where
+  along-groups : (gs : List Group) (at : ℕ) → groups (lines (drop at f)) ≡ gs → Along P at gs (groupsBy rule gs at .rows) (groupsBy rule gs at .stop)
+  unfolding groupsBy
   along-groups [] at h = at-end
-  along-groups (g ∷ gs) at h = go _ (group-said at g (fileOf gs)) (first-group f at g gs h) (along-groups gs)
+  along-groups (g ∷ gs) at h = go _ (group-said rule at g (groupsBy rule gs)) (first-group f at g gs h) (along-groups gs)
     where
-      go : (r : Found) → GroupSaid at g (fileOf gs) r → FirstGroup f at g gs
-          → ((o : ℕ) → groups (lines (drop o f)) ≡ gs → Along P o gs (fileOf gs o .rows) (fileOf gs o .stop)) → Along P at (g ∷ gs) (r .rows) (r .stop)
+      go : (r : Found) → GroupSaid rule at g (groupsBy rule gs) r → FirstGroup f at g gs
+          → ((o : ℕ) → groups (lines (drop o f)) ≡ gs → Along P o gs (groupsBy rule gs o .rows) (groupsBy rule gs o .stop)) → Along P at (g ∷ gs) (r .rows) (r .stop)
       go r (its-row d e j) k more = row (holds at g gs d k e j) (more (at + length (g .def) + sumWidths (g .seq)) (k .behind))
       go r (its-refusal x) k more = refused
 
-  pub along-file : Along P 0 (groups (lines f)) (fileAt f 0 .rows) (fileAt f 0 .stop)
-  unfolding fileAt
+  pub along-file : Along P 0 (groups (lines f)) (fileBy rule f 0 .rows) (fileBy rule f 0 .stop)
+  unfolding fileBy
   along-file = along-groups (groups (lines f)) 0 refl
 
 -- what follows of each row
@@ -321,7 +321,7 @@ module _ (name : List ℕ) (x : Record) where
 
 -- ---- a file that the call takes to its end
 
-pub held-ended : (n : ℕ) (r : Found) → heldIn n n r .stop ≡ stop.Ended → length (r .rows) ≤ n
+held-ended : (n : ℕ) (r : Found) → heldIn n n r .stop ≡ stop.Ended → length (r .rows) ≤ n
 unfolding heldIn
 held-ended n r h = go (ltb n (length (r .rows))) refl h
   where
@@ -329,7 +329,7 @@ held-ended n r h = go (ltb n (length (r .rows))) refl h
     go true e k = let z : _≡_ {A = ℕ} 0 1 = cc in absurd (omega arith)
     go false e k = ltb-false _ _ e
 
-pub within-ended : (m : ℕ) (r : Found) → cond (overLimit m) (nothing (stop.Refused TooLong)) r .stop ≡ stop.Ended → (m ≤ limit) × (r .stop ≡ stop.Ended)
+within-ended : (m : ℕ) (r : Found) → cond (overLimit m) (nothing (stop.Refused TooLong)) r .stop ≡ stop.Ended → (m ≤ limit) × (r .stop ≡ stop.Ended)
 unfolding overLimit
 within-ended m r h = go (ltb limit m) refl h
   where
@@ -338,17 +338,19 @@ within-ended m r h = go (ltb limit m) refl h
     go false e k = (ltb-false _ _ e, k)
 
 -- it is within the limit, the table has room for its rows, and they are all
-pub record Taken (f : List ℕ) (n : ℕ) : Type 0 where
+pub record Taken (rule : SequenceRule) (f : List ℕ) (n : ℕ) : Type 0 where
   pub fits : length f ≤ limit
-  pub room : length (fileAt f 0 .rows) ≤ n
-  pub whole : fileIn f n ≡ fileAt f 0
+  pub room : length (fileBy rule f 0 .rows) ≤ n
+  pub whole : callBy rule f n ≡ fileBy rule f 0
+  pub ended : fileBy rule f 0 .stop ≡ stop.Ended
 
-pub taken : (f : List ℕ) (n : ℕ) → fileIn f n .stop ≡ stop.Ended → Taken f n
-unfolding fileIn overLimit
-taken f n h =
-    let w = within-ended (length f) (heldIn n n (fileAt f 0)) h in
-    let r = held-ended n (fileAt f 0) (w .1) in
-    record { fits = w .0; room = r; whole = rw (le-ltb _ _ (w .0)) (held-all n n (fileAt f 0) r) }
+pub taken : (rule : SequenceRule) (f : List ℕ) (n : ℕ) → callBy rule f n .stop ≡ stop.Ended → Taken rule f n
+unfolding callBy overLimit
+taken rule f n h =
+    let w = within-ended (length f) (heldIn n n (fileBy rule f 0)) h in
+    let r = held-ended n (fileBy rule f 0) (w .1) in
+    let a = held-all n n (fileBy rule f 0) r in
+    record { fits = w .0; room = r; whole = rw (le-ltb _ _ (w .0)) a; ended = rw a at (w .1) }
 
 -- an index within the limit, whose rows a table has room for, is read whole
 pub index-whole : (t : List ℕ) (n : ℕ) → length t ≤ limit → length (indexAt t 1 0 .rows) ≤ n → indexIn t n ≡ indexAt t 1 0

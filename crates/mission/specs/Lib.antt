@@ -3,6 +3,7 @@ pub mod Leading
 pub mod Describes
 pub mod DescribesLaws
 pub mod Indexed
+pub mod FittedLaws
 pub mod Fitted
 pub mod TableOf
 pub mod TableLaws

@@ -4,11 +4,9 @@ use mathlib.Core.Path.{_≡_, refl, ap, sym, _∙_}
 use mathlib.Core.List.{List, [], _∷_}
 use lib.ListN.{length, take, drop, getD}
 use lib.Seq.{drop-drop, take-take, length-take-le}
-use borrow.Author.Tests.{le-ltb}
 use native.Mathlib.Omega.{arith}
 use native.Mathlib.Nat.{add-zero, zero-add}
 use native.Mathlib.Numerals.{one-add}
-use Rattle.refusal.specs.Numbers.{overLimit}
 use Rattle.lines.specs.Lines.{lines, lineLen, sumWidths}
 use Rattle.lines.specs.Laws.{lines-cut, lineLen-le}
 use Rattle.lines.specs.Groups.{groups}
@@ -20,18 +18,15 @@ use Rattle.record.specs.Laws.{held-stored, held-unused, rowCount-rows, sound-ro
 use Rattle.table.specs.declared.Filled.{Filled}
 use Rattle.table.specs.declared.Stop.{Stop}
 use Rattle.table.specs.declared.Stop.the-variants.{Ended}
-use Rattle.table.specs.Fill.{Found, withFirst, heldIn, FilledAs}
-use Rattle.table.specs.Laws.{held-all}
+use Rattle.table.specs.Fill.{Found, withFirst, FilledAs}
 use Rattle.index_line.specs.IndexLine.{lineSays, nameIn}
 use Rattle.index_line.specs.Laws.{LineSound, line-sound}
 use Rattle.index_line.specs.declared.Entry.{Entry}
 use Rattle.index_line.specs.declared.LineRead.the-variants.{Row}
 use Rattle.index.specs.Index.{placedAt, linesSay, indexAt, indexIn}
-use Rattle.fitting.specs.declared.Rule.{Rule}
-use Rattle.fitting.specs.Rules.{rowsBy, rowsIn}
 use Rattle.checker.specs.Check.{spanOf}
 use Rattle.checker.specs.Accepts.{recordAt, sequenceAt, limit, Matches, Accepts}
-use Rattle.mission.specs.IndexedLaws.{Along, along-all, index-whole, held-ended, within-ended}
+use Rattle.mission.specs.IndexedLaws.{Along, along-all, index-whole}
 use Rattle.mission.specs.Leading.{noRow, rowIn, LeadsTo, leading-at}
 use Rattle.mission.specs.TableOf.{recordCount, RowsAbout, Gives, Fits, RowOf, Holds, TableOf}
 
@@ -188,23 +183,6 @@ module _ (f : List ℕ) (xs : List Record) (s : Stop) (h : Along (LeadsTo f) 0 (
       fits r k =
           let d = leading-at f xs s h r k in
           record { name-start = omega (arith, d .named); name-length = omega (arith, d .named); lined = d .lined (omega arith) }
-
--- ---- a file that an indexer's call takes to its end, by either rule
-
--- it is within the limit, the table has room for its rows, and they are all
-pub record TakenBy (rule : Rule) (f : List ℕ) (n : ℕ) : Type 0 where
-  pub fits : length f ≤ limit
-  pub room : length (rowsBy rule f 0 .rows) ≤ n
-  pub whole : rowsIn rule f n ≡ rowsBy rule f 0
-  pub ended : rowsBy rule f 0 .stop ≡ Ended
-
-pub taken-by : (rule : Rule) (f : List ℕ) (n : ℕ) → rowsIn rule f n .stop ≡ Ended → TakenBy rule f n
-unfolding rowsIn overLimit
-taken-by rule f n h =
-    let w = within-ended (length f) (heldIn n n (rowsBy rule f 0)) h in
-    let r = held-ended n (rowsBy rule f 0) (w .1) in
-    let a = held-all n n (rowsBy rule f 0) r in
-    record { fits = w .0; room = r; whole = rw (le-ltb _ _ (w .0)) a; ended = rw a at (w .1) }
 
 -- ---- rows put in a table
 

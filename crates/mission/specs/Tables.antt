@@ -24,7 +24,7 @@ use Rattle.index_line.specs.IndexLine.{nameIn}
 use Rattle.index.specs.Index.{indexAt, indexIn}
 use Rattle.fitting.specs.declared.Rule.{Rule}
 use Rattle.fitting.specs.declared.Rule.the-variants.{Strict, Complete}
-use Rattle.fitting.specs.Rules.{rowsBy, rowsIn}
+use Rattle.fitting.specs.Rules.{ruleOf, rowsBy, rowsIn}
 use Rattle.region.specs.declared.Bound.{Bound}
 use Rattle.region.specs.Region.{Outcome, refuses}
 use Rattle.region.specs.Exact.{exactOf, exactRead}
@@ -33,12 +33,12 @@ use Rattle.checker.specs.Accepts.{recordAt, Accepts}
 use Rattle.checker.specs.Check.{spanOf, checkOf}
 use Rattle.checker.specs.Exactly.{accepted-only-if}
 use Rattle.checker.specs.declared.Verdict.the-variants.{Accepted}
-use Rattle.mission.specs.IndexedLaws.{Along}
+use Rattle.mission.specs.IndexedLaws.{Along, taken}
 use Rattle.mission.specs.Leading.{rowIn, LeadsTo}
 use Rattle.mission.specs.DescribesLaws.{file-leads}
-use Rattle.mission.specs.Fitted.{rows-lead}
+use Rattle.mission.specs.FittedLaws.{rows-lead}
 use Rattle.mission.specs.TableOf.{recordCount, Gives, TableOf}
-use Rattle.mission.specs.TableLaws.{taken-by, accepted-gives, row-named, leading-rows, filled-table}
+use Rattle.mission.specs.TableLaws.{accepted-gives, row-named, leading-rows, filled-table}
 
 -- ---- an indexer's rows, by either rule
 
@@ -50,7 +50,7 @@ indexed-leads Complete f = rows-lead f
 -- what its call finds, if it takes the file to its end
 pub indexed-gives : (rule : Rule) (f : List ℕ) (n : ℕ) → rowsIn rule f n .stop ≡ Ended → Gives f (rowsIn rule f n) n
 indexed-gives rule f n h =
-    let t = taken-by rule f n h in
+    let t = taken (ruleOf rule) f n h in
     rw (t .whole) (record { small = t .fits; stop = t .ended; rows = leading-rows f (rowsBy rule f 0 .rows) (rowsBy rule f 0 .stop) (indexed-leads rule f) (t .ended) (t .fits); room = t .room })
 
 -- ---- the tables that the calls leave

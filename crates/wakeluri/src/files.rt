@@ -2,11 +2,14 @@
 use crate::answer;
 use crate::answer::Answer;
 use crate::answer::RowAnswer;
+use fitting::Rule;
 use indexer::Indexer;
 ghost use mathlib.Core.Path.{_≡_};
 ghost use Rattle.record.specs.Row.{rowCount};
 ghost use Rattle.indexer.specs.Index.{recordRead};
 ghost use Rattle.indexer.specs.File.{fileIn};
+ghost use Rattle.fitting.specs.declared.Rule.the-variants.{Complete};
+ghost use Rattle.fitting.specs.Rules.{rowsIn};
 ghost use Rattle.index.specs.Index.{indexIn};
 ghost use Rattle.checker.specs.Check.{checkOf};
 ghost use Rattle.byte_table.specs.Numbers.{numbersIn};
@@ -21,12 +24,21 @@ pub extern "C" fn wakeluri_index_record(file: &[u8], at: u64) -> RowAnswer
     answer::step_answer(Indexer { at: at as usize }.index_record(file))
 }
 
-// A row for each record of a file, from the table's first on.
+// A row for each record of a file, by the original's rule, from the table's first on.
 #[no_mangle]
 pub extern "C" fn wakeluri_index_file(file: &[u8], table: &mut [u8]) -> Answer
     ensures { λ a. ⌜ tells a (now (table .exit)) ≡ filledTold (fileIn (now (file .entry)) (rowCount (numbersIn (now (table .entry))))) (now (table .entry)) ⌝ }
 {
-    let filled = byte_table::index_file(file, table);
+    let filled = byte_table::index_file(file, table, Rule::Strict);
+    answer::filled_answer(filled)
+}
+
+// The same by the complete rule: every file that any index leads through is taken.
+#[no_mangle]
+pub extern "C" fn wakeluri_index_complete(file: &[u8], table: &mut [u8]) -> Answer
+    ensures { λ a. ⌜ tells a (now (table .exit)) ≡ filledTold (rowsIn Complete (now (file .entry)) (rowCount (numbersIn (now (table .entry))))) (now (table .entry)) ⌝ }
+{
+    let filled = byte_table::index_file(file, table, Rule::Complete);
     answer::filled_answer(filled)
 }
 

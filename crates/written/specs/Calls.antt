@@ -15,7 +15,8 @@ use Rattle.index_line.specs.Fields.{wrote}
 use Rattle.index_line.specs.declared.Written.the-variants.{Bytes}
 use Rattle.indexer.specs.Index.{recordRead}
 use Rattle.indexer.specs.declared.Indexed.the-variants as indexed
-use Rattle.indexer.specs.File.{fileIn, fileAt}
+use Rattle.indexer.specs.Rule.{callBy}
+use Rattle.indexer.specs.File.{fileIn}
 use Rattle.table.specs.Fill.{heldIn}
 use Rattle.table.specs.declared.Stop.the-variants.{Ended}
 use Rattle.checker.specs.Accepts.{limit}
@@ -56,6 +57,6 @@ rows-long [] at = refl
 rows-long (x ∷ xs) at = omega (arith, rows-long xs (at + length (textOf x)))
 
 pub files-call : (xs : List Item) → Written xs → (n : ℕ) → length (fileText xs) ≤ limit → length xs ≤ n → fileIn (fileText xs) n ≡ record { rows = rowsFrom 0 xs; stop = Ended }
-unfolding fileIn heldIn
+unfolding callBy heldIn
 files-call xs z n m r =
     rw (within (length (fileText xs)) m, files-indexed xs z, le-ltb n (length (rowsFrom 0 xs)) (omega (arith, rows-long xs 0)))

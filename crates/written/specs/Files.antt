@@ -13,8 +13,10 @@ use Rattle.table.specs.Fill.{Found}
 use Rattle.table.specs.declared.Stop.the-variants.{Ended}
 use Rattle.index_line.specs.IndexLine.{nameIn}
 use Rattle.index_line.specs.IndexLine as index
-use Rattle.indexer.specs.File.{fileOf, fileAt}
-use Rattle.indexer.specs.FileLaws.{file-step}
+use Rattle.indexer.specs.Rule.{groupsBy, fileBy}
+use Rattle.indexer.specs.RuleLaws.{file-step}
+use Rattle.indexer.specs.Index.{ported}
+use Rattle.indexer.specs.File.{fileAt}
 use Rattle.checker.specs.Check.{checkOf}
 use Rattle.checker.specs.Accepts.{limit}
 use Rattle.checker.specs.declared.Verdict.the-variants.{Accepted}
@@ -76,12 +78,12 @@ record-stops (x ∷ xs) = prefix-stops _
 
 pub file-rows : (xs : List Item) → Written xs → (s : List ℕ) (at : ℕ) → drop at s ≡ fileText xs → fileAt s at ≡ record { rows = rowsFrom at xs; stop = Ended }
 unfolding fileText rowsFrom
-file-rows [] z s at e = unfold fileAt in unfold fileOf in unfold groups in unfold lines in rw e
+file-rows [] z s at e = unfold fileBy in unfold groupsBy in unfold groups in unfold lines in rw e
 file-rows (x ∷ xs) (each y h z) s at e =
     let n : ℕ = length (textOf x) in
     let behind : drop (at + n) s ≡ fileText xs = sym (drop-drop n at s) ∙ ap (drop n) e ∙ drop-at (textOf x) (fileText xs) n refl in
     let row = indexed-at (x .name) (x .described) (x .description) (x .bases) (x .width) y h s at (fileText xs) e (record-stops xs) in
-    file-step s at ∙ rw (row, file-rows xs z s (at + n) behind)
+    file-step ported s at ∙ rw (row, file-rows xs z s (at + n) behind)
 
 -- ---- its index
 

@@ -9,7 +9,8 @@ use native.Mathlib.Omega.{arith}
 use native.Mathlib.Nat.{zero-add}
 use Rattle.lines.specs.Lines.{lines, seqOf, sumWidths}
 use Rattle.record.specs.declared.Record.{Record}
-use Rattle.indexer.specs.Index.{recordAt, sequenceSays}
+use Rattle.indexer.specs.Rule.{sequenceBy, recordBy}
+use Rattle.indexer.specs.Index.{recordAt}
 use Rattle.indexer.specs.declared.Indexed.the-variants as indexed
 use Rattle.writer.specs.Text.{definitionText, rowsOf, rowsText, sequenceText, recordText}
 use Rattle.writer.specs.Rows.{good-rows, good-seq}
@@ -38,7 +39,7 @@ name-said name false d = refl
 
 -- behind the last byte there is no record
 pub ends-at : (s : List ℕ) → recordAt s (length s) ≡ record { answer = indexed.End; next = record { at = length s } }
-unfolding recordAt lines
+unfolding recordBy lines
 ends-at s = rw (drop-length s)
 
 module _ (name : List ℕ) (t : Bool) (d bases : List ℕ) (w : ℕ) (x : Writable name t d bases w) (some : 0 < length bases) where
@@ -48,7 +49,7 @@ module _ (name : List ℕ) (t : Bool) (d bases : List ℕ) (w : ℕ) (x : Writab
   -- a record that stands at an offset of a file, and behind which no sequence line follows
   pub indexed-at : (s : List ℕ) (at : ℕ) (rest : List ℕ) → drop at s ≡ recordText name t d bases w ++ rest → seqOf (lines rest) ≡ []
       → recordAt s at ≡ record { answer = indexed.Row (rowOf at name t d bases w); next = record { at = at + length (recordText name t d bases w) } }
-  unfolding recordAt sequenceSays rowOf
+  unfolding recordBy sequenceBy rowOf
   indexed-at s at rest e n =
       let ls : List (List ℕ) = linesOf (rowsOf w bases) in
       let seq : seqOf (ls ++ lines rest) ≡ ls = good-seq (rowsOf w bases) (good-rows w (x .wide) (length bases) bases (x .based)) (lines rest) ∙ ap (λ (k : List (List ℕ)). ls ++ k) n ∙ append-nil ls in

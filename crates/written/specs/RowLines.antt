@@ -11,7 +11,8 @@ use Rattle.lines.specs.Lines.{basesOf, none, firstLine, sumBases, sumWidths}
 use Rattle.lines.specs.declared.Line.{Line}
 use Rattle.record.specs.EvenLines.{length-allBases}
 use Rattle.record.specs.EvenLines as even
-use Rattle.indexer.specs.Index.{good, fitsLast, restOf, judge}
+use Rattle.indexer.specs.Rule.{good}
+use Rattle.indexer.specs.Index.{fitsLast, restOf, judge}
 use Rattle.indexer.specs.Index as index
 use Rattle.writer.specs.Text.{rowsUpTo, rowsOf, lineOf, rowsText, anyOf, barred}
 use Rattle.writer.specs.Laws.{rows-step}

@@ -56,11 +56,11 @@ last c =
 returns-2 : tie.Need-returns-2
 returns-2 c = nothing
 
-add-first-based : tie.Need-add-first-based
-add-first-based c = omega (arith, last (c .before .before .before .before))
+add-past-blank-lines : tie.Need-add-past-blank-lines
+add-past-blank-lines c = omega (arith, last (c .before .before .before .before))
 
-first-based-requires : tie.Need-first-based-requires
-first-based-requires c κs = last (c .before .before .before .before) .0
+past-blank-lines-requires : tie.Need-past-blank-lines-requires
+past-blank-lines-requires c κs = last (c .before .before .before .before) .0
 
 returns-3 : tie.Need-returns-3
 returns-3 c = nothing
@@ -77,7 +77,7 @@ returns-4 c =
     let n = b .before .before .before .before .before in
     let l = n .before .before .before .before in
     let t = l .before .before .before .before .before in
-    even-said _ _ (t .pre .0) _ (t .pre .1) _ (l .lines-like .ensures) _ (n .sequence-line .ensures) (l .before .before .if1 .left) (omega arith) _ (b .first-based .ensures) (omega arith)
+    even-said _ _ (t .pre .0) _ (t .pre .1) _ (l .lines-like .ensures) _ (n .sequence-line .ensures) (l .before .before .if1 .left) (omega arith) _ (b .past-blank-lines .ensures) (omega arith)
 
 pub even-lines-spec : {M : Type 1} → statement M
 even-lines-spec =
@@ -92,8 +92,8 @@ even-lines-spec =
     add-n
     sequence-line-requires
     returns-2
-    add-first-based
-    first-based-requires
+    add-past-blank-lines
+    past-blank-lines-requires
     returns-3
     add-t12
     returns-4)

@@ -3,7 +3,7 @@
 use borrow.Author.Needs.{needs}
 use mathlib.Core.Path.{sym, _∙_}
 use Rattle.table.specs.Laws.{filled-none}
-use Rattle.fitting.specs.Rules.{rowsIn}
+use Rattle.indexer.specs.Rule.{callBy}
 use Rattle.fitting.proofs.index_file.Statement.{statement}
 use Rattle.fitting.proofs.index_file.Tie as tie
 
@@ -11,7 +11,7 @@ over-limit-requires : tie.Need-over-limit-requires
 over-limit-requires c κs = search needs
 
 returns : tie.Need-returns
-unfolding rowsIn
+unfolding callBy
 returns c = rw (sym (c .before .over-limit .ensures) ∙ c .if1 .taken) (filled-none _ _)
 
 index-rows-requires : tie.Need-index-rows-requires
@@ -21,7 +21,7 @@ same-length : tie.Need-same-length
 same-length c = search needs
 
 returns-2 : tie.Need-returns-2
-unfolding rowsIn
+unfolding callBy
 returns-2 c = rw (sym (c .before .before .before .before .before .over-limit .ensures) ∙ c .before .before .before .before .if1 .left) (c .before .before .index-rows .ensures)
 
 pub index-file-spec : {M : Type 1} → statement M

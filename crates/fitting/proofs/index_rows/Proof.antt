@@ -9,7 +9,8 @@ use Rattle.record.specs.Row.{rowCount}
 use Rattle.record.specs.Laws.{kept-inside}
 use Rattle.table.specs.Fill.{withFirst}
 use Rattle.table.specs.Laws.{Onward, onward-start, onward-last, onward-full, onward-kept}
-use Rattle.fitting.specs.Rules.{rowsBy, by-row, by-end, by-refused}
+use Rattle.indexer.specs.RuleLaws.{file-row, file-end, file-refused}
+use Rattle.fitting.specs.Rules.{rowsBy}
 use Rattle.fitting.proofs.index_rows.Statement.{statement}
 use Rattle.fitting.proofs.index_rows.Tie as tie
 
@@ -22,8 +23,8 @@ abbrev μ-loop : tie.MeasureT-loop
 loop-holds : tie.Need-loop-holds Inv-loop μ-loop
 loop-holds c = (search needs, onward-start _ _ _ refl)
 
-step-at-requires : tie.Need-step-at-requires Inv-loop μ-loop
-step-at-requires c κs = search needs
+index-at-requires : tie.Need-index-at-requires Inv-loop μ-loop
+index-at-requires c κs = search needs
 
 enum-known-answer : tie.Need-enum-known-answer Inv-loop μ-loop
 enum-known-answer c = search needs
@@ -36,10 +37,10 @@ enum-told c = search needs
 
 -- a turn that finds a record: the file from its place on is that record and the file behind it
 row : (c : tie.After-answer Inv-loop μ-loop)
-    → (rowsBy (c .before .before .before .before .before .before .args .rule) (c .before .before .before .before .before .before .args .s .now) (c .before .before .before .loop .at) ≡ withFirst (c .answer .given .0 .0) (rowsBy (c .before .before .before .before .before .before .args .rule) (c .before .before .before .before .before .before .args .s .now) (c .before .before .step-at .result .next .at)))
+    → (rowsBy (c .before .before .before .before .before .before .args .rule) (c .before .before .before .before .before .before .args .s .now) (c .before .before .before .loop .at) ≡ withFirst (c .answer .given .0 .0) (rowsBy (c .before .before .before .before .before .before .args .rule) (c .before .before .before .before .before .before .args .s .now) (c .before .before .index-at .result .next .at)))
     × (c .before .before .before .loop .at < length (c .before .before .before .before .before .before .args .s .now))
-    × (c .before .before .before .loop .at < c .before .before .step-at .result .next .at)
-row c = by-row _ _ _ _ (c .before .before .step-at .ensures) _ (c .answer .given .1)
+    × (c .before .before .before .loop .at < c .before .before .index-at .result .next .at)
+row c = file-row _ _ _ _ (c .before .before .index-at .ensures) _ (c .answer .given .1)
 
 add-n : tie.Need-add-n Inv-loop μ-loop
 unfolding rowCount
@@ -67,7 +68,7 @@ same-length-2 : tie.Need-same-length-2 Inv-loop μ-loop
 same-length-2 c = search needs
 
 returns-2 : tie.Need-returns-2 Inv-loop μ-loop
-returns-2 c = onward-last _ _ _ _ _ _ (rw (by-end _ _ _ _ (c .before .before .step-at .ensures) (c .enum-told2 .given .1)) at (c .before .before .before .loop .inv .1))
+returns-2 c = onward-last _ _ _ _ _ _ (rw (file-end _ _ _ _ (c .before .before .index-at .ensures) (c .enum-told2 .given .1)) at (c .before .before .before .loop .inv .1))
 
 enum-known-answer-2 : tie.Need-enum-known-answer-2 Inv-loop μ-loop
 enum-known-answer-2 c = search needs
@@ -76,7 +77,7 @@ same-length-3 : tie.Need-same-length-3 Inv-loop μ-loop
 same-length-3 c = search needs
 
 returns-3 : tie.Need-returns-3 Inv-loop μ-loop
-returns-3 c = onward-last _ _ _ _ _ _ (rw (by-refused _ _ _ _ (c .before .before .before .step-at .ensures) _ (c .before .answer2 .given .1)) at (c .before .before .before .before .loop .inv .1))
+returns-3 c = onward-last _ _ _ _ _ _ (rw (file-refused _ _ _ _ (c .before .before .before .index-at .ensures) _ (c .before .answer2 .given .1)) at (c .before .before .before .before .loop .inv .1))
 
 pub index-rows-spec : {M : Type 1} → statement M
 index-rows-spec =
@@ -85,7 +86,7 @@ index-rows-spec =
     Inv-loop
     μ-loop
     loop-holds
-    step-at-requires
+    index-at-requires
     enum-known-answer
     store-requires
     enum-told

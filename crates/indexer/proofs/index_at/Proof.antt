@@ -8,12 +8,12 @@ use lib.ListN.{length}
 use Rattle.lines.specs.Lines.{part}
 use Rattle.lines.specs.Laws.{lineEnd-le, lineEnd-gt, part-length}
 use Rattle.definition.specs.Laws.{name-within}
-use Rattle.indexer.specs.Laws.{record-end, record-here}
+use Rattle.indexer.specs.RuleLaws.{record-end, record-here}
 use Rattle.indexer.proofs.index_at.Statement.{statement}
 use Rattle.indexer.proofs.index_at.Tie as tie
 
 returns : tie.Need-returns
-returns c = record-end _ _ (c .if1 .taken)
+returns c = record-end _ _ _ (c .if1 .taken)
 
 line-end-requires : tie.Need-line-end-requires
 line-end-requires c κs = search needs
@@ -59,13 +59,13 @@ returns-2 : tie.Need-returns-2
 returns-2 c =
     let p = c .before .before .before .before .before in
     let l = p .before .before in
-    c .index-sequence .ensures ∙ record-here _ _ _ _ _ (l .before .if1 .left) (l .line-end .ensures) (p .parse-line .ensures) (c .before .before .before .d .given .1)
+    c .index-sequence .ensures ∙ record-here _ _ _ _ _ _ (l .before .if1 .left) (l .line-end .ensures) (p .parse-line .ensures) (c .before .before .before .d .given .1)
 
 returns-3 : tie.Need-returns-3
 returns-3 c =
     let p = c .before .before .before .before in
     let l = p .before .before in
-    rw (c .refusal .ensures) (record-here _ _ _ _ _ (l .before .if1 .left) (l .line-end .ensures) (p .parse-line .ensures) (c .before .before .d2 .given .1))
+    rw (c .refusal .ensures) (record-here _ _ _ _ _ _ (l .before .if1 .left) (l .line-end .ensures) (p .parse-line .ensures) (c .before .before .d2 .given .1))
 
 pub index-at-spec : {M : Type 1} → statement M
 index-at-spec =

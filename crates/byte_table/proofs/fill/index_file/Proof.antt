@@ -2,7 +2,7 @@
 -- Assumes nothing.
 use mathlib.Core.Path.{sym, _∙_}
 use native.Mathlib.Omega.{arith}
-use Rattle.indexer.specs.File.{fileIn}
+use Rattle.indexer.specs.Rule.{callBy}
 use Rattle.byte_table.specs.FillLaws.{filled-bytes, filled-nothing}
 use borrow.Author.Needs.{needs}
 use Rattle.byte_table.proofs.fill.index_file.Statement.{statement}
@@ -12,17 +12,17 @@ over-limit-requires : tie.Need-over-limit-requires
 over-limit-requires c κs = search needs
 
 returns : tie.Need-returns
-unfolding fileIn
+unfolding callBy
 returns c = rw (sym (c .before .over-limit .ensures) ∙ c .if1 .taken) (filled-nothing _ _ (λ i. omega (arith, c .before .before .slice-known .given i)))
 
 index-rows-requires : tie.Need-index-rows-requires
-index-rows-requires c κs = sym (c .before .before .over-limit .ensures) ∙ c .before .if1 .left
+index-rows-requires c κs = search needs
 
 same-length : tie.Need-same-length
 same-length c = search needs
 
 returns-2 : tie.Need-returns-2
-unfolding fileIn
+unfolding callBy
 returns-2 c =
     let u = c .before .before .before .before in
     rw (sym (u .before .over-limit .ensures) ∙ u .if1 .left) (filled-bytes _ _ _ _ (c .before .before .index-rows .ensures) (λ i. omega (arith, c .slice-known2 .given i)))

@@ -7,19 +7,18 @@ use lib.ListN.{length}
 use borrow.Author.Needs.{needs}
 use Rattle.record.specs.Row.{rowWords, rowCount}
 use Rattle.table.specs.Fill.{withFirst}
-use Rattle.indexer.specs.Index.{recordAt}
-use Rattle.indexer.specs.File.{fileAt}
-use Rattle.indexer.specs.FileLaws.{file-row, file-end, file-refused}
+use Rattle.indexer.specs.RuleLaws.{file-row, file-end, file-refused}
+use Rattle.fitting.specs.Rules.{rowsBy}
 use Rattle.byte_table.specs.Laws.{length-numbers}
-use Rattle.byte_table.specs.FillLaws.{OnwardIn, in-start, in-count, in-last, in-full, in-kept, record-within}
+use Rattle.byte_table.specs.FillLaws.{OnwardIn, in-start, in-count, in-last, in-full, in-kept}
 use Rattle.byte_table.proofs.fill.index_rows.Statement.{statement}
 use Rattle.byte_table.proofs.fill.index_rows.Tie as tie
 
 abbrev Inv-loop : tie.InvT-loop
-Inv-loop file table₀ at₀ n₀ table at n = (length table ≡ length table₀) × OnwardIn table₀ (fileAt file 0) n (fileAt file at) table
+Inv-loop file table₀ rule at₀ n₀ table at n = (length table ≡ length table₀) × OnwardIn table₀ (rowsBy rule file 0) n (rowsBy rule file at) table
 
 abbrev μ-loop : tie.MeasureT-loop
-μ-loop file table₀ at₀ n₀ table at n = length file - at
+μ-loop file table₀ rule at₀ n₀ table at n = length file - at
 
 -- so many rows are in, of those that the table has
 counted : (c : tie.At-loop Inv-loop μ-loop) → c .loop .n ≤ length (c .before .before .before .args .table .now) / 8 / rowWords
@@ -29,8 +28,8 @@ counted c = omega (arith, in-count _ _ _ _ _ (c .loop .inv .1), length-numbers (
 loop-holds : tie.Need-loop-holds Inv-loop μ-loop
 loop-holds c = (refl, in-start _ _)
 
-index-record-requires : tie.Need-index-record-requires Inv-loop μ-loop
-index-record-requires c κs = search needs
+index-at-requires : tie.Need-index-at-requires Inv-loop μ-loop
+index-at-requires c κs = search needs
 
 enum-known-answer : tie.Need-enum-known-answer Inv-loop μ-loop
 enum-known-answer c = search needs
@@ -41,15 +40,11 @@ store-requires c κs = search needs
 enum-told : tie.Need-enum-told Inv-loop μ-loop
 enum-told c = search needs
 
--- the step is the one from its place
-here : (c : tie.After-index-record Inv-loop μ-loop) → c .index-record .result ≡ recordAt (c .before .before .before .before .args .file .now) (c .before .loop .at)
-here c = c .index-record .ensures ∙ record-within _ _ (c .before .before .before .before .pre)
-
 -- a turn that finds a record: the file from its place on is that record and the file behind it
 row : (c : tie.After-answer Inv-loop μ-loop) → let l = c .before .before .before in
-    let s = l .before .before .before .args .file .now in let x = c .before .before .index-record .result in
-    (fileAt s (l .loop .at) ≡ withFirst (c .answer .given .0 .0) (fileAt s (x .next .at))) × (l .loop .at < length s) × (l .loop .at < x .next .at)
-row c = file-row _ _ _ (here (c .before .before)) _ (c .answer .given .1)
+    let rows = rowsBy (l .before .before .before .args .rule) (l .before .before .before .args .file .now) in let x = c .before .before .index-at .result in
+    (rows (l .loop .at) ≡ withFirst (c .answer .given .0 .0) (rows (x .next .at))) × (l .loop .at < length (l .before .before .before .args .file .now)) × (l .loop .at < x .next .at)
+row c = file-row _ _ _ _ (c .before .before .index-at .ensures) _ (c .answer .given .1)
 
 add-n : tie.Need-add-n Inv-loop μ-loop
 add-n c = omega (arith, counted (c .before .before .before .before .before .before .before .before .before .before))
@@ -83,7 +78,7 @@ same-length-2 : tie.Need-same-length-2 Inv-loop μ-loop
 same-length-2 c = search needs
 
 returns-2 : tie.Need-returns-2 Inv-loop μ-loop
-returns-2 c = in-last _ _ _ _ _ (c .before .before .before .loop .inv .1) _ (file-end _ _ _ (here (c .before .before)) (c .enum-told2 .given .1))
+returns-2 c = in-last _ _ _ _ _ (c .before .before .before .loop .inv .1) _ (file-end _ _ _ _ (c .before .before .index-at .ensures) (c .enum-told2 .given .1))
 
 enum-known-answer-2 : tie.Need-enum-known-answer-2 Inv-loop μ-loop
 enum-known-answer-2 c = search needs
@@ -92,7 +87,7 @@ same-length-3 : tie.Need-same-length-3 Inv-loop μ-loop
 same-length-3 c = search needs
 
 returns-3 : tie.Need-returns-3 Inv-loop μ-loop
-returns-3 c = in-last _ _ _ _ _ (c .before .before .before .before .loop .inv .1) _ (file-refused _ _ _ (here (c .before .before .before)) _ (c .before .answer2 .given .1))
+returns-3 c = in-last _ _ _ _ _ (c .before .before .before .before .loop .inv .1) _ (file-refused _ _ _ _ (c .before .before .before .index-at .ensures) _ (c .before .answer2 .given .1))
 
 pub index-rows-spec : {M : Type 1} → statement M
 index-rows-spec =
@@ -101,7 +96,7 @@ index-rows-spec =
     Inv-loop
     μ-loop
     loop-holds
-    index-record-requires
+    index-at-requires
     enum-known-answer
     store-requires
     enum-told

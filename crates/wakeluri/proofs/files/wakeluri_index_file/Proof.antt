@@ -1,4 +1,4 @@
--- `wakeluri::files::wakeluri_index_file` meets its contract: what the call answers is told, and what it leaves is left.
+-- `wakeluri::files::wakeluri_index_file` meets its contract: what the call by the original's rule answers is told, and what it leaves is left.
 -- Assumes nothing.
 use Rattle.wakeluri.specs.Laws.{filled-told}
 use borrow.Author.Needs.{needs}

@@ -1,12 +1,12 @@
--- `fitting::first_based` meets its contract: the lines passed have no base, so the sequence may as well begin behind them.
+-- `fitting::past_blank_lines` meets its contract: the lines passed have no base, so the sequence may as well begin behind them.
 -- Assumes nothing.
 use Prim.Native.Nat.{_+_, _-_, _≤_}
 use native.Mathlib.Omega.{arith}
 use lib.ListN.{length}
 use borrow.Author.Needs.{needs}
-use Rattle.fitting.specs.Lay.{Passed, passed-start, passed-blank, found-bases, found-none, line-fits}
-use Rattle.fitting.proofs.first_based.Statement.{statement}
-use Rattle.fitting.proofs.first_based.Tie as tie
+use Rattle.fitting.specs.BlankLines.{Passed, passed-start, passed-blank, found-bases, found-none, line-fits}
+use Rattle.fitting.proofs.past_blank_lines.Statement.{statement}
+use Rattle.fitting.proofs.past_blank_lines.Tie as tie
 
 abbrev Inv-loop : tie.InvT-loop
 Inv-loop s at i₀ i = Passed s at i
@@ -39,8 +39,8 @@ loop-less c = omega (arith, fits (c .before .before .before .before .before))
 loop-again : tie.Need-loop-again Inv-loop μ-loop
 loop-again c = passed-blank _ _ _ (c .before .before .before .before .before .before .loop .inv) _ (c .before .before .before .before .before .sequence-line .ensures) (c .before .before .before .if1 .left)
 
-pub first-based-spec : {M : Type 1} → statement M
-first-based-spec =
+pub past-blank-lines-spec : {M : Type 1} → statement M
+past-blank-lines-spec =
     tie.close
     (tie.spec
     Inv-loop

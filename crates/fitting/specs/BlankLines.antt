@@ -1,4 +1,4 @@
--- What the code finds of where a sequence's bases begin: behind the blank lines.
+-- Over blank lines: what the code finds of the first line that has a base, and of the numbers from there on.
 use Prim.Native.Nat.{ℕ, zero, suc, _+_, _-_, _≤_}
 use mathlib.Core.Path.{_≡_, refl, sym, _∙_}
 use mathlib.Core.List.{List, [], _∷_, _++_}
@@ -12,9 +12,9 @@ use Rattle.lines.specs.Lines.{basesOf, seqAt, firstLine, tailOf, sumWidths, upF
 use Rattle.lines.specs.Laws.{seqAt-next, first-within, first-grows}
 use Rattle.lines.specs.declared.Line.{Line}
 use Rattle.fitting.specs.declared.Numbers.{Numbers}
-use Rattle.fitting.specs.declared.Based.{Based}
-use Rattle.fitting.specs.Fit.{distance, numbersOf, fromBases, numbersAt}
-use Rattle.fitting.specs.FirstLine.{broken-here, numbers-line}
+use Rattle.fitting.specs.declared.LineAt.{LineAt}
+use Rattle.fitting.specs.Complete.{distance, numbersOf, fromBases, numbersAt}
+use Rattle.fitting.specs.FirstLine.{terminated-here, numbers-line}
 
 -- ---- what is said
 
@@ -25,8 +25,8 @@ pub record SameFrom (s : List ℕ) (at p : ℕ) : Type 0 where
   pub behind : at ≤ p
   pub within : p ≤ length s
 
--- the first line from an offset on that has a base
-pub record BasedAt (s : List ℕ) (at : ℕ) (r : Based) : Type 0 where
+-- the first line from an offset on that has a base; where there is none, the end of the sequence
+pub record PastBlank (s : List ℕ) (at : ℕ) (r : LineAt) : Type 0 where
   pub same : SameFrom s at (r .at)
   pub lines : seqAt s (r .at) ≡ fromBases (seqAt s at)
   pub line : r .line ≡ firstLine (seqAt s (r .at))
@@ -73,10 +73,10 @@ module _ (s : List ℕ) (at : ℕ) where
             }
 
     -- the line at i has a base, or there is none
-    found : seqAt s i ≡ fromBases (seqAt s i) → BasedAt s at (record { at = i; line = l })
+    found : seqAt s i ≡ fromBases (seqAt s i) → PastBlank s at (record { at = i; line = l })
     found q = record { same = p .same; lines = q ∙ p .left; line = e }
 
-    pub found-bases : (l .bases ≡ 0 → ⊥) → BasedAt s at (record { at = i; line = l })
+    pub found-bases : (l .bases ≡ 0 → ⊥) → PastBlank s at (record { at = i; line = l })
     unfolding fromBases
     found-bases n = found (go (seqAt s i) (rw e at n))
       where
@@ -84,7 +84,7 @@ module _ (s : List ℕ) (at : ℕ) where
         go [] k = refl
         go (m ∷ ls) k = rw (ne-eqb (length (basesOf m)) 0 k)
 
-    pub found-none : l .width ≡ 0 → BasedAt s at (record { at = i; line = l })
+    pub found-none : l .width ≡ 0 → PastBlank s at (record { at = i; line = l })
     unfolding fromBases
     found-none z = found (go (seqAt s i) refl)
       where
@@ -110,10 +110,10 @@ none-left (l ∷ ls) h = go (eqb (length (basesOf l)) 0) refl h (none-left ls)
     go true e h r = r h
     go false e h r = absurd (eqb-false (length (basesOf l)) 0 e h)
 
-pub no-lines : (s : List ℕ) (at : ℕ) (a : Based) → BasedAt s at a → a .line .bases ≡ 0 → seqAt s (a .at) ≡ []
+pub no-lines : (s : List ℕ) (at : ℕ) (a : LineAt) → PastBlank s at a → a .line .bases ≡ 0 → seqAt s (a .at) ≡ []
 no-lines s at a b z = b .lines ∙ none-left (seqAt s at) (rw (← b .lines, ← b .line) z)
 
-pub no-bases : (s : List ℕ) (at : ℕ) (a : Based) → BasedAt s at a → a .line .bases ≡ 0 → basesAt at (seqAt s at) ≡ []
+pub no-bases : (s : List ℕ) (at : ℕ) (a : LineAt) → PastBlank s at a → a .line .bases ≡ 0 → basesAt at (seqAt s at) ≡ []
 unfolding basesAt
 no-bases s at a b z = sym (b .same .offsets) ∙ rw (no-lines s at a b z)
 
@@ -127,7 +127,7 @@ distance-line line p q (m ∷ ls) n = go (length (basesOf m)) n
     go zero h = absurd (h refl)
     go (suc k) h = refl
 
-module _ (s : List ℕ) (at : ℕ) (h : at ≤ length s) (a : Based) (b : BasedAt s at a) where
+module _ (s : List ℕ) (at : ℕ) (h : at ≤ length s) (a : LineAt) (b : PastBlank s at a) where
   pub numbers-none : a .line .bases ≡ 0 → NumbersAt s at (record { position = at; bases = 1; width = 2 })
   unfolding numbersAt numbersOf
   numbers-none z = record { numbers = rw (no-bases s at a b z); same = same-start s at h }
@@ -148,9 +148,9 @@ module _ (s : List ℕ) (at : ℕ) (h : at ≤ length s) (a : Based) (b : BasedA
       go [] q k = absurd (k refl)
       go (m ∷ ls) q k =
           let t : seqAt s (a .at + length m) ≡ ls = rw q at (seqAt-next s (a .at) (b .same .within)) in
-          rw t (numbers-line at (length m) (a .at) m ls (omega (arith, k)) (rw q at (broken-here s (a .at) (b .same .within))))
+          rw t (numbers-line at (length m) (a .at) m ls (omega (arith, k)) (rw q at (terminated-here s (a .at) (b .same .within))))
 
-  module _ (n : a .line .bases ≡ 0 → ⊥) (c : Based) (d : BasedAt s (a .at + a .line .width) c) where
+  module _ (n : a .line .bases ≡ 0 → ⊥) (c : LineAt) (d : PastBlank s (a .at + a .line .width) c) where
     pub numbers-run : c .line .bases ≡ 0 → NumbersAt s at (record { position = a .at; bases = a .line .bases; width = a .line .width })
     unfolding distance
     numbers-run z = record { numbers = sym (first-numbers n ∙ rw (no-bases s (a .at + a .line .width) c d z)); same = b .same }

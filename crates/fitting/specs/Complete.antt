@@ -1,6 +1,6 @@
--- The complete indexer's rule for one record. By the line rule its bases lie at some offsets. Its position is the first of them, its line
--- bases are how many lie side by side from there, and its line width is how far the first base behind those is from the first of all;
--- where no base is behind them, the width of their line. If these numbers lead to every base, they are the row. Else no numbers do.
+-- The complete rule for one record. By the line rule its bases lie at some offsets. Its position is the first of them, its line bases are
+-- how many lie side by side from there, and its line width is how far the first base behind those is from the first of all; where no
+-- base is behind them, the width of their line. If these numbers lead to every base, they are the row. Else no numbers do (Leads.antt).
 use Prim.Native.Nat.{ℕ, suc, _+_, _-_}
 use mathlib.Core.List.{List, [], _∷_}
 use mathlib.Core.Bool.{cond}
@@ -8,15 +8,10 @@ use lib.ListN.{length, drop}
 use lib.Dec.{eqb}
 use Rattle.refusal.specs.declared.Refusal.the-variants.{NoIndexFits}
 use Rattle.lines.specs.declared.Span.{Span}
-use Rattle.lines.specs.Lines.{lines, basesOf, seqOf, firstLine, sumBases, sumWidths, basesAt}
-use Rattle.definition.specs.declared.Parsed.{Parsed}
-use Rattle.definition.specs.declared.Parsed.the-variants.{Named, Bad}
-use Rattle.definition.specs.Definition.{lineSays, refusalOf}
+use Rattle.lines.specs.Lines.{basesOf, firstLine, sumBases, basesAt}
 use Rattle.record.specs.Place.{placeOf}
 use Rattle.record.specs.declared.Record.{Record}
-use Rattle.indexer.specs.Index.{Verdict, good, bad}
-use Rattle.indexer.specs.declared.Indexed.the-variants as indexed
-use Rattle.indexer.specs.declared.Step.{Step}
+use Rattle.indexer.specs.Rule.{Verdict, good, bad, SequenceRule}
 use Rattle.walking.specs.Places.{firstElsewhere}
 use Rattle.walking.specs.declared.Placed.{Placed}
 use Rattle.walking.specs.declared.Placed.the-variants.{There, Elsewhere}
@@ -77,24 +72,6 @@ rowOf at n name ls =
       «line_width» = numbersAt (at + n) ls .width;
     }
 
--- an answer, with the place behind a record, or the place where it was
-abbrev pub judgedAs : ℕ → ℕ → Span → List (List ℕ) → Verdict → Step
-judgedAs at n name ls good = record { answer = indexed.Row (rowOf at n name ls); next = record { at = at + n + sumWidths ls } }
-judgedAs at n name ls (bad x) = record { answer = indexed.Refused x; next = record { at = at } }
-
--- a record whose definition line has been read
-unfoldable pub sequenceSays : ℕ → ℕ → Span → List (List ℕ) → Step
-sequenceSays at n name ls = judgedAs at n name ls (fit (at + n) ls)
-
-abbrev pub definedAs : ℕ → ℕ → List (List ℕ) → Parsed → Step
-definedAs at n ls (Named d) = sequenceSays at n (d .name) ls
-definedAs at n ls (Bad f) = record { answer = indexed.Refused (refusalOf f 0); next = record { at = at } }
-
--- the record whose definition is the first of some lines, which begin at an offset
-abbrev pub recordOf : ℕ → List (List ℕ) → Step
-recordOf at [] = record { answer = indexed.End; next = record { at = at } }
-recordOf at (d ∷ ls) = definedAs at (length d) (seqOf ls) (lineSays d)
-
--- the record at an offset of a file
-unfoldable pub fittedAt : List ℕ → ℕ → Step
-fittedAt s at = recordOf at (lines (drop at s))
+-- the rule
+abbrev pub complete : SequenceRule
+complete = record { judge = fit; row = rowOf }

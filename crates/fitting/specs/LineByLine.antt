@@ -14,55 +14,55 @@ use Rattle.lines.specs.Laws.{seqAt-next, first-within}
 use Rattle.record.specs.Place.{placeOf}
 use Rattle.record.specs.Laws.{place-first}
 use Rattle.record.specs.EvenLines.{length-upFrom, getD-upFrom, length-basesAt}
-use Rattle.indexer.specs.Index.{Verdict, good}
+use Rattle.indexer.specs.Rule.{Verdict, good}
 use Rattle.walking.specs.Places.{firstElsewhere}
 use Rattle.walking.specs.PlaceLaws.{firstOf, all-there, elsewhere-append}
 use Rattle.walking.specs.declared.Placed.{Placed}
 use Rattle.walking.specs.declared.Placed.the-variants.{There, Elsewhere}
 use Rattle.fitting.specs.declared.Numbers.{Numbers}
-use Rattle.fitting.specs.Fit.{distance, numbersOf, fromBases, numbersAt, placeBy, placesSay, fit}
-use Rattle.fitting.specs.FirstLine.{Broken, broken-here, numbers-line}
+use Rattle.fitting.specs.Complete.{distance, numbersOf, fromBases, numbersAt, placeBy, placesSay, fit}
+use Rattle.fitting.specs.FirstLine.{Terminated, terminated-here, numbers-line}
 
 -- ---- the value
 
 -- no base so far; one run, from p on, of b bases, in a line of some width; or rows by position, line bases and line width, with how many
 -- bases they have, and the first that is elsewhere
-pub data Taken : Type 0 where
-  blank : Taken
-  run : (p b line : ℕ) → Taken
-  rows : (n : Numbers) (bases : ℕ) (placed : Placed) → Taken
+pub data SoFar : Type 0 where
+  blank : SoFar
+  run : (p b line : ℕ) → SoFar
+  rows : (n : Numbers) (bases : ℕ) (placed : Placed) → SoFar
 
 -- bases from an offset on, behind i others
-unfoldable pub more : Numbers → ℕ → Placed → ℕ → ℕ → Taken
+unfoldable pub more : Numbers → ℕ → Placed → ℕ → ℕ → SoFar
 more n i v at b = rows n (i + b) (firstOf v (firstElsewhere (placeBy n) i (upFrom at b)))
 
 -- a line with a base, which begins at an offset
-unfoldable pub takeBases : Taken → ℕ → ℕ → ℕ → Taken
+unfoldable pub takeBases : SoFar → ℕ → ℕ → ℕ → SoFar
 takeBases blank at w b = run at b w
 takeBases (run p k line) at w b = more (record { position = p; bases = k; width = at - p }) k There at b
 takeBases (rows n i v) at w b = more n i v at b
 
 -- a line: without a base it changes nothing
-unfoldable pub takeLine : Taken → ℕ → ℕ → ℕ → Taken
+unfoldable pub takeLine : SoFar → ℕ → ℕ → ℕ → SoFar
 takeLine t at w b = cond (eqb b 0) t (takeBases t at w b)
 
 -- some lines, the first of which begins at an offset
-unfoldable pub takeLines : Taken → ℕ → List (List ℕ) → Taken
+unfoldable pub takeLines : SoFar → ℕ → List (List ℕ) → SoFar
 takeLines t at [] = t
 takeLines t at (l ∷ ls) = takeLines (takeLine t at (length l) (length (basesOf l))) (at + length l) ls
 
 -- what it tells of a sequence that begins at an offset
-abbrev pub numbersTold : ℕ → Taken → Numbers
+abbrev pub numbersTold : ℕ → SoFar → Numbers
 numbersTold start blank = record { position = start; bases = 1; width = 2 }
 numbersTold start (run p b line) = record { position = p; bases = b; width = line }
 numbersTold start (rows n i v) = n
 
-abbrev pub basesTold : Taken → ℕ
+abbrev pub basesTold : SoFar → ℕ
 basesTold blank = 0
 basesTold (run p b line) = b
 basesTold (rows n i v) = i
 
-abbrev pub verdictTold : Taken → Verdict
+abbrev pub verdictTold : SoFar → Verdict
 verdictTold blank = good
 verdictTold (run p b line) = good
 verdictTold (rows n i v) = placesSay v
@@ -93,7 +93,7 @@ rows-told (l ∷ ls) n i v at = go (eqb (length (basesOf l)) 0) refl (λ k u. ro
 
 -- ---- lines behind the first run
 
-abbrev runOn : ℕ → ℕ → ℕ → List ℕ → ℕ → Taken
+abbrev runOn : ℕ → ℕ → ℕ → List ℕ → ℕ → SoFar
 runOn p k line [] n = run p k line
 runOn p k line (q ∷ os) n = rows (record { position = p; bases = k; width = q - p }) (k + n) (firstElsewhere (placeOf p k (q - p)) k (q ∷ os))
 
@@ -114,16 +114,16 @@ run-told (l ∷ ls) p k line at = go (length (basesOf l)) (run-told ls p k line 
 -- ---- all lines
 
 -- each line has a byte behind its bases, if another follows
-pub data AllBroken : List (List ℕ) → Type 0 where
-  no-line : AllBroken []
-  one-more : {l : List ℕ} {ls : List (List ℕ)} → Broken (l ∷ ls) → AllBroken ls → AllBroken (l ∷ ls)
+pub data AllTerminated : List (List ℕ) → Type 0 where
+  no-line : AllTerminated []
+  one-more : {l : List ℕ} {ls : List (List ℕ)} → Terminated (l ∷ ls) → AllTerminated ls → AllTerminated (l ∷ ls)
 
-pub all-broken : (s : List ℕ) (ls : List (List ℕ)) (at : ℕ) → at ≤ length s → seqAt s at ≡ ls → AllBroken ls
-all-broken s [] at h e = no-line
-all-broken s (l ∷ ls) at h e = one-more (rw e at (broken-here s at h)) (all-broken s ls (at + length l) (rw e at (first-within s at h)) (rw e at (seqAt-next s at h)))
+pub all-terminated : (s : List ℕ) (ls : List (List ℕ)) (at : ℕ) → at ≤ length s → seqAt s at ≡ ls → AllTerminated ls
+all-terminated s [] at h e = no-line
+all-terminated s (l ∷ ls) at h e = one-more (rw e at (terminated-here s at h)) (all-terminated s ls (at + length l) (rw e at (first-within s at h)) (rw e at (seqAt-next s at h)))
 
 -- what is told is what the rule says
-pub record Told (start at : ℕ) (ls : List (List ℕ)) (t : Taken) : Type 0 where
+pub record Told (start at : ℕ) (ls : List (List ℕ)) (t : SoFar) : Type 0 where
   pub numbers : numbersTold start t ≡ numbersOf start (firstLine (fromBases ls) .width) (basesAt at ls)
   pub verdict : verdictTold t ≡ placesSay (firstElsewhere (placeBy (numbersTold start t)) 0 (basesAt at ls))
   pub bases : basesTold t ≡ sumBases ls
@@ -143,7 +143,7 @@ none-elsewhere : (f : ℕ → ℕ) (i : ℕ) → firstElsewhere f i [] ≡ There
 unfolding firstElsewhere
 none-elsewhere f i = refl
 
-lines-told : (start at : ℕ) (ls : List (List ℕ)) → AllBroken ls → Told start at ls (takeLines blank at ls)
+lines-told : (start at : ℕ) (ls : List (List ℕ)) → AllTerminated ls → Told start at ls (takeLines blank at ls)
 unfolding takeLines takeLine takeBases numbersOf distance fromBases basesAt upFrom sumBases
 lines-told start at [] b = record { numbers = refl; verdict = rw none-elsewhere; bases = refl }
 lines-told start at (l ∷ ls) (one-more b bs) = go (eqb (length (basesOf l)) 0) refl (lines-told start (at + length l) ls bs)
@@ -174,7 +174,7 @@ lines-told start at (l ∷ ls) (one-more b bs) = go (eqb (length (basesOf l)) 0)
     go false e r = first (omega (arith, eqb-false (length (basesOf l)) 0 e))
 
 -- of the sequence lines of a file from an offset on
-pub record ToldOf (start : ℕ) (ls : List (List ℕ)) (t : Taken) : Type 0 where
+pub record ToldOf (start : ℕ) (ls : List (List ℕ)) (t : SoFar) : Type 0 where
   pub numbers : numbersTold start t ≡ numbersAt start ls
   pub verdict : verdictTold t ≡ fit start ls
   pub bases : basesTold t ≡ sumBases ls
@@ -182,5 +182,5 @@ pub record ToldOf (start : ℕ) (ls : List (List ℕ)) (t : Taken) : Type 0 wher
 pub line-by-line : (s : List ℕ) (start : ℕ) → start ≤ length s → ToldOf start (seqAt s start) (takeLines blank start (seqAt s start))
 unfolding numbersAt fit
 line-by-line s start h =
-    let r = lines-told start start (seqAt s start) (all-broken s (seqAt s start) start h refl) in
+    let r = lines-told start start (seqAt s start) (all-terminated s (seqAt s start) start h refl) in
     record { numbers = r .numbers; verdict = r .verdict ∙ rw (r .numbers); bases = r .bases }
