@@ -15,7 +15,7 @@ use Rattle.record.specs.Row.{rowWords, rowCount, namedAt}
 use Rattle.record.specs.Laws.{held-lacking, named-refused}
 use Rattle.index.specs.declared.Found.{Found}
 use Rattle.index.specs.declared.Found.the-variants as found
-use Rattle.index.specs.Find.{named, rowFrom, rowOf}
+use Rattle.index.specs.Find.{named, rowFrom, rowNamed}
 use Rattle.index.specs.Laws.{from-refused, from-found, from-next}
 use Rattle.byte_table.specs.declared.rows.Names.the-variants.{Within}
 use Rattle.byte_table.specs.declared.search.Compared.{Compared}
@@ -31,9 +31,9 @@ module _ (names one name : List ℕ) (d : Held) (hd : d ≡ namedAt one 1 0 (len
   unfolding comparedOf
   compared-bad f q = rw (← hd, q)
 
-  module _ (x : Record) (q : d ≡ held.Row x) (r : Found) (hr : r ≡ rowOf names one 1 name) where
+  module _ (x : Record) (q : d ≡ held.Row x) (r : Found) (hr : r ≡ rowNamed names one 1 name) where
     found-here : r ≡ cond (named names x name) (found.Row 0) (found.Refused NameUnknown)
-    unfolding rowOf rowFrom
+    unfolding rowNamed rowFrom
     found-here = hr ∙ rw (← hd, q)
 
     compared : (v : Compared) → cond (named names x name) Named Other ≡ v → v ≡ comparedOf names name (namedAt one 1 0 (length names))
@@ -63,8 +63,8 @@ stepped r Bad f = found.Refused (BadRow r)
 stepped r Other f = f
 
 module _ (names t : List ℕ) (n : ℕ) (name : List ℕ) where
-  pub find-lacking : (m : ℕ) → m ≡ rowCount t → m < n → found.Refused (BadRow m) ≡ rowOf names t n name
-  unfolding rowOf
+  pub find-lacking : (m : ℕ) → m ≡ rowCount t → m < n → found.Refused (BadRow m) ≡ rowNamed names t n name
+  unfolding rowNamed
   find-lacking m e h =
       rw e
       (sym (from-refused names t n name 0 (omega arith) _ refl (BadRow (rowCount t)) (named-refused t n 0 (length names) (BadRow (rowCount t)) (sym (held-lacking t n 0 (rw e at h)))))

@@ -8,7 +8,7 @@ use native.Mathlib.Nat.{pow-suc, one-le-pow, div-lt-iff-lt-mul}
 use lib.ListN.{length, drop-of-length-le, List·getD-eq-default, getD, take, drop, set, length-append, length-drop, take-append-drop}
 use lib.Seq.{length-take-le, take-suc, drop-length, set-out, take-all, take-suc-set, sets, drop-cons, drop-drop, take-add, getD-take, getD-drop, take-at, drop-at}
 use lib.Dec.{lit<}
-use Rattle.byte_table.specs.Numbers.{fromBytes, toBytes, numbersOf, numbersIn, restOf, bytesOf, withNumbers}
+use Rattle.byte_table.specs.Numbers.{fromBytes, toBytes, firstNumbers, numbersIn, restOf, bytesOf, withNumbers}
 
 -- ---- one number
 
@@ -67,8 +67,8 @@ to-all bs ds i n v e h q =
 
 -- ---- the numbers of a table
 
-length-numbersOf : (n : ℕ) (t : List ℕ) → length (numbersOf n t) ≡ n
-unfolding numbersOf
+length-numbersOf : (n : ℕ) (t : List ℕ) → length (firstNumbers n t) ≡ n
+unfolding firstNumbers
 length-numbersOf zero t = refl
 length-numbersOf (suc n) t = ap suc (length-numbersOf n (drop 8 t))
 
@@ -80,8 +80,8 @@ length-numbers t = length-numbersOf (length t / 8) t
 eight : (k : ℕ) → suc k * 8 ≡ 8 + k * 8
 eight k = omega arith
 
-numbersOf-at : (n : ℕ) (t : List ℕ) (k : ℕ) → k < n → getD (numbersOf n t) k 0 ≡ fromBytes (take 8 (drop (k * 8) t))
-unfolding numbersOf
+numbersOf-at : (n : ℕ) (t : List ℕ) (k : ℕ) → k < n → getD (firstNumbers n t) k 0 ≡ fromBytes (take 8 (drop (k * 8) t))
+unfolding firstNumbers
 numbersOf-at zero t k h = absurd (omega arith)
 numbersOf-at (suc n) t zero h = refl
 numbersOf-at (suc n) t (suc k) h = rw (eight k, ← drop-drop) (numbersOf-at n (drop 8 t) k (omega arith))
@@ -109,8 +109,8 @@ laid t k bs = take (k * 8) t ++ (bs ++ drop 8 (drop (k * 8) t))
 laid-on : (t : List ℕ) (k : ℕ) (bs : List ℕ) → laid t (suc k) bs ≡ take 8 t ++ laid (drop 8 t) k bs
 laid-on t k bs = rw (eight k, take-add, append-assoc, ← drop-drop)
 
-numbersOf-laid : (n : ℕ) (t : List ℕ) (k v : ℕ) → n * 8 ≤ length t → k < n → v < 256 ^ 8 → numbersOf n (laid t k (toBytes 8 v)) ≡ set (numbersOf n t) k v
-unfolding numbersOf
+numbersOf-laid : (n : ℕ) (t : List ℕ) (k v : ℕ) → n * 8 ≤ length t → k < n → v < 256 ^ 8 → firstNumbers n (laid t k (toBytes 8 v)) ≡ set (firstNumbers n t) k v
+unfolding firstNumbers
 numbersOf-laid zero t k v h m f = absurd (omega arith)
 numbersOf-laid (suc n) t zero v h m f =
     rw (take-at (toBytes 8 v) (drop 8 t) 8 (length-toBytes 8 v), drop-at (toBytes 8 v) (drop 8 t) 8 (length-toBytes 8 v), from-to 8 v f)
@@ -173,8 +173,8 @@ sets-all t vs k i h = rw (drop-of-length-le vs h)
 
 -- ---- a table's bytes from its numbers and its rest
 
-numbersOf-back : (n : ℕ) (t : List ℕ) → n * 8 ≤ length t → ((i : ℕ) → getD t i 0 < 256) → bytesOf (numbersOf n t) ++ drop (n * 8) t ≡ t
-unfolding numbersOf bytesOf
+numbersOf-back : (n : ℕ) (t : List ℕ) → n * 8 ≤ length t → ((i : ℕ) → getD t i 0 < 256) → bytesOf (firstNumbers n t) ++ drop (n * 8) t ≡ t
+unfolding firstNumbers bytesOf
 numbersOf-back zero t h m = refl
 numbersOf-back (suc n) t h m =
     let e : length (take 8 t) ≡ 8 = length-take-le 8 t (omega arith) in

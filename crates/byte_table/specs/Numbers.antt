@@ -18,13 +18,13 @@ toBytes (suc k) v = v % 256 ∷ toBytes k (v / 256)
 -- ---- a table
 
 -- the first n numbers of some bytes
-unfoldable pub numbersOf : ℕ → List ℕ → List ℕ
-numbersOf zero t = []
-numbersOf (suc n) t = fromBytes (take 8 t) ∷ numbersOf n (drop 8 t)
+unfoldable pub firstNumbers : ℕ → List ℕ → List ℕ
+firstNumbers zero t = []
+firstNumbers (suc n) t = fromBytes (take 8 t) ∷ firstNumbers n (drop 8 t)
 
 -- the numbers of a table; a rest of less than eight bytes is none
 unfoldable pub numbersIn : List ℕ → List ℕ
-numbersIn t = numbersOf (length t / 8) t
+numbersIn t = firstNumbers (length t / 8) t
 
 -- the rest
 unfoldable pub restOf : List ℕ → List ℕ

@@ -10,7 +10,7 @@ ghost use mathlib.Core.Path.{_≡_};
 ghost use Prim.Native.Nat.{_<_, _≤_};
 ghost use lib.ListN.{length};
 ghost use Rattle.record.specs.Row.{rowCount, namedAt};
-ghost use Rattle.index.specs.Find.{rowOf, rowRead};
+ghost use Rattle.index.specs.Find.{rowNamed, rowRead};
 ghost use Rattle.byte_table.specs.Numbers.{numbersIn};
 ghost use Rattle.byte_table.specs.Find.{comparedOf};
 
@@ -46,7 +46,7 @@ fn compare(names: &[u8], table: &[u8], in_use: usize, row: usize, name: &[u8]) -
 
 // The first of the rows in use that has the name; no size limit is judged.
 fn find_row(names: &[u8], table: &[u8], in_use: usize, name: &[u8]) -> Found
-    ensures { λ r. ⌜ r ≡ rowOf (now (names .entry)) (numbersIn (now (table .entry))) «in_use» (now (name .entry)) ⌝ }
+    ensures { λ r. ⌜ r ≡ rowNamed (now (names .entry)) (numbersIn (now (table .entry))) «in_use» (now (name .entry)) ⌝ }
 {
     let all = rows::count(table);
     if all < in_use {

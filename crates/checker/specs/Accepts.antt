@@ -36,9 +36,9 @@ sequenceAt gs k = bytesOf (take k gs) + length (recordAt gs k .def)
 -- the definition line of a record reads, and line number n of the index reads
 pub record BothRead (n : ℕ) (g : Group) (l : List ℕ) : Type 0 where
   pub said : Definition
-  pub defined : definition.lineSays (g .def) ≡ Named said
+  pub defined : definition.definitionSays (g .def) ≡ Named said
   pub entry : Entry
-  pub reads : index.lineSays n l ≡ Row entry
+  pub reads : index.indexLineSays n l ≡ Row entry
 
 -- they have the same name bytes
 abbrev pub SameName : {n : ℕ} {g : Group} {l : List ℕ} → BothRead n g l → Type 0

@@ -1,4 +1,4 @@
--- What the checker answers, in document 01's words: record by record 2 to 4, 19, 9 to 12, 21, 22, 23; last 20.
+-- What the checker answers (docs/RULES.md, R43): record by record 2 to 4, 19, 9 to 12, 21, 22, 23; last 20.
 use Prim.Native.Nat.{ℕ, suc, _+_}
 use mathlib.Core.List.{List, [], _∷_}
 use mathlib.Core.Bool.{cond}
@@ -45,14 +45,14 @@ unfoldable pub entrySays : ℕ → ℕ → List ℕ → List (List ℕ) → List
 entrySays n start name seq named x = cond (sameBytes name named) (sequenceSays n start seq x) (Refused (refusal.NameDiffers n))
 
 -- 9 to 12: against what its line says
-abbrev pub lineSays : ℕ → ℕ → List ℕ → List (List ℕ) → List ℕ → LineRead → Verdict
-lineSays n start name seq l (read.Refused x) = Refused x
-lineSays n start name seq l (read.Row e) = entrySays n start name seq (nameOf l) (e .«record»)
+abbrev pub lineJudged : ℕ → ℕ → List ℕ → List (List ℕ) → List ℕ → LineRead → Verdict
+lineJudged n start name seq l (read.Refused x) = Refused x
+lineJudged n start name seq l (read.Row e) = entrySays n start name seq (nameOf l) (e .«record»)
 
 -- 19: against the first of the lines that are left
 unfoldable pub againstLines : ℕ → ℕ → List ℕ → List (List ℕ) → List (List ℕ) → Verdict
 againstLines n start name seq [] = Refused (refusal.LineAbsent n)
-againstLines n start name seq (l ∷ ls) = lineSays n start name seq l (index.lineSays n l)
+againstLines n start name seq (l ∷ ls) = lineJudged n start name seq l (index.indexLineSays n l)
 
 -- 2 to 4
 abbrev pub definedSays : ℕ → ℕ → Group → List (List ℕ) → Parsed → Verdict
@@ -61,7 +61,7 @@ definedSays n start g ls (Named d) = againstLines n start (spanOf (g .def) (d .n
 
 -- record n, whose sequence begins at an offset, against the lines that are left
 unfoldable pub recordSays : ℕ → ℕ → Group → List (List ℕ) → Verdict
-recordSays n start g ls = definedSays n start g ls (definition.lineSays (g .def))
+recordSays n start g ls = definedSays n start g ls (definition.definitionSays (g .def))
 
 -- the first refusal of two
 abbrev pub andThen : Verdict → Verdict → Verdict

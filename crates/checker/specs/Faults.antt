@@ -1,4 +1,4 @@
--- Each refusal of the checker means what document 01 says that it means, the first fault in the given order; and where that is the
+-- Each refusal of the checker means what R43 of docs/RULES.md says, the first fault in the given order; and where that is the
 -- first fault, the checker gives that refusal. FirstFault.antt says what each is.
 use Prim.Native.Nat.{ℕ}
 use mathlib.Core.Path.{_≡_}

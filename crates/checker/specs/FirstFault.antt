@@ -1,4 +1,4 @@
--- What each refusal of the checker means: the first fault in document 01's order, record by record. That the checker refuses exactly
+-- What each refusal of the checker means: the first fault in the order of R43 (docs/RULES.md), record by record. That the checker refuses exactly
 -- so is in Faults.antt.
 use Prim.Native.Nat.{ℕ, suc, _≤_, _<_}
 use mathlib.Core.Path.{_≡_}
@@ -20,7 +20,7 @@ use Rattle.checker.specs.Accepts.{recordAt, sequenceAt, BothRead, SameNa
 -- what is wrong between record n, whose definition line reads and whose sequence begins at an offset, and its line
 pub data LineFault (n start : ℕ) (g : Group) (l : List ℕ) : Refusal → Type 0 where
   -- 9 to 12: the line does not read
-  bad-line : (x : Refusal) → index.lineSays n l ≡ Refused x → LineFault n start g l x
+  bad-line : (x : Refusal) → index.indexLineSays n l ≡ Refused x → LineFault n start g l x
   -- 21: it reads, and has another name
   other-name : (b : BothRead n g l) → (SameName b → ⊥) → LineFault n start g l (NameDiffers n)
   -- 22: it has the same name, and another count of bases
@@ -32,11 +32,11 @@ pub data LineFault (n start : ℕ) (g : Group) (l : List ℕ) : Refusal → Type
 -- what is wrong with record n, where some lines of the index are left
 pub data RecordFault (n start : ℕ) (g : Group) : List (List ℕ) → Refusal → Type 0 where
   -- 2 to 4: its definition line does not read
-  bad-definition : {left : List (List ℕ)} → (e : Fault) → definition.lineSays (g .def) ≡ Bad e → RecordFault n start g left (refusalOf e n)
+  bad-definition : {left : List (List ℕ)} → (e : Fault) → definition.definitionSays (g .def) ≡ Bad e → RecordFault n start g left (refusalOf e n)
   -- 19: it reads, and no line is left
-  no-line : (d : Definition) → definition.lineSays (g .def) ≡ Named d → RecordFault n start g [] (LineAbsent n)
+  no-line : (d : Definition) → definition.definitionSays (g .def) ≡ Named d → RecordFault n start g [] (LineAbsent n)
   -- it reads, and the next line is wrong
-  wrong-line : {l : List ℕ} {left : List (List ℕ)} {x : Refusal} → (d : Definition) → definition.lineSays (g .def) ≡ Named d → LineFault n start g l x → RecordFault n start g (l ∷ left) x
+  wrong-line : {l : List ℕ} {left : List (List ℕ)} {x : Refusal} → (d : Definition) → definition.definitionSays (g .def) ≡ Named d → LineFault n start g l x → RecordFault n start g (l ∷ left) x
 
 -- a file and an index have a first fault
 pub data FirstFault (f i : List ℕ) : Refusal → Type 0 where

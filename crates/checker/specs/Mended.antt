@@ -1,4 +1,4 @@
--- K14, its first part: one byte of a file that is a base is replaced by a byte other than LF, CR and '>'. The file has the same records, but
+-- Mending a base (docs/RULES.md, R55), its first part: one byte of a file that is a base is replaced by a byte other than LF, CR and '>'. The file has the same records, but
 -- for that base; every base stays where it was; and an index that was accepted is accepted still.
 use Prim.Native.Nat.{ℕ, zero, suc, _+_, _-_, _<_}
 use mathlib.Core.Path.{_≡_, refl, ap, sym, _∙_}

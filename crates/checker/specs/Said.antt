@@ -27,7 +27,7 @@ use Rattle.index_line.specs.declared.LineRead.the-variants as read
 use Rattle.walking.specs.Places.{firstElsewhere}
 use Rattle.walking.specs.PlaceLaws.{PlacesSaid, places-said, places-only}
 use Rattle.walking.specs.PlaceLaws.PlacesSaid.{all, one}
-use Rattle.checker.specs.Check.{spanOf, placesSay, sequenceSays, entrySays, lineSays, againstLines, definedSays, recordSays, andThen, recordsSay, checkOf}
+use Rattle.checker.specs.Check.{spanOf, placesSay, sequenceSays, entrySays, lineJudged, againstLines, definedSays, recordSays, andThen, recordsSay, checkOf}
 use Rattle.checker.specs.Accepts.{bytesOf, recordAt, sequenceAt, BothRead, SameName, SameLength, Matches, limit, Fit, MatchesAt, Accepts}
 use Rattle.checker.specs.FirstFault.{LineFault, RecordFault, FirstFault}
 use Rattle.checker.specs.FirstFault.LineFault.{bad-line, other-name, other-length, other-place}
@@ -79,11 +79,11 @@ module _ (n start : ℕ) (g : Group) (l : List ℕ) where
         go true e = said-length (same-true _ _ e)
         go false e = faulty (other-name b (same-false _ _ e))
 
-  module _ (d : Definition) (h : definition.lineSays (g .def) ≡ Named d) where
-    line-said : LineSaid n start g l (lineSays n start (spanOf (g .def) (d .name)) (g .seq) l (index.lineSays n l))
-    line-said = go (index.lineSays n l) refl
+  module _ (d : Definition) (h : definition.definitionSays (g .def) ≡ Named d) where
+    line-said : LineSaid n start g l (lineJudged n start (spanOf (g .def) (d .name)) (g .seq) l (index.indexLineSays n l))
+    line-said = go (index.indexLineSays n l) refl
       where
-        go : (r : LineRead) → index.lineSays n l ≡ r → LineSaid n start g l (lineSays n start (spanOf (g .def) (d .name)) (g .seq) l r)
+        go : (r : LineRead) → index.indexLineSays n l ≡ r → LineSaid n start g l (lineJudged n start (spanOf (g .def) (d .name)) (g .seq) l r)
         go (read.Refused x) e = faulty (bad-line x e)
         go (read.Row e) k = said-name (record { said = d; defined = h; entry = e; reads = k })
 
@@ -104,7 +104,7 @@ module _ (n start : ℕ) (g : Group) (l : List ℕ) where
       unfolding sequenceSays
       same-length s c p h = same-name s ∙ rw (eq-eqb _ _ c, ← places-only _ _ _ _ h)
 
-    line-only : (v : Verdict) (d : Definition) → definition.lineSays (g .def) ≡ Named d → LineSaid n start g l v → recordSays n start g (l ∷ left) ≡ v
+    line-only : (v : Verdict) (d : Definition) → definition.definitionSays (g .def) ≡ Named d → LineSaid n start g l v → recordSays n start g (l ∷ left) ≡ v
     unfolding recordSays againstLines entrySays sequenceSays
     line-only v d h (matches m) = same-length (m .both) (m .name) (m .count) There (all (λ j k. rw zero-add (m .places j (rw length-basesAt at k))))
     line-only v d h (faulty (bad-line x e)) = rw (h, e)
@@ -123,13 +123,13 @@ pub data RecordSaid (n start : ℕ) (g : Group) : List (List ℕ) → Verdict �
 
 record-said : (n start : ℕ) (g : Group) (left : List (List ℕ)) → RecordSaid n start g left (recordSays n start g left)
 unfolding recordSays againstLines
-record-said n start g left = go (definition.lineSays (g .def)) refl left
+record-said n start g left = go (definition.definitionSays (g .def)) refl left
   where
-    line : (d : Definition) → definition.lineSays (g .def) ≡ Named d → (l : List ℕ) (left : List (List ℕ)) (v : Verdict) → LineSaid n start g l v → RecordSaid n start g (l ∷ left) v
+    line : (d : Definition) → definition.definitionSays (g .def) ≡ Named d → (l : List ℕ) (left : List (List ℕ)) (v : Verdict) → LineSaid n start g l v → RecordSaid n start g (l ∷ left) v
     line d h l left v (matches m) = matching m
     line d h l left v (faulty e) = wrong (wrong-line d h e)
 
-    go : (p : Parsed) → definition.lineSays (g .def) ≡ p → (left : List (List ℕ)) → RecordSaid n start g left (definedSays n start g left p)
+    go : (p : Parsed) → definition.definitionSays (g .def) ≡ p → (left : List (List ℕ)) → RecordSaid n start g left (definedSays n start g left p)
     go (Bad e) h left = wrong (bad-definition e h)
     go (Named d) h [] = wrong (no-line d h)
     go (Named d) h (l ∷ left) = line d h l left _ (line-said n start g l d h)
@@ -205,7 +205,7 @@ all-said (g ∷ gs) k at ls = go ls (recordSays (suc k) (at + length (g .def)) g
 
 -- a line without bytes does not read, so nothing matches it
 no-bytes : (n start : ℕ) (g : Group) → Matches n start g [] → ⊥
-unfolding index.lineSays index.contentSays fieldsOf contentOf ends
+unfolding index.indexLineSays index.contentSays fieldsOf contentOf ends
 no-bytes n start g m =
     let e = m .both .reads in
     let z : _≡_ {A = ℕ} 0 1 = cc in

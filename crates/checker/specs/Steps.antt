@@ -36,7 +36,7 @@ use Rattle.index_line.specs.declared.Entry.{Entry}
 use Rattle.index_line.specs.declared.LineRead.the-variants as read
 use Rattle.walking.specs.Places.{firstElsewhere, walkedAs}
 use Rattle.lines.specs.Sums.{widths-within}
-use Rattle.checker.specs.Check.{spanOf, sequenceSays, entrySays, lineSays, againstLines, definedSays, recordSays, andThen, recordsSay, checkOf}
+use Rattle.checker.specs.Check.{spanOf, sequenceSays, entrySays, lineJudged, againstLines, definedSays, recordSays, andThen, recordsSay, checkOf}
 use Rattle.walking.specs.declared.Placed.the-variants.{There, Elsewhere}
 use Rattle.walking.specs.declared.Walked.{Walked}
 use Rattle.checker.specs.declared.Verdict.{Verdict}
@@ -136,17 +136,17 @@ module _ (n start next : ℕ) where
     judged-absent [] e = refl
     judged-absent (b ∷ l) e = absurd (omega arith)
 
-    against-line : (l : List ℕ) → (length l ≡ 0 → ⊥) → againstLines n start name seq (onlyLine l) ≡ lineSays n start name seq l (index.lineSays n l)
+    against-line : (l : List ℕ) → (length l ≡ 0 → ⊥) → againstLines n start name seq (onlyLine l) ≡ lineJudged n start name seq l (index.indexLineSays n l)
     unfolding againstLines onlyLine
     against-line [] z = absurd (z refl)
     against-line (b ∷ l) z = refl
 
     module _ (l : List ℕ) (z : length l ≡ 0 → ⊥) where
-      pub judged-line : (r : Refusal) → index.lineSays n l ≡ read.Refused r → judged.Refused r ≡ judgedAs (againstLines n start name seq (onlyLine l)) next
+      pub judged-line : (r : Refusal) → index.indexLineSays n l ≡ read.Refused r → judged.Refused r ≡ judgedAs (againstLines n start name seq (onlyLine l)) next
       unfolding judgedAs
       judged-line r e = rw (against-line l z, e)
 
-      pub judged-row : (e : Entry) → index.lineSays n l ≡ read.Row e
+      pub judged-row : (e : Entry) → index.indexLineSays n l ≡ read.Row e
           → judgedAs (entrySays n start name seq (nameIn l (e .«record»)) (e .«record»)) next ≡ judgedAs (againstLines n start name seq (onlyLine l)) next
       unfolding nameIn
       judged-row e h =
@@ -154,11 +154,11 @@ module _ (n start next : ℕ) where
           rw (against-line l z, h, k .start, k .name)
 
   module _ (g : Group) (ls : List (List ℕ)) where
-    pub judged-bad : (f : Fault) → definition.lineSays (g .def) ≡ Bad f → judged.Refused (refusalOf f n) ≡ judgedAs (recordSays n start g ls) next
+    pub judged-bad : (f : Fault) → definition.definitionSays (g .def) ≡ Bad f → judged.Refused (refusalOf f n) ≡ judgedAs (recordSays n start g ls) next
     unfolding judgedAs recordSays
     judged-bad f e = rw e
 
-    pub judged-named : (d : Definition) → definition.lineSays (g .def) ≡ Named d
+    pub judged-named : (d : Definition) → definition.definitionSays (g .def) ≡ Named d
         → judgedAs (againstLines n start (spanOf (g .def) (d .name)) (g .seq) ls) next ≡ judgedAs (recordSays n start g ls) next
     unfolding recordSays
     judged-named d e = rw e
@@ -166,7 +166,7 @@ module _ (n start next : ℕ) where
 -- only the first of the lines that are left matters
 first-line : (n start : ℕ) (g : Group) (l : List ℕ) (ls : List (List ℕ)) → recordSays n start g (l ∷ []) ≡ recordSays n start g (l ∷ ls)
 unfolding recordSays againstLines
-first-line n start g l ls = go (definition.lineSays (g .def))
+first-line n start g l ls = go (definition.definitionSays (g .def))
   where
     go : (p : Parsed) → definedSays n start g (l ∷ []) p ≡ definedSays n start g (l ∷ ls) p
     go (Bad f) = refl

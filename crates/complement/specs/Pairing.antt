@@ -1,4 +1,4 @@
--- The complement of a base. Document 01: A-T, C-G, M-K, R-Y, B-V, D-H pair; W, S, N are their own; U gives A. Lower case likewise.
+-- The complement of a base (docs/RULES.md, R39): A-T, C-G, M-K, R-Y, B-V, D-H pair; W, S, N are their own; U gives A. Lower case likewise.
 use Prim.Native.Nat.{ℕ, _+_}
 use Prim.Native.Char.{code}
 use Prim.Native.String.{String, [] as empty, _∷_ as _◂_}

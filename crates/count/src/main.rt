@@ -1,5 +1,5 @@
 // count [WORK FILE ..]: does each work once on its file, so that the instructions it takes can be counted as the difference of two
-// runs (tools/instruction-goals). A work is `index`, by the ported rule, `fit`, by the complete one, `check`, with the index on standard
+// runs (tools/dev instruction-goals). A work is `index`, by the ported rule, `fit`, by the complete one, `check`, with the index on standard
 // input, or `reverse`, the reverse complement of the whole file. It writes a line for each, as `index 1` or `fit 1`, the count of rows,
 // `check 0`, or `reverse 60`, the count of bytes, and then those bytes: a buffer that nobody reads, the compiler would not write. Where
 // it is refused, `refused 24 3 45`. A file, or an index, has at most 65,536 bytes; what is behind them is not read.

@@ -1,4 +1,4 @@
--- What a definition line says, in document 01's words.
+-- What a definition line says (docs/RULES.md, R10).
 use Prim.Native.Nat.{ℕ, zero, suc, _+_}
 use mathlib.Core.List.{List, [], _∷_}
 use mathlib.Core.Bool.{Bool, true, false, cond, not, _||_}
@@ -65,8 +65,8 @@ contentSays [] = Bad Empty
 contentSays (b ∷ s) = cond (eqb b 62) (namedOf s (run (spaced false) s)) (Bad NoPrefix)
 
 -- what a line says
-unfoldable pub lineSays : List ℕ → Parsed
-lineSays l = contentSays (contentOf l)
+unfoldable pub definitionSays : List ℕ → Parsed
+definitionSays l = contentSays (contentOf l)
 
 -- the refusal of each fault, with the checker's record, or 0
 unfoldable pub refusalOf : Fault → ℕ → Refusal
@@ -83,4 +83,4 @@ unfoldable pub contentRead : List ℕ → DefinitionRead
 contentRead l = cond (overLimit (length l)) (read.Refused refused.TooLong) (readAs (contentSays l))
 
 unfoldable pub lineRead : List ℕ → DefinitionRead
-lineRead l = cond (overLimit (length l)) (read.Refused refused.TooLong) (readAs (lineSays l))
+lineRead l = cond (overLimit (length l)) (read.Refused refused.TooLong) (readAs (definitionSays l))

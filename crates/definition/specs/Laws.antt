@@ -10,7 +10,7 @@ use borrow.Author.Tests.{eq-eqb, ne-eqb}
 use native.Mathlib.Omega.{arith}
 use Rattle.lines.specs.Lines.{part, contentOf}
 use Rattle.lines.specs.Laws.{part-none, part-snoc, part-length, content-le}
-use Rattle.definition.specs.Definition.{isSpace, spaced, run, kept, keep, described, namedOf, contentSays, lineSays}
+use Rattle.definition.specs.Definition.{isSpace, spaced, run, kept, keep, described, namedOf, contentSays, definitionSays}
 use Rattle.definition.specs.declared.Definition.{Definition}
 use Rattle.definition.specs.declared.Fault.the-variants.{Empty, NoPrefix, NoName}
 use Rattle.definition.specs.declared.Parsed.{Parsed}
@@ -154,9 +154,9 @@ spaced-not false true b e h = rw (← e)
 -- ---- where a name lies
 
 -- a name lies in its line, behind the '>'
-pub name-within : (l : List ℕ) (d : Definition) → lineSays l ≡ Named d
+pub name-within : (l : List ℕ) (d : Definition) → definitionSays l ≡ Named d
     → (d .name .start ≡ 1) × (1 ≤ d .name .length) × (d .name .start + d .name .length ≤ length l)
-unfolding lineSays contentSays
+unfolding definitionSays contentSays
 name-within l d h = go (contentOf l) (content-le l) h
   where
     some : (s : List ℕ) (n : ℕ) → n ≤ length s → suc (length s) ≤ length l → namedOf s n ≡ Named d

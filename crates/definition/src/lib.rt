@@ -3,7 +3,7 @@
 ghost use mathlib.Core.Path.{_≡_};
 ghost use Prim.Native.Nat.{_+_, _≤_};
 ghost use lib.ListN.{length, drop};
-ghost use Rattle.definition.specs.Definition.{isSpace, spaced, run, keep, contentSays, lineSays, refusalOf, readAs, contentRead, lineRead};
+ghost use Rattle.definition.specs.Definition.{isSpace, spaced, run, keep, contentSays, definitionSays, refusalOf, readAs, contentRead, lineRead};
 use lines::Span;
 use refusal::Refusal;
 
@@ -121,7 +121,7 @@ fn parse_definition(content: &[u8]) -> Parsed
 
 // What a definition line says, given with its end.
 pub fn parse_line(l: &[u8]) -> Parsed
-    ensures { λ r. ⌜ r ≡ lineSays (now (l .entry)) ⌝ }
+    ensures { λ r. ⌜ r ≡ definitionSays (now (l .entry)) ⌝ }
 {
     let e = lines::content_length(l);
     parse_definition(&l[..e])

@@ -9,7 +9,7 @@ use mathlib.Core.Bool.{Bool, true, false}
 use borrow.Author.Tests.{lt-ltb, le-ltb}
 use native.Mathlib.Omega.{arith}
 use native.Mathlib.Nat.{add-zero, zero-add}
-use Rattle.refusal.specs.Numbers.{numbersOf as refusalNumbers, overLimit}
+use Rattle.refusal.specs.Numbers.{numbersOf, overLimit}
 use Rattle.lines.specs.Lines.{lines}
 use Rattle.lines.specs.Groups.{groups}
 use Rattle.record.specs.declared.Record.{Record}
@@ -19,7 +19,7 @@ use Rattle.table.specs.declared.Stop.{Stop}
 use Rattle.table.specs.declared.Stop.the-variants as stop
 use Rattle.table.specs.Fill.{Found, FilledAs}
 use Rattle.index_line.specs.Fields.{frontWritten}
-use Rattle.index_line.specs.IndexLine.{numbersOf, nameIn, lineOf, writtenAs}
+use Rattle.index_line.specs.IndexLine.{columnsOf, nameIn, lineOf, writtenAs}
 use Rattle.checker.specs.Accepts.{limit}
 use Rattle.checker.specs.declared.Verdict.{Verdict}
 use Rattle.checker.specs.declared.Verdict.the-variants as verdict
@@ -110,7 +110,7 @@ joined-lines f (x ∷ xs) answers outputs k h =
 -- a text that is put at the front of an output: it is there if no refusal is told, and it needs its own length
 module _ (a : Answer) (text out out′ : List ℕ) (told : tells a out′ ≡ writtenTold (frontWritten text out)) where
   pub front-is : a .refusal ≡ 0 → take (a .count) out′ ≡ text
-  unfolding writtenTold writtenAnswer frontWritten refusalNumbers
+  unfolding writtenTold writtenAnswer frontWritten numbersOf
   front-is none = go (ltb (length out) (length text)) refl
     where
       go : (t : Bool) → ltb (length out) (length text) ≡ t → take (a .count) out′ ≡ text
@@ -123,7 +123,7 @@ module _ (a : Answer) (text out out′ : List ℕ) (told : tells a out′ ≡ wr
           rw (n, ap (λ (x : Told). x .bytes) q) (take-at text (drop (length text) out) (length text) refl)
 
   pub front-needs : Needs (length text) out a
-  unfolding writtenTold writtenAnswer frontWritten refusalNumbers
+  unfolding writtenTold writtenAnswer frontWritten numbersOf
   front-needs = record { enough = λ h. ap (λ (x : Told). x .answer .refusal) (rw (le-ltb (length out) (length text) h) at told); short = short }
     where
       short : length out < length text → (a .refusal ≡ 14) × (a .first ≡ length text)
@@ -136,4 +136,4 @@ unfolding writtenAs overLimit lineOf
 row-fronted f t xs s h small room k m out =
     let d = leading-at f xs s h k m in
     rw (le-ltb 1099511627776 (length f) small, row-held t xs noRow k (length f) room m (d .lined (omega arith)) (d .named))
-    (text-fronted (nameIn f (rowIn xs k)) (numbersOf (rowIn xs k)) out (d .unbroken))
+    (text-fronted (nameIn f (rowIn xs k)) (columnsOf (rowIn xs k)) out (d .unbroken))

@@ -1,4 +1,4 @@
--- The marked examples of document 01, M1 to M13: one table, one proof. Each asks an entry point's own definition for what a host is told and
+-- The marked examples M1 to M13 (docs/RULES.md, R46): one table, one proof. Each asks an entry point's own definition for what a host is told and
 -- for the bytes that it finds afterwards.
 use Prim.Native.Nat.{ℕ, zero, suc}
 use Prim.Native.String.{String}
@@ -32,7 +32,7 @@ use Rattle.region.specs.Raw.{scanTo, pours, rawAt, rawIn, rawOf, rawRead}
 use Rattle.walking.specs.Places.{firstElsewhere}
 use Rattle.checker.specs.Check as checker
 use Rattle.checker.specs.Check.{entrySays, againstLines, recordSays, recordsSay, checkOf}
-use Rattle.byte_table.specs.Numbers.{fromBytes, toBytes, numbersOf as firstNumbers, numbersIn, restOf as rest, bytesOf, withNumbers}
+use Rattle.byte_table.specs.Numbers.{fromBytes, toBytes, firstNumbers, numbersIn, restOf as rest, bytesOf, withNumbers}
 use Rattle.wakeluri.specs.declared.answer.Answer.{Answer}
 use Rattle.wakeluri.specs.Answer.{fine, answerOf, boundOf, regionAnswer, writtenAnswer, complementAnswer, filledAnswer, verdictAnswer}
 use Rattle.wakeluri.specs.Told.{Told, tells, regionTold, writtenTold, complementTold, filledTold}
@@ -131,5 +131,5 @@ answers =
     ∷ []
 
 pub marked : asked ≡ answers
-unfolding asked answers joined numbersOf overLimit lines chop ends contentOf seqOf sumBases sumWidths upFrom basesAt groups sameBytes partner firstOr faults reverseComplementOf sized complementIs outputOf isSpace run keep refusalOf definition.contentSays definition.lineSays placeOf placesFrom offsetOf hasPlace addressOf wordsOf words rowCount rowAt soundRow heldAt namedIn namedAt endsLine skipped scanFrom scanAt scanAll heldIn firstWhere allDigits valueFrom numberFrom digitsOf numberOf plainNumber digits widthFrom width decimalOf cutAt fieldSays numbersFrom tabbed textOf frontWritten textWritten fieldsOf plainEnd nameOf nameIn writtenAs index.contentSays index.lineSays fitsLast restOf judge sequenceBy groupsBy fileBy callBy refuses gives isZero crossed badBounds boundedRow startOf endOf inFile pastLength bytesAt basesFrom regionOf exactIn exactOf exactRead scanTo pours rawAt rawIn rawOf rawRead firstElsewhere checker.sequenceSays entrySays againstLines recordSays recordsSay checkOf fromBytes toBytes firstNumbers numbersIn rest bytesOf withNumbers boundOf regionAnswer writtenAnswer complementAnswer filledAnswer verdictAnswer regionTold writtenTold complementTold filledTold
+unfolding asked answers joined numbersOf overLimit lines chop ends contentOf seqOf sumBases sumWidths upFrom basesAt groups sameBytes partner firstOr faults reverseComplementOf sized complementIs outputOf isSpace run keep refusalOf definition.contentSays definition.definitionSays placeOf placesFrom offsetOf hasPlace addressOf wordsOf words rowCount rowAt soundRow heldAt namedIn namedAt endsLine skipped scanFrom scanAt scanAll heldIn firstWhere allDigits valueFrom numberFrom digitsOf numberOf plainNumber digits widthFrom width decimalOf cutAt fieldSays numbersFrom tabbed textOf frontWritten textWritten fieldsOf plainEnd nameOf nameIn writtenAs index.contentSays index.indexLineSays fitsLast restOf judge sequenceBy groupsBy fileBy callBy refuses gives isZero crossed badBounds boundedRow startOf endOf inFile pastLength bytesAt basesFrom regionOf exactIn exactOf exactRead scanTo pours rawAt rawIn rawOf rawRead firstElsewhere checker.sequenceSays entrySays againstLines recordSays recordsSay checkOf fromBytes toBytes firstNumbers numbersIn rest bytesOf withNumbers boundOf regionAnswer writtenAnswer complementAnswer filledAnswer verdictAnswer regionTold writtenTold complementTold filledTold
 marked = refl

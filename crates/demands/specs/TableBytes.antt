@@ -7,7 +7,7 @@ use lib.ListN.{length, getD, take, drop, set, length-append, length-take, length
 use lib.Seq.{sets, length-sets, take-at, drop-at, getD-drop}
 use Rattle.record.specs.declared.Record.{Record}
 use Rattle.record.specs.Row.{rowWords, wordsOf, words, rowCount, withRows}
-use Rattle.byte_table.specs.Numbers.{fromBytes, toBytes, numbersOf, numbersIn, restOf, bytesOf, withNumbers}
+use Rattle.byte_table.specs.Numbers.{fromBytes, toBytes, firstNumbers, numbersIn, restOf, bytesOf, withNumbers}
 use Rattle.byte_table.specs.Laws.{length-toBytes, from-to, from-fits, length-numbers}
 use Rattle.mission.specs.Leading.{rowIn}
 use Rattle.mission.specs.TableOf.{Fits}
@@ -30,8 +30,8 @@ unfolding bytesOf
 length-bytesOf [] = refl
 length-bytesOf (v ∷ vs) = simp (length-append, length-toBytes 8 v, length-bytesOf vs) (omega arith)
 
-bytes-numbers : (vs r : List ℕ) → AreNumbers vs → numbersOf (length vs) (bytesOf vs ++ r) ≡ vs
-unfolding numbersOf bytesOf
+bytes-numbers : (vs r : List ℕ) → AreNumbers vs → firstNumbers (length vs) (bytesOf vs ++ r) ≡ vs
+unfolding firstNumbers bytesOf
 bytes-numbers [] r m = refl
 bytes-numbers (v ∷ vs) r m =
     rw (append-assoc (toBytes 8 v) (bytesOf vs) r, take-at (toBytes 8 v) (bytesOf vs ++ r) 8 (length-toBytes 8 v), drop-at (toBytes 8 v) (bytesOf vs ++ r) 8 (length-toBytes 8 v), from-to 8 v (m 0))
@@ -42,7 +42,7 @@ unfolding numbersIn withNumbers restOf
 numbers-with t vs e m =
     let n : length vs ≡ length t / 8 = e ∙ length-numbers t in
     let q : length (bytesOf vs ++ drop (length t / 8 * 8) t) / 8 ≡ length vs = simp (length-append, length-bytesOf vs, length-drop) (omega arith) in
-    ap (λ (k : ℕ). numbersOf k (bytesOf vs ++ drop (length t / 8 * 8) t)) q ∙ bytes-numbers vs (drop (length t / 8 * 8) t) m
+    ap (λ (k : ℕ). firstNumbers k (bytesOf vs ++ drop (length t / 8 * 8) t)) q ∙ bytes-numbers vs (drop (length t / 8 * 8) t) m
 
 -- ---- the numbers of bytes fit, and so do those of rows
 
@@ -52,8 +52,8 @@ take-bytes (suc n) [] m i = omega arith
 take-bytes (suc n) (b ∷ t) m zero = m 0
 take-bytes (suc n) (b ∷ t) m (suc i) = take-bytes n t (λ j. m (suc j)) i
 
-numbers-fit : (n : ℕ) (t : List ℕ) → AreBytes t → AreNumbers (numbersOf n t)
-unfolding numbersOf
+numbers-fit : (n : ℕ) (t : List ℕ) → AreBytes t → AreNumbers (firstNumbers n t)
+unfolding firstNumbers
 numbers-fit zero t m i = omega arith
 numbers-fit (suc n) t m zero = from-fits 8 (take 8 t) (omega (arith, length-take 8 t)) (take-bytes 8 t m)
 numbers-fit (suc n) t m (suc i) = numbers-fit n (drop 8 t) (λ j. rw getD-drop (m (8 + j))) i

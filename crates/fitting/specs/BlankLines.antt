@@ -13,7 +13,7 @@ use Rattle.lines.specs.Laws.{seqAt-next, first-within, first-grows}
 use Rattle.lines.specs.declared.Line.{Line}
 use Rattle.fitting.specs.declared.Numbers.{Numbers}
 use Rattle.fitting.specs.declared.LineAt.{LineAt}
-use Rattle.fitting.specs.Complete.{distance, numbersOf, fromBases, numbersAt}
+use Rattle.fitting.specs.Complete.{distance, numbersFor, fromBases, numbersAt}
 use Rattle.fitting.specs.FirstLine.{terminated-here, numbers-line}
 
 -- ---- what is said
@@ -129,7 +129,7 @@ distance-line line p q (m ∷ ls) n = go (length (basesOf m)) n
 
 module _ (s : List ℕ) (at : ℕ) (h : at ≤ length s) (a : LineAt) (b : PastBlank s at a) where
   pub numbers-none : a .line .bases ≡ 0 → NumbersAt s at (record { position = at; bases = 1; width = 2 })
-  unfolding numbersAt numbersOf
+  unfolding numbersAt numbersFor
   numbers-none z = record { numbers = rw (no-bases s at a b z); same = same-start s at h }
 
   pub behind-fits : a .at + a .line .width ≤ length s
@@ -143,7 +143,7 @@ module _ (s : List ℕ) (at : ℕ) (h : at ≤ length s) (a : LineAt) (b : PastB
   first-numbers n = rw (← b .lines, ← b .same .offsets, b .line) (go (seqAt s (a .at)) refl (rw (b .line) at n))
     where
       go : (ls : List (List ℕ)) → seqAt s (a .at) ≡ ls → (firstLine ls .bases ≡ 0 → ⊥)
-          → numbersOf at (firstLine ls .width) (basesAt (a .at) ls)
+          → numbersFor at (firstLine ls .width) (basesAt (a .at) ls)
           ≡ record { position = a .at; bases = firstLine ls .bases; width = distance (firstLine ls .width) (a .at) (basesAt (a .at + firstLine ls .width) (seqAt s (a .at + firstLine ls .width))) }
       go [] q k = absurd (k refl)
       go (m ∷ ls) q k =

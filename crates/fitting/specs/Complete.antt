@@ -30,9 +30,9 @@ distance line p [] = line
 distance line p (o ∷ os) = o - p
 
 -- the numbers of bases at some offsets, the first of which lies in a line of some width; where there is no base: the start, 1 and 2
-unfoldable pub numbersOf : ℕ → ℕ → List ℕ → Numbers
-numbersOf start line [] = record { position = start; bases = 1; width = 2 }
-numbersOf start line (p ∷ os) = record { position = p; bases = suc (besides p os); width = distance line p (drop (besides p os) os) }
+unfoldable pub numbersFor : ℕ → ℕ → List ℕ → Numbers
+numbersFor start line [] = record { position = start; bases = 1; width = 2 }
+numbersFor start line (p ∷ os) = record { position = p; bases = suc (besides p os); width = distance line p (drop (besides p os) os) }
 
 -- the lines from the first that has a base on
 unfoldable pub fromBases : List (List ℕ) → List (List ℕ)
@@ -41,7 +41,7 @@ fromBases (l ∷ ls) = cond (eqb (length (basesOf l)) 0) (fromBases ls) (l ∷ l
 
 -- the numbers of sequence lines, which begin at an offset
 unfoldable pub numbersAt : ℕ → List (List ℕ) → Numbers
-numbersAt start ls = numbersOf start (firstLine (fromBases ls) .width) (basesAt start ls)
+numbersAt start ls = numbersFor start (firstLine (fromBases ls) .width) (basesAt start ls)
 
 -- ---- do they lead to every base
 
@@ -61,8 +61,8 @@ fit start ls = placesSay (firstElsewhere (placeBy (numbersAt start ls)) 0 (bases
 -- ---- a record
 
 -- the row of a record, by where its definition begins, the bytes of that line, the name's place in it, and the sequence lines
-abbrev pub rowOf : ℕ → ℕ → Span → List (List ℕ) → Record
-rowOf at n name ls =
+abbrev pub completeRow : ℕ → ℕ → Span → List (List ℕ) → Record
+completeRow at n name ls =
     record {
       «name_start» = at + name .start;
       «name_length» = name .length;
@@ -74,4 +74,4 @@ rowOf at n name ls =
 
 -- the rule
 abbrev pub complete : SequenceRule
-complete = record { judge = fit; row = rowOf }
+complete = record { judge = fit; row = completeRow }

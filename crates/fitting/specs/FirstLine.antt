@@ -11,7 +11,7 @@ use Rattle.lines.specs.Lines.{chop, ends, basesOf, seqAt, none, firstLine, tail
 use Rattle.lines.specs.Laws.{chop-le, ends-chop, seqAt-next}
 use Rattle.lines.specs.Alike.{isLike, firstLike, unlike-last}
 use Rattle.record.specs.EvenLines.{length-upFrom}
-use Rattle.fitting.specs.Complete.{besides, distance, numbersOf}
+use Rattle.fitting.specs.Complete.{besides, distance, numbersFor}
 use Rattle.fitting.specs.Sound.{bases-inside}
 
 -- ---- a line without a byte behind its bases is the last
@@ -57,11 +57,11 @@ apart at n l (m ∷ ls) e b x xs q r =
     omega (arith, b refl, k, v, e, r)
 
 pub numbers-line : (start line at : ℕ) (l : List ℕ) (ls : List (List ℕ)) → 0 < length (basesOf l) → (none ls ≡ false → length (basesOf l) < length l)
-    → numbersOf start line (basesAt at (l ∷ ls)) ≡ record { position = at; bases = length (basesOf l); width = distance line at (basesAt (at + length l) ls) }
-unfolding numbersOf basesAt upFrom
+    → numbersFor start line (basesAt at (l ∷ ls)) ≡ record { position = at; bases = length (basesOf l); width = distance line at (basesAt (at + length l) ls) }
+unfolding numbersFor basesAt upFrom
 numbers-line start line at l ls z b = go (length (basesOf l)) refl z
   where
     go : (n : ℕ) → length (basesOf l) ≡ n → 0 < n
-        → numbersOf start line (upFrom at n ++ basesAt (at + length l) ls) ≡ record { position = at; bases = n; width = distance line at (basesAt (at + length l) ls) }
+        → numbersFor start line (upFrom at n ++ basesAt (at + length l) ls) ≡ record { position = at; bases = n; width = distance line at (basesAt (at + length l) ls) }
     go zero e m = absurd (omega arith)
     go (suc n) e m = rw (beside-upFrom n at (basesAt (at + length l) ls) (apart at n l ls e b), drop-upFrom (suc at) n (basesAt (at + length l) ls))

@@ -22,7 +22,7 @@ use Rattle.walking.specs.Places.{firstElsewhere}
 use Rattle.walking.specs.PlaceLaws.{PlacesSaid, all-there, places-said}
 use Rattle.walking.specs.PlaceLaws.PlacesSaid.{all, one}
 use Rattle.walking.specs.declared.Placed.{Placed}
-use Rattle.fitting.specs.Complete.{besides, distance, numbersOf, numbersAt, placeBy, placesSay, fit}
+use Rattle.fitting.specs.Complete.{besides, distance, numbersFor, numbersAt, placeBy, placesSay, fit}
 use Rattle.fitting.specs.declared.Numbers.{Numbers}
 
 -- numbers lead to the first m of bases at some offsets
@@ -115,8 +115,8 @@ module _ (o : ℕ) (os : List ℕ) (gap : besides o os < length os) (n : Numbers
       omega (arith, q, r, first-is)
 
   -- and those are the rule's
-  pub only-numbers : (start line : ℕ) → numbersOf start line (o ∷ os) ≡ n
-  unfolding numbersOf distance
+  pub only-numbers : (start line : ℕ) → numbersFor start line (o ∷ os) ≡ n
+  unfolding numbersFor distance
   only-numbers start line =
       rw (drop-cons os (besides o os) 0 gap)
       (numbers-same _ n (sym first-is) (sym only-bases) (omega (arith, only-width)))
@@ -125,8 +125,8 @@ module _ (o : ℕ) (os : List ℕ) (gap : besides o os < length os) (n : Numbers
       numbers-same a b p q r i = record { position = p i; bases = q i; width = r i }
 
 -- the rule's numbers lead to the first run
-run-leads : (start line o : ℕ) (os : List ℕ) → LeadsFirst (suc (besides o os)) (numbersOf start line (o ∷ os)) (o ∷ os)
-unfolding numbersOf
+run-leads : (start line o : ℕ) (os : List ℕ) → LeadsFirst (suc (besides o os)) (numbersFor start line (o ∷ os)) (o ∷ os)
+unfolding numbersFor
 run-leads start line o os j h = go j h ∙ sym (place-first o (suc (besides o os)) _ j h)
   where
     go : (j : ℕ) → j < suc (besides o os) → getD (o ∷ os) j 0 ≡ o + j
@@ -134,17 +134,17 @@ run-leads start line o os j h = go j h ∙ sym (place-first o (suc (besides o os
     go (suc j) m = omega (arith, beside-run o os j (omega arith))
 
 -- so if any numbers lead to the first m bases, the rule's do
-pub any-leads-first : (start line : ℕ) (os : List ℕ) (n : Numbers) → 0 < n .bases → (m : ℕ) → m ≤ length os → LeadsFirst m n os → LeadsFirst m (numbersOf start line os) os
+pub any-leads-first : (start line : ℕ) (os : List ℕ) (n : Numbers) → 0 < n .bases → (m : ℕ) → m ≤ length os → LeadsFirst m n os → LeadsFirst m (numbersFor start line os) os
 any-leads-first start line [] n z m l h = λ j k. absurd (omega arith)
 any-leads-first start line (o ∷ os) n z m l h = go (ltb (suc (besides o os)) m) refl
   where
-    go : (t : Bool) → ltb (suc (besides o os)) m ≡ t → LeadsFirst m (numbersOf start line (o ∷ os)) (o ∷ os)
+    go : (t : Bool) → ltb (suc (besides o os)) m ≡ t → LeadsFirst m (numbersFor start line (o ∷ os)) (o ∷ os)
     go true e =
         let k : suc (besides o os) < m = ltb-true _ _ e in
         rw (only-numbers o os (omega arith) n z (λ j i. h j (omega arith)) start line) h
     go false e = λ j k. run-leads start line o os j (omega (arith, ltb-false (suc (besides o os)) m e))
 
-pub any-leads : (start line : ℕ) (os : List ℕ) (n : Numbers) → 0 < n .bases → Leads n os → Leads (numbersOf start line os) os
+pub any-leads : (start line : ℕ) (os : List ℕ) (n : Numbers) → 0 < n .bases → Leads n os → Leads (numbersFor start line os) os
 any-leads start line os n z h = any-leads-first start line os n z (length os) (omega arith) h
 
 -- ---- the verdict is good if the numbers lead to every base, and only then

@@ -20,7 +20,7 @@ use Rattle.walking.specs.PlaceLaws.{firstOf, all-there, elsewhere-append}
 use Rattle.walking.specs.declared.Placed.{Placed}
 use Rattle.walking.specs.declared.Placed.the-variants.{There, Elsewhere}
 use Rattle.fitting.specs.declared.Numbers.{Numbers}
-use Rattle.fitting.specs.Complete.{distance, numbersOf, fromBases, numbersAt, placeBy, placesSay, fit}
+use Rattle.fitting.specs.Complete.{distance, numbersFor, fromBases, numbersAt, placeBy, placesSay, fit}
 use Rattle.fitting.specs.FirstLine.{Terminated, terminated-here, numbers-line}
 
 -- ---- the value
@@ -124,7 +124,7 @@ all-terminated s (l ∷ ls) at h e = one-more (rw e at (terminated-here s at h))
 
 -- what is told is what the rule says
 pub record Told (start at : ℕ) (ls : List (List ℕ)) (t : SoFar) : Type 0 where
-  pub numbers : numbersTold start t ≡ numbersOf start (firstLine (fromBases ls) .width) (basesAt at ls)
+  pub numbers : numbersTold start t ≡ numbersFor start (firstLine (fromBases ls) .width) (basesAt at ls)
   pub verdict : verdictTold t ≡ placesSay (firstElsewhere (placeBy (numbersTold start t)) 0 (basesAt at ls))
   pub bases : basesTold t ≡ sumBases ls
 
@@ -144,14 +144,14 @@ unfolding firstElsewhere
 none-elsewhere f i = refl
 
 lines-told : (start at : ℕ) (ls : List (List ℕ)) → AllTerminated ls → Told start at ls (takeLines blank at ls)
-unfolding takeLines takeLine takeBases numbersOf distance fromBases basesAt upFrom sumBases
+unfolding takeLines takeLine takeBases numbersFor distance fromBases basesAt upFrom sumBases
 lines-told start at [] b = record { numbers = refl; verdict = rw none-elsewhere; bases = refl }
 lines-told start at (l ∷ ls) (one-more b bs) = go (eqb (length (basesOf l)) 0) refl (lines-told start (at + length l) ls bs)
   where
     first : 0 < length (basesOf l) → Told start at (l ∷ ls) (takeLines (run at (length (basesOf l)) (length l)) (at + length l) ls)
     first z = rw (run-told ls at (length (basesOf l)) (length l) (at + length l)) (rest (basesAt (at + length l) ls) refl)
       where
-        numbered : numbersOf start (firstLine (fromBases (l ∷ ls)) .width) (basesAt at (l ∷ ls)) ≡ record { position = at; bases = length (basesOf l); width = distance (length l) at (basesAt (at + length l) ls) }
+        numbered : numbersFor start (firstLine (fromBases (l ∷ ls)) .width) (basesAt at (l ∷ ls)) ≡ record { position = at; bases = length (basesOf l); width = distance (length l) at (basesAt (at + length l) ls) }
         numbered = rw (ne-eqb (length (basesOf l)) 0 (λ q. omega arith)) (numbers-line start (length l) at l ls z b)
 
         rest : (os : List ℕ) → basesAt (at + length l) ls ≡ os → Told start at (l ∷ ls) (runOn at (length (basesOf l)) (length l) os (sumBases ls))

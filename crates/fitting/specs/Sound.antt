@@ -14,7 +14,7 @@ use Rattle.lines.specs.Laws.{chop-le}
 use Rattle.lines.specs.Sums.{sum-le}
 use Rattle.record.specs.EvenLines.{length-upFrom, getD-upFrom, length-basesAt}
 use Rattle.fitting.specs.declared.Numbers.{Numbers}
-use Rattle.fitting.specs.Complete.{besides, distance, numbersOf, fromBases, numbersAt}
+use Rattle.fitting.specs.Complete.{besides, distance, numbersFor, fromBases, numbersAt}
 use Rattle.fitting.specs.Leads.{beside-le}
 
 -- ---- where the bases of some lines lie
@@ -86,8 +86,8 @@ pub record Sound (start bytes : ℕ) (n : Numbers) : Type 0 where
 
 sound-of : (start bytes line : ℕ) (os : List ℕ) → ((j : ℕ) → j < length os → (start ≤ getD os j 0) × (getD os j 0 < start + bytes))
     → ((o : ℕ) (rest : List ℕ) → os ≡ o ∷ rest → (j : ℕ) → j < length rest → o < getD rest j 0)
-    → (0 < length os → 1 ≤ line) → line ≤ bytes → length os ≤ bytes → Sound start bytes (numbersOf start line os)
-unfolding numbersOf distance
+    → (0 < length os → 1 ≤ line) → line ≤ bytes → length os ≤ bytes → Sound start bytes (numbersFor start line os)
+unfolding numbersFor distance
 sound-of start bytes line [] a b c d e = record { some-bases = omega arith; some-width = omega arith; position = omega arith; bases = λ m h k. h; width = λ m h k. h }
 sound-of start bytes line (o ∷ os) a b c d e =
     let w = far (ltb (besides o os) (length os)) refl in

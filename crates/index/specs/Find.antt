@@ -29,9 +29,9 @@ rowFrom names t n name zero r = Refused NameUnknown
 rowFrom names t n name (suc k) r = judged names name r (namedAt t n r (length names)) (rowFrom names t n name k (suc r))
 
 -- the first of all rows in use
-unfoldable pub rowOf : List ℕ → List ℕ → ℕ → List ℕ → Found
-rowOf names t n name = rowFrom names t n name n 0
+unfoldable pub rowNamed : List ℕ → List ℕ → ℕ → List ℕ → Found
+rowNamed names t n name = rowFrom names t n name n 0
 
 -- the call: the size limit first, for the names and for the name
 unfoldable pub rowRead : List ℕ → List ℕ → ℕ → List ℕ → Found
-rowRead names t n name = cond (overLimit (length names)) (Refused TooLong) (cond (overLimit (length name)) (Refused TooLong) (rowOf names t n name))
+rowRead names t n name = cond (overLimit (length names)) (Refused TooLong) (cond (overLimit (length name)) (Refused TooLong) (rowNamed names t n name))

@@ -19,7 +19,7 @@ use Rattle.record.specs.Laws.{held-known, named-known}
 use Rattle.index_line.specs.IndexLine.{nameIn}
 use Rattle.index.specs.declared.Found.{Found}
 use Rattle.index.specs.declared.Found.the-variants.{Row, Refused}
-use Rattle.index.specs.Find.{named, judged, rowFrom, rowOf, rowRead}
+use Rattle.index.specs.Find.{named, judged, rowFrom, rowNamed, rowRead}
 
 -- row r of a table with n rows in use is sound, and its name, a span of `names`, is `name`; or is another
 pub record Has (names t : List ℕ) (n : ℕ) (name : List ℕ) (r : ℕ) : Type 0 where
@@ -104,12 +104,12 @@ module _ (names t : List ℕ) (n : ℕ) (name : List ℕ) where
 
   -- over the rows in use
   module _ (r : ℕ) where
-    pub found-only-if : rowOf names t n name ≡ Row r → IsFirst names t n name r
-    unfolding rowOf
+    pub found-only-if : rowNamed names t n name ≡ Row r → IsFirst names t n name r
+    unfolding rowNamed
     found-only-if h = let f = from-only-if n 0 r h in record { here = f .here; before = λ k m. f .before k (omega arith) m }
 
-    pub found-if : IsFirst names t n name r → rowOf names t n name ≡ Row r
-    unfolding rowOf
+    pub found-if : IsFirst names t n name r → rowNamed names t n name ≡ Row r
+    unfolding rowNamed
     found-if f =
         let x = f .here in
         let used = held-known t n r (x .row) (named-known t n r (length names) (x .row) (x .sound) .0) .in-use in
@@ -126,7 +126,7 @@ module _ (names t : List ℕ) (n : ℕ) (name : List ℕ) where
   wins-only-if r h = go (overLimit (length names)) refl (overLimit (length name)) refl h
     where
       go : (a : Bool) → overLimit (length names) ≡ a → (b : Bool) → overLimit (length name) ≡ b
-          → cond a (Refused TooLong) (cond b (Refused TooLong) (rowOf names t n name)) ≡ Row r → Wins r
+          → cond a (Refused TooLong) (cond b (Refused TooLong) (rowNamed names t n name)) ≡ Row r → Wins r
       go true p b q k = let z : _≡_ {A = ℕ} 0 1 = cc in absurd (omega arith)
       go false p true q k = let z : _≡_ {A = ℕ} 0 1 = cc in absurd (omega arith)
       go false p false q k = record { small-names = p; small-name = q; is-first = found-only-if r k }

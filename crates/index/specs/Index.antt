@@ -9,7 +9,7 @@ use Rattle.lines.specs.Lines.{lines}
 use Rattle.record.specs.declared.Record.{Record}
 use Rattle.table.specs.Fill.{Found, nothing, withFirst, heldIn}
 use Rattle.table.specs.declared.Stop.the-variants.{Ended, Refused}
-use Rattle.index_line.specs.IndexLine.{lineSays}
+use Rattle.index_line.specs.IndexLine.{indexLineSays}
 use Rattle.index_line.specs.declared.LineRead.{LineRead}
 use Rattle.index_line.specs.declared.LineRead.the-variants as read
 use Rattle.index.specs.declared.LineRow.{LineRow}
@@ -33,13 +33,13 @@ rowAs at e (read.Row x) = row.Row (placedAt at (x .«record»)) (record { at = e
 rowAs at e (read.Refused f) = row.Refused f
 
 -- the row of the first of some lines, by its number and the offset where it begins
-abbrev pub rowOf : ℕ → ℕ → List (List ℕ) → LineRow
-rowOf line at [] = row.End
-rowOf line at (l ∷ ls) = rowAs at (at + length l) (lineSays line l)
+abbrev pub lineRow : ℕ → ℕ → List (List ℕ) → LineRow
+lineRow line at [] = row.End
+lineRow line at (l ∷ ls) = rowAs at (at + length l) (indexLineSays line l)
 
 -- the row of the line at an offset
 unfoldable pub rowAt : List ℕ → ℕ → ℕ → LineRow
-rowAt text line at = rowOf line at (lines (drop at text))
+rowAt text line at = lineRow line at (lines (drop at text))
 
 -- one line's row, with what the lines behind it say
 abbrev pub onwards : LineRow → Found → Found
@@ -50,7 +50,7 @@ onwards (row.Refused y) f = nothing (Refused y)
 -- the rows of some lines, by the number of the first and the offset where it begins
 unfoldable pub linesSay : ℕ → ℕ → List (List ℕ) → Found
 linesSay line at [] = nothing Ended
-linesSay line at (l ∷ ls) = onwards (rowOf line at (l ∷ ls)) (linesSay (suc line) (at + length l) ls)
+linesSay line at (l ∷ ls) = onwards (lineRow line at (l ∷ ls)) (linesSay (suc line) (at + length l) ls)
 
 -- the rows of an index from a line on, which begins at an offset
 unfoldable pub indexAt : List ℕ → ℕ → ℕ → Found

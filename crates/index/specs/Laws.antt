@@ -19,14 +19,14 @@ use Rattle.record.specs.declared.Held.the-variants as held
 use Rattle.record.specs.Row.{namedAt}
 use Rattle.table.specs.Fill.{Found, nothing, withFirst}
 use Rattle.table.specs.declared.Stop.the-variants.{Ended, Refused}
-use Rattle.index_line.specs.IndexLine.{lineSays}
+use Rattle.index_line.specs.IndexLine.{indexLineSays}
 use Rattle.index_line.specs.declared.LineRead.{LineRead}
 use Rattle.index_line.specs.declared.LineRead.the-variants as read
 use Rattle.index.specs.declared.LineRow.{LineRow}
 use Rattle.index.specs.declared.LineRow.the-variants as row
 use Rattle.index.specs.declared.Found.the-variants as found
 use Rattle.index.specs.Index.{rowAs, rowAt, onwards, linesSay, indexAt}
-use Rattle.index.specs.Find.{named, judged, rowFrom, rowOf}
+use Rattle.index.specs.Find.{named, judged, rowFrom, rowNamed}
 
 -- ---- line by line
 
@@ -36,7 +36,7 @@ module _ (text : List ℕ) (line at : ℕ) where
   row-end h = rw (drop-of-length-le text h)
 
   -- by what the code has at hand: the line's end, and what the line says
-  pub row-here : at < length text → (e : ℕ) → e ≡ lineEnd text at → (r v : LineRead) → r ≡ lineSays line (part text at e) → r ≡ v → rowAs at e v ≡ rowAt text line at
+  pub row-here : at < length text → (e : ℕ) → e ≡ lineEnd text at → (r v : LineRead) → r ≡ indexLineSays line (part text at e) → r ≡ v → rowAs at e v ≡ rowAt text line at
   unfolding rowAt
   row-here h e he r v hr hv =
       let m : lineEnd text at ≡ at + (lineEnd text at - at) = omega arith in
@@ -69,7 +69,7 @@ module _ (text : List ℕ) (line at : ℕ) where
         → (indexAt text line at ≡ withFirst x (indexAt text (line + 1) (c .at))) × (at < length text) × (at < c .at)
     index-row x c q =
         let k : at < length text = within (λ e. (let z : _≡_ {A = ℕ} 0 1 = cc in omega arith)) in
-        let n : c .at ≡ lineEnd text at = row-next x c (lineSays line (part text at (lineEnd text at))) (row-here k (lineEnd text at) refl _ _ refl refl ∙ sym h ∙ q) in
+        let n : c .at ≡ lineEnd text at = row-next x c (indexLineSays line (part text at (lineEnd text at))) (row-here k (lineEnd text at) refl _ _ refl refl ∙ sym h ∙ q) in
         (index-step k ∙ rw (← h, q, n), k, omega (arith, lineEnd-gt text at k))
 
     pub index-ended : r ≡ row.End → indexAt text line at ≡ nothing Ended

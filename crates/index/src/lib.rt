@@ -6,7 +6,7 @@ ghost use lib.ListN.{length};
 ghost use Rattle.record.specs.Row.{rowCount};
 ghost use Rattle.table.specs.Fill.{FilledAs, heldIn};
 ghost use Rattle.index.specs.Index.{rowAt, indexAt, indexIn};
-ghost use Rattle.index.specs.Find.{named, rowOf, rowRead};
+ghost use Rattle.index.specs.Find.{named, rowNamed, rowRead};
 use index_line::LineRead;
 use lines::Cursor;
 use record::Held;
@@ -113,7 +113,7 @@ fn is_named(names: &[u8], x: Record, name: &[u8]) -> bool
 
 // The first of the rows in use that has the name. Names are spans of `names`; no size limit is judged.
 pub fn find_row(names: &[u8], table: &[u64], in_use: usize, name: &[u8]) -> Found
-    ensures { λ r. ⌜ r ≡ rowOf (now (names .entry)) (now (table .entry)) in_use (now (name .entry)) ⌝ }
+    ensures { λ r. ⌜ r ≡ rowNamed (now (names .entry)) (now (table .entry)) in_use (now (name .entry)) ⌝ }
 {
     let mut r = 0;
     while r < in_use {

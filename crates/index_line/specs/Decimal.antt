@@ -1,4 +1,4 @@
--- Decimal numbers, as document 01 has them, and request K2.
+-- Decimal numbers (docs/RULES.md, R26).
 use Prim.Native.Nat.{ℕ, zero, suc, _+_, _-_, _*_, _/_, _%_, _^_}
 use mathlib.Core.Path.{_≡_}
 use mathlib.Core.List.{List, [], _∷_}

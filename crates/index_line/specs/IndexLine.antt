@@ -35,14 +35,14 @@ recordOf n vs = record {
   «line_width» = getD vs 3 0;
 }
 
-abbrev pub rowOf : ℕ → Numbers → LineRead
-rowOf n (Are vs plain) = read.Row (record { «record» = recordOf n vs; plain = plain })
-rowOf n (Not r) = read.Refused r
+abbrev pub entryRead : ℕ → Numbers → LineRead
+entryRead n (Are vs plain) = read.Row (record { «record» = recordOf n vs; plain = plain })
+entryRead n (Not r) = read.Refused r
 
 -- what the fields of a line say: the first is the name, which may be empty, and four numbers follow
 abbrev pub fieldsSay : ℕ → List (List ℕ) → LineRead
 fieldsSay line [] = read.Refused (EmptyIndexLine line)
-fieldsSay line (name ∷ fs) = rowOf (length name) (numbersFrom line 2 4 fs)
+fieldsSay line (name ∷ fs) = entryRead (length name) (numbersFrom line 2 4 fs)
 
 -- what the content of a line says; `line` is the number told in refusals
 unfoldable pub contentSays : ℕ → List ℕ → LineRead
@@ -59,8 +59,8 @@ onlyIf p (read.Refused r) = read.Refused r
 
 -- what a line says: a final LF, and one CR before it, come off. It is plain if it reads, ends in LF with no CR before it, and no
 -- number has a needless leading zero or a plus. A line of a text has no other LF; bytes that stand alone may have one
-unfoldable pub lineSays : ℕ → List ℕ → LineRead
-lineSays line l = onlyIf (plainEnd l) (contentSays line (contentOf l))
+unfoldable pub indexLineSays : ℕ → List ℕ → LineRead
+indexLineSays line l = onlyIf (plainEnd l) (contentSays line (contentOf l))
 
 -- the name of a line: its first field
 abbrev pub firstOf : List (List ℕ) → List ℕ
@@ -80,17 +80,17 @@ unfoldable pub readContent : List ℕ → LineRead
 readContent l = cond (overLimit (length l)) (read.Refused TooLong) (onlyIf false (contentSays 1 l))
 
 unfoldable pub readLine : List ℕ → LineRead
-readLine l = cond (overLimit (length l)) (read.Refused TooLong) (onlyIf (oneLine l) (lineSays 1 l))
+readLine l = cond (overLimit (length l)) (read.Refused TooLong) (onlyIf (oneLine l) (indexLineSays 1 l))
 
 -- ---- writing
 
 -- the four numbers of a line
-abbrev pub numbersOf : Record → List ℕ
-numbersOf x = x .length ∷ x .position .0 ∷ x .«line_bases» ∷ x .«line_width» ∷ []
+abbrev pub columnsOf : Record → List ℕ
+columnsOf x = x .length ∷ x .position .0 ∷ x .«line_bases» ∷ x .«line_width» ∷ []
 
 -- the line of a name and a record: name, tab, four decimal numbers with tabs between, LF
 unfoldable pub lineOf : List ℕ → Record → List ℕ
-lineOf name x = textOf name (numbersOf x)
+lineOf name x = textOf name (columnsOf x)
 
 -- a record's name, which is a span of some bytes
 unfoldable pub nameIn : List ℕ → Record → List ℕ
@@ -99,7 +99,7 @@ nameIn names x = take (x .«name_length») (drop (x .«name_start») names)
 -- the line of a row that holds a record
 abbrev pub rowWritten : List ℕ → List ℕ → Held → Wrote
 rowWritten names out (held.Refused r) = wrote (Refused r) out
-rowWritten names out (held.Row x) = textWritten (nameIn names x) (numbersOf x) out
+rowWritten names out (held.Row x) = textWritten (nameIn names x) (columnsOf x) out
 
 -- writing the line of row r of a table with n rows in use, whose names are spans of `names`: 1, 25, 13, 14
 unfoldable pub writtenAs : List ℕ → List ℕ → ℕ → ℕ → List ℕ → Wrote

@@ -17,7 +17,7 @@ use Rattle.index_line.specs.Fields.Numbers.{Are, Not}
 use Rattle.index_line.specs.Reading.{fieldLen, fieldLen-le, behind, cut-first}
 use Rattle.index_line.specs.Numbers.{Reads, numbers-read, reads-say, reads-allowed}
 use Rattle.index_line.specs.Cut.{cut-text}
-use Rattle.index_line.specs.IndexLine.{fieldsOf, recordOf, rowOf, fieldsSay, contentSays, plainEnd, onlyIf, lineSays, nameOf}
+use Rattle.index_line.specs.IndexLine.{fieldsOf, recordOf, entryRead, fieldsSay, contentSays, plainEnd, onlyIf, indexLineSays, nameOf}
 use Rattle.index_line.specs.declared.Entry.{Entry}
 use Rattle.index_line.specs.declared.LineRead.{LineRead}
 use Rattle.index_line.specs.declared.LineRead.the-variants.{Row, Refused}
@@ -30,12 +30,12 @@ content-empty line [] h = refl
 content-empty line (b ∷ l) h = absurd (omega arith)
 
 pub content-says : (line : ℕ) (l : List ℕ) → (length l ≡ 0 → ⊥)
-    → contentSays line l ≡ rowOf (fieldLen 4 l) (numbersFrom line 2 4 (behind 4 (drop (fieldLen 4 l) l)))
+    → contentSays line l ≡ entryRead (fieldLen 4 l) (numbersFrom line 2 4 (behind 4 (drop (fieldLen 4 l) l)))
 unfolding contentSays fieldsOf
 content-says line [] h = absurd (h refl)
 content-says line (b ∷ l) h =
     rw (cut-first 4 (b ∷ l))
-    (ap (λ (n : ℕ). rowOf n (numbersFrom line 2 4 (behind 4 (drop (fieldLen 4 (b ∷ l)) (b ∷ l))))) (length-take-le _ _ (fieldLen-le 4 (b ∷ l))))
+    (ap (λ (n : ℕ). entryRead n (numbersFrom line 2 4 (behind 4 (drop (fieldLen 4 (b ∷ l)) (b ∷ l))))) (length-take-le _ _ (fieldLen-le 4 (b ∷ l))))
 
 -- ---- a line that reads
 
@@ -61,7 +61,7 @@ pub content-known : (line : ℕ) (l : List ℕ) (e : Entry) → contentSays line
 unfolding contentSays
 content-known line l e h = go (fieldsOf l) refl h
   where
-    row : (name : List ℕ) (fs : List (List ℕ)) → fieldsOf l ≡ name ∷ fs → (ns : Numbers) → numbersFrom line 2 4 fs ≡ ns → rowOf (length name) ns ≡ Row e → ContentRead l e
+    row : (name : List ℕ) (fs : List (List ℕ)) → fieldsOf l ≡ name ∷ fs → (ns : Numbers) → numbersFrom line 2 4 fs ≡ ns → entryRead (length name) ns ≡ Row e → ContentRead l e
     row name fs c (Not r) q k = let z : _≡_ {A = ℕ} 0 1 = cc in absurd (omega arith)
     row name fs c (Are vs p) q k =
         let b : e .plain ≡ p = cc in
@@ -92,16 +92,16 @@ pub record LineIs (l : List ℕ) (e : Entry) : Type 0 where
   pub same : e .«record» ≡ content .«record»
   pub plain : e .plain ≡ (plainEnd l && content .plain)
 
-pub line-known : (line : ℕ) (l : List ℕ) (e : Entry) → lineSays line l ≡ Row e → LineIs l e
-unfolding lineSays
+pub line-known : (line : ℕ) (l : List ℕ) (e : Entry) → indexLineSays line l ≡ Row e → LineIs l e
+unfolding indexLineSays
 line-known line l e h = go (contentSays line (contentOf l)) refl h
   where
     go : (r : LineRead) → contentSays line (contentOf l) ≡ r → onlyIf (plainEnd l) r ≡ Row e → LineIs l e
     go (Refused r) c k = let z : _≡_ {A = ℕ} 0 1 = cc in absurd (omega arith)
     go (Row x) c k = record { content = x; known = content-known line (contentOf l) x c; same = cc; plain = cc }
 
-pub line-any : (line other : ℕ) (l : List ℕ) (e : Entry) → lineSays line l ≡ Row e → lineSays other l ≡ Row e
-unfolding lineSays
+pub line-any : (line other : ℕ) (l : List ℕ) (e : Entry) → indexLineSays line l ≡ Row e → indexLineSays other l ≡ Row e
+unfolding indexLineSays
 line-any line other l e h = go (contentSays line (contentOf l)) refl h
   where
     go : (r : LineRead) → contentSays line (contentOf l) ≡ r → onlyIf (plainEnd l) r ≡ Row e → onlyIf (plainEnd l) (contentSays other (contentOf l)) ≡ Row e
@@ -129,7 +129,7 @@ not-zero v h = go (eqb v 0) refl h
     go true e k = absurd (true≢false k)
     go false e k = omega (arith, eqb-false v 0 e)
 
-pub line-sound : (line : ℕ) (l : List ℕ) (e : Entry) → lineSays line l ≡ Row e → LineSound l (e .«record»)
+pub line-sound : (line : ℕ) (l : List ℕ) (e : Entry) → indexLineSays line l ≡ Row e → LineSound l (e .«record»)
 unfolding nameOf
 line-sound line l e h =
     let k = line-known line l e h in

@@ -12,7 +12,7 @@ use Rattle.record.specs.declared.Record.{Record}
 use Rattle.index_line.specs.Bytes.{is, firstWhere}
 use Rattle.index_line.specs.Fields.{numbersText, textOf, splits}
 use Rattle.index_line.specs.Lacks.{Lacks, lacks-head, lacks-tail, lacks-cons, lacks-append, text-lacks, splits-lf}
-use Rattle.index_line.specs.IndexLine.{oneLine, numbersOf, lineOf}
+use Rattle.index_line.specs.IndexLine.{oneLine, columnsOf, lineOf}
 
 one-length : (c : List ℕ) → Lacks (is 10) c → lineLen (c ++ (10 ∷ [])) ≡ length (c ++ (10 ∷ []))
 unfolding lineLen
@@ -42,5 +42,5 @@ module _ (c : List ℕ) where
 pub line-one : (name : List ℕ) (x : Record) → Lacks splits name → oneLine (lineOf name x) ≡ true
 unfolding lineOf textOf
 line-one name x h =
-    rw (← append-assoc name (numbersText (numbersOf x)) (10 ∷ []))
-    (lacks-one (name ++ numbersText (numbersOf x)) (lacks-append (is 10) name (numbersText (numbersOf x)) (splits-lf name h) (text-lacks (is 10) (λ b l. ne-eqb b 10 (λ e. omega arith)) refl (numbersOf x))))
+    rw (← append-assoc name (numbersText (columnsOf x)) (10 ∷ []))
+    (lacks-one (name ++ numbersText (columnsOf x)) (lacks-append (is 10) name (numbersText (columnsOf x)) (splits-lf name h) (text-lacks (is 10) (λ b l. ne-eqb b 10 (λ e. omega arith)) refl (columnsOf x))))

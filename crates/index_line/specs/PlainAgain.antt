@@ -20,7 +20,7 @@ use Rattle.index_line.specs.Lacks.{Lacks, first-lacks, lacks-take, lacks
 use Rattle.index_line.specs.Numbers.{both}
 use Rattle.index_line.specs.Ends.{plain-content}
 use Rattle.index_line.specs.OneLine.{one-lacks}
-use Rattle.index_line.specs.IndexLine.{plainEnd, oneLine, onlyIf, nameOf, lineSays, readLine, lineOf, nameIn, writtenAs}
+use Rattle.index_line.specs.IndexLine.{plainEnd, oneLine, onlyIf, nameOf, indexLineSays, readLine, lineOf, nameIn, writtenAs}
 use Rattle.index_line.specs.Laws.{Lined, line-known, line-sound, fields-cut}
 use Rattle.index_line.specs.RoundTrip.{plain-writes}
 use Rattle.index_line.specs.declared.Entry.{Entry}
@@ -32,21 +32,21 @@ use Rattle.index_line.specs.declared.Written.the-variants as written
 record ReadAlone (l : List ℕ) (e : Entry) : Type 0 where
   small : overLimit (length l) ≡ false
   entry : Entry
-  says : lineSays 1 l ≡ read.Row entry
+  says : indexLineSays 1 l ≡ read.Row entry
   same : e .«record» ≡ entry .«record»
   plain : e .plain ≡ (oneLine l && entry .plain)
 
 read-alone : (l : List ℕ) (e : Entry) → readLine l ≡ read.Row e → ReadAlone l e
 unfolding readLine
-read-alone l e h = go (overLimit (length l)) refl (lineSays 1 l) refl h
+read-alone l e h = go (overLimit (length l)) refl (indexLineSays 1 l) refl h
   where
-    go : (t : Bool) → overLimit (length l) ≡ t → (r : LineRead) → lineSays 1 l ≡ r → cond t (read.Refused TooLong) (onlyIf (oneLine l) r) ≡ read.Row e → ReadAlone l e
+    go : (t : Bool) → overLimit (length l) ≡ t → (r : LineRead) → indexLineSays 1 l ≡ r → cond t (read.Refused TooLong) (onlyIf (oneLine l) r) ≡ read.Row e → ReadAlone l e
     go true q r s k = let z : _≡_ {A = ℕ} 0 1 = cc in absurd (omega arith)
     go false q (read.Refused f) s k = let z : _≡_ {A = ℕ} 0 1 = cc in absurd (omega arith)
     go false q (read.Row x) s k = record { small = q; entry = x; says = s; same = cc; plain = cc }
 
 -- the name of a plain line that is one line has no tab, since it is cut off at the first, and no LF
-module _ (l : List ℕ) (e : Entry) (h : lineSays 1 l ≡ read.Row e) where
+module _ (l : List ℕ) (e : Entry) (h : indexLineSays 1 l ≡ read.Row e) where
   name-front : take (e .«record» .«name_length») l ≡ take (firstWhere (is 9) (contentOf l)) (contentOf l)
   unfolding fieldLen nameOf
   name-front =

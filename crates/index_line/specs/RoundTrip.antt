@@ -26,7 +26,7 @@ use Rattle.index_line.specs.OneLine.{line-one}
 use Rattle.index_line.specs.Numbers.{Allowed, both, text-reads, reads-say, reads-text, reads-count}
 use Rattle.index_line.specs.Cut.{text-cut, cut-text, cut-most}
 use Rattle.index_line.specs.Ends.{ends-behind, content-lf, plain-lf, plain-content}
-use Rattle.index_line.specs.IndexLine.{fieldsOf, recordOf, contentSays, plainEnd, lineSays, readLine, numbersOf, lineOf, nameIn, rowWritten, writtenAs}
+use Rattle.index_line.specs.IndexLine.{fieldsOf, recordOf, contentSays, plainEnd, indexLineSays, readLine, columnsOf, lineOf, nameIn, rowWritten, writtenAs}
 use Rattle.index_line.specs.Laws.{Lined, line-known, fields-cut}
 use Rattle.index_line.specs.declared.Entry.{Entry}
 use Rattle.index_line.specs.declared.LineRead.the-variants as read
@@ -36,9 +36,9 @@ use Rattle.index_line.specs.declared.Written.the-variants as written
 
 -- the same four numbers behind a name of n bytes, in a plain line
 unfoldable pub entryOf : ℕ → Record → Entry
-entryOf n x = record { «record» = recordOf n (numbersOf x); plain = true }
+entryOf n x = record { «record» = recordOf n (columnsOf x); plain = true }
 
-lined-allowed : (x : Record) → Lined x → (i : ℕ) → i < 4 → Allowed (2 + i) (getD (numbersOf x) i 0)
+lined-allowed : (x : Record) → Lined x → (i : ℕ) → i < 4 → Allowed (2 + i) (getD (columnsOf x) i 0)
 lined-allowed x p zero h = (p .fits-length, and-false (eqb (x .length) 0))
 lined-allowed x p (suc zero) h = (p .fits-position, and-false (eqb (x .position .0) 0))
 lined-allowed x p (suc (suc zero)) h = (p .fits-bases, rw (ne-eqb (x .«line_bases») 0 (λ e. omega (arith, p .some-bases))))
@@ -51,10 +51,10 @@ unfolding fieldsOf
 fields-some [] h = absurd (omega arith)
 fields-some (b ∷ l) h = refl
 
-content-written : (line : ℕ) (name : List ℕ) (x : Record) → Lacks (is 9) name → Lined x → contentSays line (name ++ numbersText (numbersOf x)) ≡ read.Row (entryOf (length name) x)
+content-written : (line : ℕ) (name : List ℕ) (x : Record) → Lacks (is 9) name → Lined x → contentSays line (name ++ numbersText (columnsOf x)) ≡ read.Row (entryOf (length name) x)
 unfolding contentSays entryOf tabbed
 content-written line name x h p =
-    rw (fields-some (name ++ numbersText (numbersOf x)) (simp length-append (omega arith)), text-cut name (numbersOf x) h, reads-say line (text-reads (numbersOf x) 2 (lined-allowed x p)))
+    rw (fields-some (name ++ numbersText (columnsOf x)) (simp length-append (omega arith)), text-cut name (columnsOf x) h, reads-say line (text-reads (columnsOf x) 2 (lined-allowed x p)))
 
 ends-digit : (name : List ℕ) (n : ℕ) (ns : List ℕ) → ends 13 (name ++ numbersText (n ∷ ns)) ≡ false
 unfolding tabbed
@@ -63,11 +63,11 @@ ends-digit name n ns =
     ∙ lacks-ends 13 (numbersText (n ∷ ns)) (text-lacks (is 13) (λ b l. ne-eqb b 13 (λ e. omega arith)) refl (n ∷ ns))
 
 -- a line that is written reads back as the same name bytes and the same four numbers, and is plain
-pub written-reads : (line : ℕ) (name : List ℕ) (x : Record) → Lacks (is 9) name → Lined x → lineSays line (lineOf name x) ≡ read.Row (entryOf (length name) x)
-unfolding lineSays lineOf textOf entryOf
+pub written-reads : (line : ℕ) (name : List ℕ) (x : Record) → Lacks (is 9) name → Lined x → indexLineSays line (lineOf name x) ≡ read.Row (entryOf (length name) x)
+unfolding indexLineSays lineOf textOf entryOf
 written-reads line name x h p =
     let e = ends-digit name (x .length) (x .position .0 ∷ x .«line_bases» ∷ x .«line_width» ∷ []) in
-    rw (← append-assoc name (numbersText (numbersOf x)) (10 ∷ []), plain-lf _ e, content-lf _ e, content-written line name x h p)
+    rw (← append-assoc name (numbersText (columnsOf x)) (10 ∷ []), plain-lf _ e, content-lf _ e, content-written line name x h p)
 
 -- ---- the two calls
 
@@ -81,7 +81,7 @@ pub record LineWritten (names t : List ℕ) (n r : ℕ) (out : List ℕ) (k : �
   pub row : Record
   pub held : namedAt t n r (length names) ≡ held.Row row
   pub name : length (nameIn names row) ≡ row .«name_length»
-  pub put : TextPut (nameIn names row) (numbersOf row) out k after
+  pub put : TextPut (nameIn names row) (columnsOf row) out k after
 
 pub line-written : (names t : List ℕ) (n r : ℕ) (out : List ℕ) (k : ℕ) (after : List ℕ) → writtenAs names t n r out ≡ wrote (written.Bytes k) after
     → LineWritten names t n r out k after
@@ -93,7 +93,7 @@ line-written names t n r out k after h = go (overLimit (length names)) (namedAt 
     go true o e q = absurd (no-bytes _ out k after q)
     go false (held.Refused f) e q = absurd (no-bytes _ out k after q)
     go false (held.Row x) e q =
-        record { row = x; held = e; name = name-long names x (named-known t n r (length names) x e .1); put = text-known (nameIn names x) (numbersOf x) out k after q }
+        record { row = x; held = e; name = name-long names x (named-known t n r (length names) x e .1); put = text-known (nameIn names x) (columnsOf x) out k after q }
 
 -- the numbers of a table, which is one of 64-bit numbers
 row-lined : (t : List ℕ) (n r : ℕ) (x : Record) → ((i : ℕ) → getD t i 0 < 2 ^ 64) → HeldRow t n r x → Lined x
@@ -110,10 +110,10 @@ pub record ReadBack (names t : List ℕ) (n r k : ℕ) (after : List ℕ) : Type
   pub name : take (row .«name_length») after ≡ nameIn names row
 
 -- the front of a line's bytes is its name
-line-front : (name : List ℕ) (x : Record) (k : ℕ) (after : List ℕ) → take k after ≡ textOf name (numbersOf x) → take (length name) after ≡ name
+line-front : (name : List ℕ) (x : Record) (k : ℕ) (after : List ℕ) → take k after ≡ textOf name (columnsOf x) → take (length name) after ≡ name
 unfolding textOf
 line-front name x k after e =
-    let rest : List ℕ = numbersText (numbersOf x) ++ (10 ∷ []) in
+    let rest : List ℕ = numbersText (columnsOf x) ++ (10 ∷ []) in
     let n : length name ≤ k = omega (arith, ap length e, length-append name rest, length-take k after) in
     sym (take-take (length name) k after n) ∙ (ap (take (length name)) e ∙ take-at name rest (length name) refl)
 
@@ -135,7 +135,7 @@ reads-back names t n r out k after f h m =
 
 -- ---- read, then written
 
-four : (vs : List ℕ) (n : ℕ) → length vs ≡ 4 → numbersOf (recordOf n vs) ≡ vs
+four : (vs : List ℕ) (n : ℕ) → length vs ≡ 4 → columnsOf (recordOf n vs) ≡ vs
 four [] n h = absurd (omega arith)
 four (a ∷ []) n h = absurd (omega arith)
 four (a ∷ b ∷ []) n h = absurd (omega arith)
@@ -148,7 +148,7 @@ unfolding lineOf textOf
 line-text name vs n fs h e = ap (textOf name) (four vs n h) ∙ rw e
 
 -- the line of what a plain line says has the same bytes
-pub plain-writes : (line : ℕ) (l : List ℕ) (e : Entry) → lineSays line l ≡ read.Row e → e .plain ≡ true
+pub plain-writes : (line : ℕ) (l : List ℕ) (e : Entry) → indexLineSays line l ≡ read.Row e → e .plain ≡ true
     → lineOf (take (e .«record» .«name_length») l) (e .«record») ≡ l
 plain-writes line l e h p =
     let k = line-known line l e h in

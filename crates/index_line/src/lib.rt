@@ -11,7 +11,7 @@ use record::Offset;
 use record::Record;
 use refusal::Refusal;
 ghost use mathlib.Core.Path.{_≡_};
-ghost use Rattle.index_line.specs.IndexLine.{contentSays, onlyIf, lineSays, readContent, readLine, writtenAs};
+ghost use Rattle.index_line.specs.IndexLine.{contentSays, onlyIf, indexLineSays, readContent, readLine, writtenAs};
 ghost use Rattle.index_line.specs.Fields.{wrote};
 
 // A number read: its value, or that it is none.
@@ -80,7 +80,7 @@ fn plain_if(p: bool, read: LineRead) -> LineRead
 // Reads line number `line` with its end: one final LF, and one CR before it, come off. It does not look for an LF before that: a line
 // of a text has none.
 pub fn parse_line(l: &[u8], line: u64) -> LineRead
-    ensures { λ r. ⌜ r ≡ lineSays line (now (l .entry)) ⌝ }
+    ensures { λ r. ⌜ r ≡ indexLineSays line (now (l .entry)) ⌝ }
 {
     let length = lines::content_length(l);
     let ended = l.len() - length == 1;

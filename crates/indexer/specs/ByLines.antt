@@ -18,7 +18,7 @@ use Rattle.lines.specs.GroupLaws.{afterSeq, groups-cut}
 use Rattle.lines.specs.Feeding.{joined, judgeAll, feedAll, finish, fresh, fed-whole}
 use Rattle.definition.specs.declared.Parsed.{Parsed}
 use Rattle.definition.specs.declared.Parsed.the-variants.{Named, Bad}
-use Rattle.definition.specs.Definition.{lineSays, refusalOf}
+use Rattle.definition.specs.Definition.{definitionSays, refusalOf}
 use Rattle.record.specs.declared.Record.{Record}
 use Rattle.table.specs.declared.Stop.{Stop}
 use Rattle.table.specs.declared.Stop.the-variants.{Ended, Refused}
@@ -108,7 +108,7 @@ module _ (all : ℕ) where
   applied f rs (emits x z) = emitted f rs x z
 
   abbrev pub stepLine : State → List ℕ → Bool → State
-  stepLine st l last = applied (st .free) (st .rows) (outOf (st .phase) (lineOf l) (lineSays l) last)
+  stepLine st l last = applied (st .free) (st .rows) (outOf (st .phase) (lineOf l) (definitionSays l) last)
 
 abbrev pub stopOf : Phase → Stop
 stopOf (wants-definition at) = Ended
@@ -213,7 +213,7 @@ module _ (all : ℕ) where
   module _ (l : List ℕ) (ls : List (List ℕ)) (ih : (c : Phase) → Claim ls c) where
     definition-step : (at : ℕ) → Claim (l ∷ ls) (wants-definition at)
     unfolding Claim judgeAll groupsBy definitionOut
-    definition-step at f rs = rw (groups-cut l ls) (go (lineSays l) (none (seqOf ls)) refl)
+    definition-step at f rs = rw (groups-cut l ls) (go (definitionSays l) (none (seqOf ls)) refl)
       where
         go : (p : Parsed) (t : Bool) → none (seqOf ls) ≡ t
             → found (run (applied all f rs (definitionOut at (length l) t p)) ls) ≡ plus rs (heldIn f all (stepped (definedBy ported at (length l) (seqOf ls) p) (fileOf (groups (afterSeq ls)))))
@@ -286,6 +286,6 @@ module _ (all : ℕ) where
   unfolding Claim fileBy
   by-lines s = claims (lines s) (wants-definition 0) all []
 
-  -- K1 over definitions: a file in any pieces, and the end
+  -- R57 of docs/RULES.md, over definitions: a file in any pieces, and the end
   pub by-pieces : (ps : List (List ℕ)) → found (finish (stepLine all) (feedAll (stepLine all) (fresh (stepLine all) start) ps)) ≡ heldIn all all (fileAt (joined ps) 0)
   by-pieces ps = ap found (fed-whole (stepLine all) start ps) ∙ by-lines (joined ps)

@@ -80,7 +80,7 @@ module _ (all : ℕ) where
   calls-joined (none {f = f} {t = t}) = record { new = []; is = unfold feedSums in refl; rows = sym (add-zero (f .rows)); table = sym (rows-none t (f .rows)) }
   calls-joined (more {f = f} {g = g} {h = h} {p = p} {ps = ps} {t = t} {u = u} {v = v} e c) = one-more f g h p ps t u v e (calls-joined c)
 
-  -- K1: the calls and the end call leave and tell what the whole-file call does
+  -- R57 of docs/RULES.md: the calls and the end call leave and tell what the whole-file call does
   pub calls-filled : (ps : List (List ℕ)) (t u v : List ℕ) (g : Kept) (told : Filled) → Calls begun ps t u g → Closed g u v told → FilledAs (heldIn all all (fileAt (joined ps) 0)) t v told
   calls-filled ps t u v g told c e =
       rw (sym (pieces-found all ps) ∙ w)

@@ -1,4 +1,4 @@
--- What indexing a whole file gives by the ported rule, in document 01's words: a row for each record, up to the first refusal.
+-- What indexing a whole file gives by the ported rule (docs/RULES.md, R20, R23): a row for each record, up to the first refusal.
 use Prim.Native.Nat.{ℕ}
 use mathlib.Core.List.{List}
 use Rattle.lines.specs.Groups.{Group}

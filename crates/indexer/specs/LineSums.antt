@@ -16,7 +16,7 @@ use Rattle.lines.specs.Feeding.{joined, FedSum, Summing, Sums, feedSum, feedSum
 use Rattle.definition.specs.declared.Fault.the-variants.{Empty, NoPrefix, NoName}
 use Rattle.definition.specs.declared.Parsed.{Parsed}
 use Rattle.definition.specs.declared.Parsed.the-variants.{Named, Bad}
-use Rattle.definition.specs.Definition.{isSpace, spaced, run, namedOf, contentSays, lineSays}
+use Rattle.definition.specs.Definition.{isSpace, spaced, run, namedOf, contentSays, definitionSays}
 use Rattle.record.specs.declared.Record.{Record}
 use Rattle.table.specs.Fill.{heldIn}
 use Rattle.indexer.specs.Index.{lineOf}
@@ -110,8 +110,8 @@ begins-content l s b e = go l (sym (rw e at (content-front l)))
     go [] h = let z : _≡_ {A = ℕ} 0 1 = cc in absurd (omega arith)
     go (x ∷ l) h = let q : b ≡ x = cc in rw q
 
-says-enough : (at w : ℕ) (last : Bool) (l : List ℕ) → definitionOut at w last (lineSays l) ≡ definitionOut at w last (sumSays (sumOf l))
-unfolding lineSays sumSays
+says-enough : (at w : ℕ) (last : Bool) (l : List ℕ) → definitionOut at w last (definitionSays l) ≡ definitionOut at w last (sumSays (sumOf l))
+unfolding definitionSays sumSays
 says-enough at w last l = rw (blank-content l) (go (contentOf l) refl)
   where
     named : (s : List ℕ) (n : ℕ) → definitionOut at w last (namedOf s n) ≡ definitionOut at w last (namedAs n)
@@ -136,7 +136,7 @@ module _ (all : ℕ) where
   unfolding stepSum
   sum-judges st l last = ap (applied all (st .free) (st .rows)) (go (st .phase))
     where
-      go : (p : Phase) → outOf p (lineOf l) (lineSays l) last ≡ outOf p (sumOf l .line) (sumSays (sumOf l)) last
+      go : (p : Phase) → outOf p (lineOf l) (definitionSays l) last ≡ outOf p (sumOf l .line) (sumSays (sumOf l)) last
       go (wants-definition at) = says-enough at (length l) last l ∙ (unfold sumOf in refl)
       go (wants-first d) = unfold sumOf in refl
       go (wants-line d first m z) = unfold sumOf in refl
@@ -186,7 +186,7 @@ module _ (all : ℕ) where
         grows = sum-grows;
       }
 
-  -- K1 over definitions: a file that comes in any pieces, and then ends, gives the rows and the stop of the whole file
+  -- R57 of docs/RULES.md, over definitions: a file that comes in any pieces, and then ends, gives the rows and the stop of the whole file
   pub pieces-found : (ps : List (List ℕ)) → found (finishSum sums (feedSums sums (record { state = start all; held = sumOf [] }) ps)) ≡ heldIn all all (fileAt (joined ps) 0)
   pieces-found ps = ap found (sums-whole sums (stepLine all) sums-law (start all) ps) ∙ by-lines all (joined ps)
 

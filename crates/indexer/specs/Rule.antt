@@ -12,7 +12,7 @@ use Rattle.lines.specs.Lines.{lines, seqOf, sumWidths}
 use Rattle.lines.specs.Groups.{Group, groups}
 use Rattle.definition.specs.declared.Parsed.{Parsed}
 use Rattle.definition.specs.declared.Parsed.the-variants.{Named, Bad}
-use Rattle.definition.specs.Definition.{lineSays, refusalOf}
+use Rattle.definition.specs.Definition.{definitionSays, refusalOf}
 use Rattle.record.specs.declared.Record.{Record}
 use Rattle.table.specs.Fill.{Found, nothing, withFirst, heldIn}
 use Rattle.table.specs.declared.Stop.the-variants.{Ended, Refused}
@@ -49,7 +49,7 @@ definedBy rule at n ls (Bad f) = record { answer = indexed.Refused (refusalOf f 
 -- the record whose definition is the first of some lines, which begin at an offset
 abbrev pub firstBy : SequenceRule → ℕ → List (List ℕ) → Step
 firstBy rule at [] = record { answer = indexed.End; next = record { at = at } }
-firstBy rule at (d ∷ ls) = definedBy rule at (length d) (seqOf ls) (lineSays d)
+firstBy rule at (d ∷ ls) = definedBy rule at (length d) (seqOf ls) (definitionSays d)
 
 -- the record at an offset of a file
 unfoldable pub recordBy : SequenceRule → List ℕ → ℕ → Step
@@ -68,7 +68,7 @@ stepped x f = onwards (x .answer) (f (x .next .at))
 
 -- what a group, which begins at an offset, gives
 abbrev pub groupBy : SequenceRule → ℕ → Group → Step
-groupBy rule at g = definedBy rule at (length (g .def)) (g .seq) (lineSays (g .def))
+groupBy rule at g = definedBy rule at (length (g .def)) (g .seq) (definitionSays (g .def))
 
 -- the rows of some groups, the first of which begins at an offset
 unfoldable pub groupsBy : SequenceRule → List Group → ℕ → Found

@@ -15,7 +15,7 @@ use Rattle.lines.specs.Groups.{groups}
 use Rattle.lines.specs.GroupLaws.{afterSeq, groups-cut, lines-next}
 use Rattle.definition.specs.declared.Parsed.{Parsed}
 use Rattle.definition.specs.declared.Parsed.the-variants.{Named, Bad}
-use Rattle.definition.specs.Definition.{lineSays}
+use Rattle.definition.specs.Definition.{definitionSays}
 use Rattle.record.specs.declared.Record.{Record}
 use Rattle.table.specs.Fill.{Found, nothing, withFirst}
 use Rattle.table.specs.declared.Stop.the-variants.{Ended, Refused}
@@ -32,7 +32,7 @@ module _ (rule : SequenceRule) where
     record-end h = rw (drop-of-length-le s h)
 
     -- the definition line, by what it says
-    pub record-here : (e : ℕ) (d v : Parsed) → at < length s → e ≡ lineEnd s at → d ≡ lineSays (part s at e) → d ≡ v
+    pub record-here : (e : ℕ) (d v : Parsed) → at < length s → e ≡ lineEnd s at → d ≡ definitionSays (part s at e) → d ≡ v
         → definedBy rule at (e - at) (seqAt s e) v ≡ recordBy rule s at
     unfolding recordBy seqAt
     record-here e d v h he hd hv =
@@ -56,7 +56,7 @@ module _ (rule : SequenceRule) where
   file-lines s at l ls h =
       rw (h, groups-cut l ls)
       (step-same (groupsBy rule (groups (afterSeq ls))) (fileBy rule s) at (length l) (seqOf ls)
-      (ap (λ (w : List (List ℕ)). groupsBy rule (groups w) (at + length l + sumWidths (seqOf ls))) (sym (lines-next s at l ls h))) (lineSays l))
+      (ap (λ (w : List (List ℕ)). groupsBy rule (groups w) (at + length l + sumWidths (seqOf ls))) (sym (lines-next s at l ls h))) (definitionSays l))
 
   pub file-step : (s : List ℕ) (at : ℕ) → fileBy rule s at ≡ stepped (recordBy rule s at) (fileBy rule s)
   unfolding fileBy groupsBy groups lines
@@ -83,7 +83,7 @@ module _ (rule : SequenceRule) where
       row : at < length s → (at < length s) × (at < recordBy rule s at .next .at)
       row k =
           let e : recordBy rule s at ≡ firstBy rule at (part s at (lineEnd s at) ∷ lines (drop (lineEnd s at) s)) = unfold recordBy in ap (firstBy rule at) (linesAt-cut s at k) in
-          let m = defined-next at (length (part s at (lineEnd s at))) (seqOf (lines (drop (lineEnd s at) s))) (lineSays (part s at (lineEnd s at))) x (rw e at h) in
+          let m = defined-next at (length (part s at (lineEnd s at))) (seqOf (lines (drop (lineEnd s at) s))) (definitionSays (part s at (lineEnd s at))) x (rw e at h) in
           (k, rw e (omega (arith, m, part-length s at (lineEnd s at) (lineEnd-le s at (omega arith)), lineEnd-gt s at k)))
 
       go : (t : Bool) → ltb at (length s) ≡ t → (at < length s) × (at < recordBy rule s at .next .at)

@@ -1,4 +1,4 @@
--- The lines of a file, and what the line rule of document 01 says of them.
+-- The lines of a file, and what the line rule says of them (docs/RULES.md, R6 to R9).
 use Prim.Native.Nat.{ℕ, zero, suc, _+_, _-_, _≤_, _<_}
 use mathlib.Core.Path.{_≡_}
 use mathlib.Core.List.{List, [], _∷_, _++_}

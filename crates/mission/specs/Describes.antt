@@ -23,7 +23,7 @@ use Rattle.mission.specs.Leading.{rowIn}
 pub record Describes (f : List ℕ) (start : ℕ) (g : Group) (x : Record) : Type 0 where
   -- its definition line has a name; the row's name lies in the file, its bytes are that name, and none of them is whitespace
   pub said : Definition
-  pub defined : definition.lineSays (g .def) ≡ Named said
+  pub defined : definition.definitionSays (g .def) ≡ Named said
   pub named : x .«name_start» + x .«name_length» ≤ length f
   pub name : nameIn f x ≡ spanOf (g .def) (said .name)
   pub unbroken : Lacks isSpace (nameIn f x)

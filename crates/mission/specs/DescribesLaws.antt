@@ -22,7 +22,7 @@ use Rattle.mission.specs.Leading.{LeadsTo}
 use Rattle.mission.specs.Describes.{Describes}
 
 -- the row of the first group of a file from an offset on
-described : (f : List ℕ) (at : ℕ) (g : Group) (gs : List Group) (d : Definition) → FirstGroup f at g gs → definition.lineSays (g .def) ≡ Named d → judge (at + length (g .def)) (g .seq) ≡ good
+described : (f : List ℕ) (at : ℕ) (g : Group) (gs : List Group) (d : Definition) → FirstGroup f at g gs → definition.definitionSays (g .def) ≡ Named d → judge (at + length (g .def)) (g .seq) ≡ good
     → Describes f (at + length (g .def)) g (rowOf at (length (g .def)) (d .name) (g .seq))
 described f at g gs d h e j =
     let n = name-bytes f at (g .def) (h .others) d (g .seq) (h .here) e in

@@ -11,7 +11,7 @@ use Rattle.lines.specs.Lines.{lines, seqOf, seqAt, sumWidths, basesAt}
 use Rattle.lines.specs.Groups.{Group, groups}
 use Rattle.lines.specs.GroupLaws.{lines-behind}
 use Rattle.lines.specs.Sums.{sum-le}
-use Rattle.definition.specs.Definition.{lineSays}
+use Rattle.definition.specs.Definition.{definitionSays}
 use Rattle.definition.specs.Laws.{name-within}
 use Rattle.definition.specs.declared.Definition.{Definition}
 use Rattle.definition.specs.declared.Parsed.{Parsed}
@@ -25,7 +25,7 @@ use Rattle.index_line.specs.Laws.{line-sound}
 use Rattle.indexer.specs.Rule.{Verdict, good, bad, judgedBy, sequenceBy, definedBy, firstBy, recordBy, stepped, groupsBy, fileBy}
 use Rattle.indexer.specs.Index.{judge, ported}
 use Rattle.indexer.specs.declared.Indexed.the-variants as indexed
-use Rattle.fitting.specs.Complete.{fit, numbersAt, rowOf, complete}
+use Rattle.fitting.specs.Complete.{fit, numbersAt, completeRow, complete}
 use Rattle.fitting.specs.declared.Numbers.{Numbers}
 use Rattle.fitting.specs.Leads.{any-leads, leads-good, good-leads}
 use Rattle.fitting.specs.Sound.{numbers-sound}
@@ -38,8 +38,8 @@ use Rattle.mission.specs.Leading.{LeadsTo}
 -- ---- the rows that it gives lead to every base
 
 -- the row of the first group of a file from an offset on
-led : (f : List ℕ) (at : ℕ) (g : Group) (gs : List Group) (d : Definition) → FirstGroup f at g gs → lineSays (g .def) ≡ Named d → fit (at + length (g .def)) (g .seq) ≡ good
-    → LeadsTo f (at + length (g .def)) g (rowOf at (length (g .def)) (d .name) (g .seq))
+led : (f : List ℕ) (at : ℕ) (g : Group) (gs : List Group) (d : Definition) → FirstGroup f at g gs → definitionSays (g .def) ≡ Named d → fit (at + length (g .def)) (g .seq) ≡ good
+    → LeadsTo f (at + length (g .def)) g (completeRow at (length (g .def)) (d .name) (g .seq))
 unfolding fit nameIn
 led f at g gs d h e j =
     let n = name-bytes f at (g .def) (h .others) d (g .seq) (h .here) e in
@@ -80,7 +80,7 @@ matched-fits n start g l m =
 -- a record's definition line reads, and its numbers lead to every base
 pub record Fits (start : ℕ) (g : Group) : Type 0 where
   pub said : Definition
-  pub defined : lineSays (g .def) ≡ Named said
+  pub defined : definitionSays (g .def) ≡ Named said
   pub fits : fit start (g .seq) ≡ good
 
 pub all-fit : (gs : List Group) (at : ℕ) → ((k : ℕ) → k < length gs → Fits (at + sequenceAt gs k) (recordAt gs k)) → groupsBy complete gs at .stop ≡ stop.Ended
@@ -132,13 +132,13 @@ module _ (f : List ℕ) where
 
       go : (ls : List (List ℕ)) → lines (drop at f) ≡ ls → firstBy ported at ls .answer ≡ indexed.Row x → firstBy complete at ls ≡ firstBy ported at ls
       go [] e q = refl
-      go (l ∷ ls) e q = defined l ls (lines-terminated f at l ls e) (lineSays l) q
+      go (l ∷ ls) e q = defined l ls (lines-terminated f at l ls e) (definitionSays l) q
 
   -- so on a file that the ported one takes to its end, both give the same
   pub agree-groups : (gs : List Group) (at : ℕ) → groups (lines (drop at f)) ≡ gs → groupsBy ported gs at .stop ≡ stop.Ended → groupsBy complete gs at ≡ groupsBy ported gs at
   unfolding groupsBy sequenceBy
   agree-groups [] at h e = refl
-  agree-groups (g ∷ gs) at h e = defined (agree-groups gs) (lineSays (g .def)) e
+  agree-groups (g ∷ gs) at h e = defined (agree-groups gs) (definitionSays (g .def)) e
     where
       k : FirstGroup f at g gs
       k = first-group f at g gs h

@@ -18,7 +18,7 @@ use Rattle.lines.specs.Groups.{Group, groups}
 use Rattle.lines.specs.GroupLaws.{afterSeq, groups-cut, lines-next}
 use Rattle.lines.specs.declared.Line.{Line}
 use Rattle.lines.specs.declared.Span.{Span}
-use Rattle.definition.specs.Definition.{isSpace, spaced, run, keep, described, namedOf, contentSays, lineSays}
+use Rattle.definition.specs.Definition.{isSpace, spaced, run, keep, described, namedOf, contentSays, definitionSays}
 use Rattle.definition.specs.Laws.{run-le, name-within}
 use Rattle.definition.specs.declared.Definition.{Definition}
 use Rattle.definition.specs.declared.Fault.the-variants.{NoPrefix}
@@ -39,7 +39,7 @@ use Rattle.index_line.specs.Bytes.{is, firstWhere}
 use Rattle.index_line.specs.Fields.{numbersText, textOf, splits, wrote, frontWritten, textWritten}
 use Rattle.index_line.specs.declared.Written.the-variants.{Bytes}
 use Rattle.index_line.specs.Lacks.{Lacks, lacks-head, lacks-tail, lacks-cons, lacks-less, text-lacks}
-use Rattle.index_line.specs.IndexLine.{numbersOf, nameOf, nameIn}
+use Rattle.index_line.specs.IndexLine.{columnsOf, nameOf, nameIn}
 use Rattle.index_line.specs.IndexLine as index
 use Rattle.index_line.specs.Numbers.{both}
 use Rattle.index_line.specs.Laws.{Lined, line-sound}
@@ -71,8 +71,8 @@ behind-first b n s (c ∷ l) h e =
     sym (take-take n (length s) l h) ∙ ap (take n) q
 
 -- a name holds no whitespace
-pub name-spaceless : (l : List ℕ) (d : Definition) → lineSays l ≡ Named d → Lacks isSpace (spanOf l (d .name))
-unfolding lineSays contentSays
+pub name-spaceless : (l : List ℕ) (d : Definition) → definitionSays l ≡ Named d → Lacks isSpace (spanOf l (d .name))
+unfolding definitionSays contentSays
 name-spaceless l d h = go (contentOf l) (content-front l) h
   where
     some : (b : ℕ) (s : List ℕ) (n : ℕ) → run (spaced false) s ≡ n → take (suc (length s)) l ≡ b ∷ s → namedOf s n ≡ Named d → Lacks isSpace (spanOf l (d .name))
@@ -115,7 +115,7 @@ line-front (b ∷ s) l ls h =
     rw r p
 
 -- a name's bytes in the file are those in its definition line, which begins at an offset
-pub name-bytes : (f : List ℕ) (at : ℕ) (l : List ℕ) (ls : List (List ℕ)) (d : Definition) (q : List (List ℕ)) → lines (drop at f) ≡ l ∷ ls → lineSays l ≡ Named d
+pub name-bytes : (f : List ℕ) (at : ℕ) (l : List ℕ) (ls : List (List ℕ)) (d : Definition) (q : List (List ℕ)) → lines (drop at f) ≡ l ∷ ls → definitionSays l ≡ Named d
     → nameIn f (rowOf at (length l) (d .name) q) ≡ spanOf l (d .name)
 unfolding nameIn
 name-bytes f at l ls d q h e =
@@ -215,20 +215,20 @@ first-within (l ∷ ls) = omega arith
 
 -- what a group, which begins at an offset, adds: its row, or the refusal that ends the file
 data GroupSaid (rule : SequenceRule) (at : ℕ) (g : Group) (behind : ℕ → Found) : Found → Type 0 where
-  its-row : (d : Definition) → lineSays (g .def) ≡ Named d → rule .judge (at + length (g .def)) (g .seq) ≡ good
+  its-row : (d : Definition) → definitionSays (g .def) ≡ Named d → rule .judge (at + length (g .def)) (g .seq) ≡ good
       → GroupSaid rule at g behind (withFirst (rule .row at (length (g .def)) (d .name) (g .seq)) (behind (at + length (g .def) + sumWidths (g .seq))))
   its-refusal : (x : Refusal) → GroupSaid rule at g behind (nothing (stop.Refused x))
 
 group-said : (rule : SequenceRule) (at : ℕ) (g : Group) (behind : ℕ → Found) → GroupSaid rule at g behind (stepped (groupBy rule at g) behind)
 unfolding sequenceBy
-group-said rule at g behind = go (lineSays (g .def)) refl
+group-said rule at g behind = go (definitionSays (g .def)) refl
   where
-    judged : (d : Definition) → lineSays (g .def) ≡ Named d → (v : Verdict) → rule .judge (at + length (g .def)) (g .seq) ≡ v
+    judged : (d : Definition) → definitionSays (g .def) ≡ Named d → (v : Verdict) → rule .judge (at + length (g .def)) (g .seq) ≡ v
         → GroupSaid rule at g behind (stepped (judgedBy rule at (length (g .def)) (d .name) (g .seq) v) behind)
     judged d h good e = its-row d h e
     judged d h (bad x) e = its-refusal x
 
-    go : (p : Parsed) → lineSays (g .def) ≡ p → GroupSaid rule at g behind (stepped (definedBy rule at (length (g .def)) (g .seq) p) behind)
+    go : (p : Parsed) → definitionSays (g .def) ≡ p → GroupSaid rule at g behind (stepped (definedBy rule at (length (g .def)) (g .seq) p) behind)
     go (Named d) h = judged d h (rule .judge (at + length (g .def)) (g .seq)) refl
     go (Bad x) h = its-refusal _
 
@@ -242,7 +242,7 @@ pub data Along (P : ℕ → Group → Record → Type 0) : ℕ → List Group �
 
 -- what holds of the row of every group of a file holds along its rows
 module _ (rule : SequenceRule) (P : ℕ → Group → Record → Type 0) (f : List ℕ)
-    (holds : (at : ℕ) (g : Group) (gs : List Group) (d : Definition) → FirstGroup f at g gs → lineSays (g .def) ≡ Named d → rule .judge (at + length (g .def)) (g .seq) ≡ good
+    (holds : (at : ℕ) (g : Group) (gs : List Group) (d : Definition) → FirstGroup f at g gs → definitionSays (g .def) ≡ Named d → rule .judge (at + length (g .def)) (g .seq) ≡ good
     → P (at + length (g .def)) g (rule .row at (length (g .def)) (d .name) (g .seq))) where
   along-groups : (gs : List Group) (at : ℕ) → groups (lines (drop at f)) ≡ gs → Along P at gs (groupsBy rule gs at .rows) (groupsBy rule gs at .stop)
   unfolding groupsBy
@@ -302,16 +302,16 @@ module _ (name : List ℕ) (x : Record) where
   pub first-line : (r : List ℕ) → Lacks (is 10) name → lines (index.lineOf name x ++ r) ≡ index.lineOf name x ∷ lines r
   unfolding index.lineOf textOf lines
   first-line r h =
-      let t : List ℕ = numbersText (numbersOf x) in
+      let t : List ℕ = numbersText (columnsOf x) in
       rw (append-assoc name (t ++ (10 ∷ [])) r, append-assoc t (10 ∷ []) r)
       (front-line name (t ++ (10 ∷ r)) (t ++ (10 ∷ [])) (lines r) h
-      (front-line t (10 ∷ r) (10 ∷ []) (lines r) (text-lacks (is 10) (λ b k. ne-eqb b 10 (λ e. omega arith)) refl (numbersOf x)) refl))
+      (front-line t (10 ∷ r) (10 ∷ []) (lines r) (text-lacks (is 10) (λ b k. ne-eqb b 10 (λ e. omega arith)) refl (columnsOf x)) refl))
 
   -- its name is at its front
   pub line-name : (r : List ℕ) → take (length name) (index.lineOf name x ++ r) ≡ name
   unfolding index.lineOf textOf
   line-name r =
-      let t : List ℕ = numbersText (numbersOf x) ++ (10 ∷ []) in
+      let t : List ℕ = numbersText (columnsOf x) ++ (10 ∷ []) in
       rw (append-assoc name t r) (take-at name (t ++ r) (length name) refl)
 
   -- and is the name that is read

@@ -25,7 +25,7 @@ use Rattle.index_line.specs.Bytes.{is}
 use Rattle.index_line.specs.Lacks.{Lacks}
 use Rattle.index_line.specs.Fields.{wrote}
 use Rattle.index_line.specs.declared.Written.the-variants.{Bytes}
-use Rattle.index_line.specs.IndexLine.{numbersOf, lineOf, nameIn, writtenAs}
+use Rattle.index_line.specs.IndexLine.{columnsOf, lineOf, nameIn, writtenAs}
 use Rattle.index_line.specs.IndexLine as index
 use Rattle.index_line.specs.declared.LineRead.the-variants.{Row}
 use Rattle.index_line.specs.Laws.{Lined}
@@ -57,7 +57,7 @@ rowIn xs k = getD xs k noRow
 pub record LeadsTo (f : List ℕ) (start : ℕ) (g : Group) (x : Record) : Type 0 where
   -- its definition line has a name; the row's name lies in the file, its bytes are that name, and none of them is whitespace
   pub said : Definition
-  pub defined : definition.lineSays (g .def) ≡ Named said
+  pub defined : definition.definitionSays (g .def) ≡ Named said
   pub named : x .«name_start» + x .«name_length» ≤ length f
   pub name : nameIn f x ≡ spanOf (g .def) (said .name)
   pub unbroken : Lacks isSpace (nameIn f x)
@@ -71,7 +71,7 @@ pub record LeadsTo (f : List ℕ) (start : ℕ) (g : Group) (x : Record) : Type 
 -- two rows, whose names are spans of different bytes, have the same name and the same four numbers
 pub record SameRow (f t : List ℕ) (x y : Record) : Type 0 where
   pub name : nameIn t y ≡ nameIn f x
-  pub numbers : numbersOf y ≡ numbersOf x
+  pub numbers : columnsOf y ≡ columnsOf x
 
 -- what a whole index gives are some rows again
 pub record SameRows (f t : List ℕ) (xs : List Record) (r : Found) : Type 0 where
@@ -94,7 +94,7 @@ module _ {f : List ℕ} {start : ℕ} {g : Group} {x : Record} (d : LeadsTo f st
 
   module _ (small : length f < 2 ^ 64) where
     -- so the line reads back, and matches its record, whichever its number
-    reads : (n : ℕ) → index.lineSays n (lineIn f x) ≡ Row (entryOf (length (nameIn f x)) x)
+    reads : (n : ℕ) → index.indexLineSays n (lineIn f x) ≡ Row (entryOf (length (nameIn f x)) x)
     reads n = written-reads n (nameIn f x) x untabbed (d .lined small)
 
     matched : (n : ℕ) → Matches n start g (lineIn f x)
@@ -156,7 +156,7 @@ module _ (f : List ℕ) (xs : List Record) (s : Stop) (h : Along (LeadsTo f) 0 (
   leading-written t out k m e q r =
       let d = leading-at k q in
       rw (le-ltb _ _ m, row-held t xs noRow k (length f) e q (d .lined (omega arith)) (d .named))
-      (text-written (nameIn f (rowIn xs k)) (numbersOf (rowIn xs k)) out (d .unbroken) r)
+      (text-written (nameIn f (rowIn xs k)) (columnsOf (rowIn xs k)) out (d .unbroken) r)
 
   -- the index lines read back to rows with the same names and the same four numbers
   pub leading-read-back : length f < 2 ^ 64 → SameRows f (indexText f xs) xs (indexAt (indexText f xs) 1 0)

@@ -1,4 +1,4 @@
--- K14: mending a base in place. Base j + 1 of record k of a file f lies at offset o (`BaseAt`); the byte there is replaced by b, which is not
+-- Mending a base in place (docs/RULES.md, R55). Base j + 1 of record k of a file f lies at offset o (`BaseAt`); the byte there is replaced by b, which is not
 -- LF, CR or '>' (`Plain`). An index that the checker accepts for f is accepted for the mended file (`mended-accepted` and `mended-checked`
 -- of checker/specs/Mended.antt). With a table of f's records (`TableOf`, which the whole-index call leaves of an accepted index), an exact
 -- read that does not cover that base answers as before, output and all: `mended-elsewhere`. One that covers it differs only there:

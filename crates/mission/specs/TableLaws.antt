@@ -19,7 +19,7 @@ use Rattle.table.specs.declared.Filled.{Filled}
 use Rattle.table.specs.declared.Stop.{Stop}
 use Rattle.table.specs.declared.Stop.the-variants.{Ended}
 use Rattle.table.specs.Fill.{Found, withFirst, FilledAs}
-use Rattle.index_line.specs.IndexLine.{lineSays, nameIn}
+use Rattle.index_line.specs.IndexLine.{indexLineSays, nameIn}
 use Rattle.index_line.specs.Laws.{LineSound, line-sound}
 use Rattle.index_line.specs.declared.Entry.{Entry}
 use Rattle.index_line.specs.declared.LineRead.the-variants.{Row}
@@ -38,7 +38,7 @@ suc-shift n k = omega arith
 -- line number n of an index reads
 pub record Reads (n : ℕ) (l : List ℕ) : Type 0 where
   pub entry : Entry
-  pub reads : lineSays n l ≡ Row entry
+  pub reads : indexLineSays n l ≡ Row entry
 
 -- the lines from number n on all read
 abbrev pub AllRead : ℕ → List (List ℕ) → Type 0
@@ -52,7 +52,7 @@ lineStart at ls k = at + sumWidths (take k ls)
 pub record RowsOf (n at : ℕ) (ls : List (List ℕ)) (f : Found) : Type 0 where
   pub stop : f .stop ≡ Ended
   pub count : length (f .rows) ≡ length ls
-  pub row : (k : ℕ) → k < length ls → (e : Entry) → lineSays (n + k) (getD ls k []) ≡ Row e → rowIn (f .rows) k ≡ placedAt (lineStart at ls k) (e .«record»)
+  pub row : (k : ℕ) → k < length ls → (e : Entry) → indexLineSays (n + k) (getD ls k []) ≡ Row e → rowIn (f .rows) k ≡ placedAt (lineStart at ls k) (e .«record»)
 
 -- the lines behind the first
 behind : (n : ℕ) (l : List ℕ) (ls : List (List ℕ)) → AllRead n (l ∷ ls) → AllRead (suc n) ls
@@ -63,15 +63,15 @@ unfolding sumWidths
 start-behind at l ls k = omega arith
 
 -- a first line, and rows of those behind it
-more-rows : (n at : ℕ) (l : List ℕ) (ls : List (List ℕ)) (e : Entry) (f : Found) → lineSays n l ≡ Row e → RowsOf (suc n) (at + length l) ls f
+more-rows : (n at : ℕ) (l : List ℕ) (ls : List (List ℕ)) (e : Entry) (f : Found) → indexLineSays n l ≡ Row e → RowsOf (suc n) (at + length l) ls f
     → RowsOf n at (l ∷ ls) (withFirst (placedAt at (e .«record»)) f)
 unfolding sumWidths
 more-rows n at l ls e f q r = record { stop = r .stop; count = ap suc (r .count); row = row }
   where
-    row : (k : ℕ) → k < length (l ∷ ls) → (x : Entry) → lineSays (n + k) (getD (l ∷ ls) k []) ≡ Row x
+    row : (k : ℕ) → k < length (l ∷ ls) → (x : Entry) → indexLineSays (n + k) (getD (l ∷ ls) k []) ≡ Row x
         → rowIn (placedAt at (e .«record») ∷ f .rows) k ≡ placedAt (lineStart at (l ∷ ls) k) (x .«record»)
     row zero h x p =
-        let z : lineSays n l ≡ Row x = rw (add-zero n) at p in
+        let z : indexLineSays n l ≡ Row x = rw (add-zero n) at p in
         let s : e ≡ x = cc in
         rw (s, add-zero at)
     row (suc k) h x p = r .row k (omega arith) x (rw (suc-shift n k) p) ∙ ap (λ (o : ℕ). placedAt o (x .«record»)) (start-behind at l ls k)
@@ -81,7 +81,7 @@ unfolding linesSay
 rows-of [] n at read = record { stop = refl; count = refl; row = λ k h e q. absurd (omega arith) }
 rows-of (l ∷ ls) n at read =
     let r = read 0 (omega arith) in
-    let e : lineSays n l ≡ Row (r .entry) = rw (add-zero n) at (r .reads) in
+    let e : indexLineSays n l ≡ Row (r .entry) = rw (add-zero n) at (r .reads) in
     rw e (more-rows n at l ls (r .entry) (linesSay (suc n) (at + length l) ls) e (rows-of ls (suc n) (at + length l) (behind n l ls read)))
 
 -- ---- the bytes where a line begins are the line's

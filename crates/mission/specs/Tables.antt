@@ -89,7 +89,7 @@ tables-agree f t u n m x y r a e out =
     let q : m ≡ n = y .rows ∙ sym (x .rows) in
     rw q (ap (λ (o : Outcome). cond (overLimit (length f)) (refuses TooLong out) o) (held-alike f t u n x (rw q at y) r a e out))
 
--- K14, its second half: two indexes accepted for one file give equal exact reads, for every row, bounds and output
+-- R56 of docs/RULES.md: two indexes accepted for one file give equal exact reads, for every row, bounds and output
 pub indexes-agree : (f i j t t′ u u′ : List ℕ) (told said : Filled) → Accepts f i → Accepts f j
     → FilledAs (indexIn i (rowCount t)) t t′ told → recordCount f ≤ rowCount t → FilledAs (indexIn j (rowCount u)) u u′ said → recordCount f ≤ rowCount u
     → (r : ℕ) (a e : Bound) (out : List ℕ) → exactRead f t′ (told .rows) r a e out ≡ exactRead f u′ (said .rows) r a e out

@@ -1,4 +1,4 @@
--- The addressing rule of document 01: where a base lies, over whole numbers.
+-- The addressing rule (docs/RULES.md, R18): where a base lies, over whole numbers.
 use Prim.Native.Nat.{ℕ, zero, suc, _+_, _-_, _*_, _/_, _%_, _^_}
 use mathlib.Core.List.{List, [], _∷_}
 use mathlib.Core.Bool.{Bool, true, false, cond, _&&_}

@@ -1,5 +1,5 @@
-// Why a call is refused: a case for each refusal of document 01, in words. Every promise of the project speaks of these cases.
-// `numbers` gives what a host is told of one: the document's number for it, and its two numbers, 0 where none is named.
+// Why a call is refused: a case for each refusal (docs/RULES.md, R2), in words. Every promise of the project speaks of these cases.
+// `numbers` gives what a host is told of one: its number, and its two numbers, 0 where none is named.
 ghost use mathlib.Core.Path.{_≡_};
 ghost use Rattle.refusal.specs.Numbers.{numbersOf, overLimit};
 
@@ -68,7 +68,7 @@ fn told(refusal: u64, first: u64, second: u64) -> Numbers
 }
 
 impl Refusal {
-    // The document's number, and the two numbers.
+    // Its number, and the two numbers.
     pub fn numbers(self) -> Numbers
         ensures { λ r. ⌜ r ≡ numbersOf self ⌝ }
     {

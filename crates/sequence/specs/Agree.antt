@@ -1,4 +1,4 @@
--- Document 01: the line rule and the scanning rule agree from the start of a sequence where its lines hold no '>' and no CR but
+-- R13 of docs/RULES.md: the line rule and the scanning rule agree from the start of a sequence where its lines hold no '>' and no CR but
 -- the one at a line's end; with a limit, and without one.
 use Prim.Native.Nat.{ℕ, zero, suc, _+_, _-_, _≤_, _<_}
 use mathlib.Core.Path.{_≡_, refl, ap, sym, _∙_}

@@ -1,4 +1,4 @@
--- The scanning rule of document 01: from an offset, skip a run of CR and LF; stop at '>' or at the end; take the line without
+-- The scanning rule (docs/RULES.md, R11): from an offset, skip a run of CR and LF; stop at '>' or at the end; take the line without
 -- its LF and one final CR; repeat until the wanted number of bases is reached.
 use Prim.Native.Nat.{ℕ, zero, suc, _+_, _-_}
 use mathlib.Core.List.{List, [], _∷_, _++_}

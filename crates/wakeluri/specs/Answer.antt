@@ -80,8 +80,8 @@ abbrev pub spanOf : Numbers → ℕ → Span → ℕ → SpanAnswer
 spanOf n found span next =
     record { refusal = n .refusal; first = n .first; second = n .second; found = found; start = span .start; length = span .length; next = next }
 
-abbrev pub rowOf : Numbers → ℕ → ℕ → ℕ → Record → RowAnswer
-rowOf n found next plain x = record {
+abbrev pub rowTold : Numbers → ℕ → ℕ → ℕ → Record → RowAnswer
+rowTold n found next plain x = record {
   refusal = n .refusal;
   first = n .first;
   second = n .second;
@@ -151,14 +151,14 @@ runAnswer (run.Refused f) = spanOf (numbersOf f) 0 noSpan 0
 
 -- an index line's record, and whether the line is plain
 unfoldable pub entryAnswer : LineRead → RowAnswer
-entryAnswer (read.Row e) = rowOf fine 1 0 (flagOf (e .plain)) (e .«record»)
-entryAnswer (read.Refused f) = rowOf (numbersOf f) 0 0 0 noRecord
+entryAnswer (read.Row e) = rowTold fine 1 0 (flagOf (e .plain)) (e .«record»)
+entryAnswer (read.Refused f) = rowTold (numbersOf f) 0 0 0 noRecord
 
 -- a record's row, and the place behind the record
 abbrev pub indexedAnswer : ℕ → Indexed → RowAnswer
-indexedAnswer next (indexed.Row x) = rowOf fine 1 next 0 x
-indexedAnswer next indexed.End = rowOf fine 0 0 0 noRecord
-indexedAnswer next (indexed.Refused f) = rowOf (numbersOf f) 0 0 0 noRecord
+indexedAnswer next (indexed.Row x) = rowTold fine 1 next 0 x
+indexedAnswer next indexed.End = rowTold fine 0 0 0 noRecord
+indexedAnswer next (indexed.Refused f) = rowTold (numbersOf f) 0 0 0 noRecord
 
 unfoldable pub stepAnswer : step.Step → RowAnswer
 stepAnswer s = indexedAnswer (s .next .at) (s .answer)

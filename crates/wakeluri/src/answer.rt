@@ -15,7 +15,7 @@ use sequence::SequenceRead;
 use table::Filled;
 use table::Stop;
 ghost use mathlib.Core.Path.{_≡_};
-ghost use Rattle.wakeluri.specs.Answer.{fine, noSpan, noRecord, flagOf, answerOf, definitionOf, spanOf, rowOf, regionAnswer, writtenAnswer, complementAnswer, foundAnswer, sequenceAnswer, filledAnswer, verdictAnswer, definitionAnswer, lineAnswer, entryAnswer, stepAnswer};
+ghost use Rattle.wakeluri.specs.Answer.{fine, noSpan, noRecord, flagOf, answerOf, definitionOf, spanOf, rowTold, regionAnswer, writtenAnswer, complementAnswer, foundAnswer, sequenceAnswer, filledAnswer, verdictAnswer, definitionAnswer, lineAnswer, entryAnswer, stepAnswer};
 
 // A refusal, 0 where there is none; a count (of bytes or of rows, or a row's number), and the place that a read leaves.
 #[repr(C)]
@@ -146,7 +146,7 @@ pub(crate) fn span_answer(n: Numbers, found: u64, span: Span, next: usize) -> Sp
 }
 
 fn row_answer(n: Numbers, found: u64, next: usize, plain: u64, x: Record) -> RowAnswer
-    ensures { λ r. ⌜ r ≡ rowOf n found next plain x ⌝ }
+    ensures { λ r. ⌜ r ≡ rowTold n found next plain x ⌝ }
 {
     RowAnswer {
         refusal: n.refusal,

@@ -26,25 +26,25 @@ use Rattle.walking.specs.declared.Row.{Row}
 use Rattle.walking.specs.declared.Walk.{Walk}
 
 -- the row of base number i + 1, by position p, line bases b and line width w
-unfoldable pub rowOf : ℕ → ℕ → ℕ → ℕ → Row
-rowOf p b w i = record { start = record { 0 = min (p + i / b * w) (2 ^ 64 - 1) }; passed = i % b }
+unfoldable pub walkRow : ℕ → ℕ → ℕ → ℕ → Row
+walkRow p b w i = record { start = record { 0 = min (p + i / b * w) (2 ^ 64 - 1) }; passed = i % b }
 
 -- a walk over bases at some offsets
 pub record Walking (p b w : ℕ) (os : List ℕ) (v : Walk) : Type 0 where
   pub bases : v .bases ≡ length os
   pub placed : v .placed ≡ firstElsewhere (placeOf p b w) 0 os
-  pub row : v .placed ≡ There → v .row ≡ rowOf p b w (length os)
+  pub row : v .placed ≡ There → v .row ≡ walkRow p b w (length os)
   pub inside : v .row .passed < b
 
 -- what a line's k bases from an offset on are, behind i others and beside the row of the first, by position p and line width w
 pub record LineJudged (row : Row) (b i : ℕ) (at : Offset) (k : ℕ) (said : Placed) : Type 0 where
-  pub says : (p w : ℕ) → row ≡ rowOf p b w i → (w ≡ b → i + k ≤ b) → said ≡ firstElsewhere (placeOf p b w) i (upFrom (at .0) k)
+  pub says : (p w : ℕ) → row ≡ walkRow p b w i → (w ≡ b → i + k ≤ b) → said ≡ firstElsewhere (placeOf p b w) i (upFrom (at .0) k)
   pub within : said ≡ There → row .passed + k ≤ b
 
 -- the row behind k bases that end in this row
 pub record MovedOn (row : Row) (b w k : ℕ) (next : Row) : Type 0 where
   pub inside : next .passed < b
-  pub behind : (p i : ℕ) → row ≡ rowOf p b w i → row .passed + k ≤ b → next ≡ rowOf p b w (i + k)
+  pub behind : (p i : ℕ) → row ≡ walkRow p b w i → row .passed + k ≤ b → next ≡ walkRow p b w (i + k)
 
 -- a walk with one line more
 pub record WalkedLine (b w : ℕ) (before : Walk) (at : Offset) (k : ℕ) (after : Walk) : Type 0 where
@@ -68,23 +68,23 @@ module _ (b i : ℕ) (z : 0 < b) where
 
 module _ (p b w i : ℕ) where
   -- the row behind k bases that end in this one
-  pub row-within : (k : ℕ) → i % b + k < b → record { start = rowOf p b w i .start; passed = rowOf p b w i .passed + k } ≡ rowOf p b w (i + k)
-  unfolding rowOf
+  pub row-within : (k : ℕ) → i % b + k < b → record { start = walkRow p b w i .start; passed = walkRow p b w i .passed + k } ≡ walkRow p b w (i + k)
+  unfolding walkRow
   row-within k h = rw (run-div p b w i k h, run-mod p b w i k h)
 
-  pub row-next : (k s : ℕ) → 0 < b → i % b + k ≡ b → s ≡ min (rowOf p b w i .start .0 + w) (2 ^ 64 - 1) → record { start = record { 0 = s }; passed = 0 } ≡ rowOf p b w (i + k)
-  unfolding rowOf
+  pub row-next : (k s : ℕ) → 0 < b → i % b + k ≡ b → s ≡ min (walkRow p b w i .start .0 + w) (2 ^ 64 - 1) → record { start = record { 0 = s }; passed = 0 } ≡ walkRow p b w (i + k)
+  unfolding walkRow
   row-next k s z h e =
       let m : k ≡ b - i % b = omega arith in
       rw (e, m, end-div b i z, end-mod b i z, add-mul (i / b) 1 w, one-mul w) (ap (λ (n : ℕ). record { start = record { 0 = n }; passed = 0 }) (omega arith))
 
-  module _ (row : Row) (e : row ≡ rowOf p b w i) where
+  module _ (row : Row) (e : row ≡ walkRow p b w i) where
     passed-is : row .passed ≡ i % b
-    unfolding rowOf
+    unfolding walkRow
     passed-is = ap (λ (r : Row). r .passed) e
 
     start-is : row .start .0 ≡ min (p + i / b * w) (2 ^ 64 - 1)
-    unfolding rowOf
+    unfolding walkRow
     start-is = ap (λ (r : Row). r .start .0) e
 
     -- an offset is where the row has its next base if it is that base's place
@@ -142,7 +142,7 @@ module _ (row : Row) (b i : ℕ) (at : Offset) (k : ℕ) where
   }
 
   module _ (fits : at .0 + k < 2 ^ 64) (some : k ≡ 0 → ⊥) (inside : row .passed < b) (t : Bool) (q : t ≡ eqb (at .0) (row .start .0 + row .passed)) where
-    at-place : (p w : ℕ) → row ≡ rowOf p b w i → t ≡ true → at .0 ≡ placeOf p b w i
+    at-place : (p w : ℕ) → row ≡ walkRow p b w i → t ≡ true → at .0 ≡ placeOf p b w i
     at-place p w e h = row-place p b w i row e (at .0) (omega arith) (eqb-true _ _ (sym q ∙ h))
 
     pub judged-there : t ≡ true → k ≤ b - row .passed → LineJudged row b i at k There
@@ -197,7 +197,7 @@ module _ (b w : ℕ) (v : Walk) (at : Offset) (k : ℕ) where
       → LineJudged (v .row) b (v .bases) at k said → MovedOn (v .row) b w k next → WalkedLine b w v at k (record { bases = v .bases + k; placed = said; row = next })
   walked-there said next e l f g j m = record {
     goes-on = λ p os o.
-        let r : v .row ≡ rowOf p b w (v .bases) = rw (o .bases) (o .row e) in record {
+        let r : v .row ≡ walkRow p b w (v .bases) = rw (o .bases) (o .row e) in record {
           bases = rw (length-append, length-upFrom) (omega (arith, o .bases));
           placed = rw (elsewhere-append, ← o .placed, e, zero-add, ← o .bases) (j .says p w r (λ h. omega (arith, g h)));
           row = λ h. rw (length-append, length-upFrom, ← o .bases) (m .behind p (v .bases) r (j .within h));
@@ -225,7 +225,7 @@ pub record Onward (s : List ℕ) (at p b w i : ℕ) (v : Walk) : Type 0 where
 
 module _ (s : List ℕ) (at p b w : ℕ) where
   pub onward-start : 0 < b → p < 2 ^ 64 → Onward s at p b w at (record { bases = 0; placed = There; row = record { start = record { 0 = p }; passed = 0 } })
-  unfolding rowOf firstElsewhere
+  unfolding walkRow firstElsewhere
   onward-start z f = record {
     passed = [];
     walking = record { bases = refl; placed = refl; row = λ e. rw (zero-div, zero-mod, zero-mul, add-zero) (ap (λ (n : ℕ). record { start = record { 0 = n }; passed = 0 }) (omega arith)); inside = z };

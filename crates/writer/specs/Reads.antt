@@ -11,7 +11,7 @@ use native.Mathlib.Omega.{arith}
 use Rattle.lines.specs.Lines.{lines, chop, contentOf, seqOf, seqAt, allBases}
 use Rattle.lines.specs.Laws.{chop-hit, chop-keep, content-cut}
 use Rattle.lines.specs.declared.Span.{Span}
-use Rattle.definition.specs.Definition.{isSpace, spaced, run, kept, keep, described, namedOf, contentSays, lineSays}
+use Rattle.definition.specs.Definition.{isSpace, spaced, run, kept, keep, described, namedOf, contentSays, definitionSays}
 use Rattle.definition.specs.Laws.{described-some}
 use Rattle.definition.specs.declared.Definition.{Definition}
 use Rattle.definition.specs.declared.Parsed.the-variants.{Named}
@@ -167,8 +167,8 @@ head-kept name false d g k = rw (append-nil name) (chop-tail (62 ∷ []) name (g
 head-kept name true d g k =
     rw (append-assoc (62 ∷ name) (32 ∷ []) d) at (chop-tail ((62 ∷ name) ++ (32 ∷ [])) d (k refl .some) (k refl .last))
 
-pub line-says : (name : List ℕ) (t : Bool) (d : List ℕ) → GoodName name → (t ≡ true → GoodDescription d) → lineSays (definitionText name t d) ≡ Named (definitionOf name t d)
-unfolding lineSays
+pub line-says : (name : List ℕ) (t : Bool) (d : List ℕ) → GoodName name → (t ≡ true → GoodDescription d) → definitionSays (definitionText name t d) ≡ Named (definitionOf name t d)
+unfolding definitionSays
 line-says name t d g k =
     let l : List ℕ = headOf name t d in
     let cut : chop 10 (lineOf l) ≡ l = chop-hit 10 l 10 refl in
@@ -224,7 +224,7 @@ no-more = refl
 -- what a written record is read as
 pub record ReadsBack (name : List ℕ) (t : Bool) (d bases : List ℕ) (w : ℕ) : Type 0 where
   pub first : lines (recordText name t d bases w) ≡ definitionText name t d ∷ map lineOf (rowsOf w bases)
-  pub says : lineSays (definitionText name t d) ≡ Named (definitionOf name t d)
+  pub says : definitionSays (definitionText name t d) ≡ Named (definitionOf name t d)
   pub name-bytes : take (length name) (drop 1 (definitionText name t d)) ≡ name
   pub description-bytes : t ≡ true → take (length d) (drop (length name + 2) (definitionText name t d)) ≡ d
   pub bases-back : allBases (seqAt (recordText name t d bases w) (length (definitionText name t d))) ≡ bases

@@ -1,4 +1,4 @@
--- The text of a FASTA record, in the words of request K3, and what writing it answers.
+-- The text of a FASTA record (docs/RULES.md, R47), and what writing it answers.
 use Prim.Native.Nat.{ℕ, zero, suc, _+_, _-_}
 use mathlib.Core.Path.{_≡_}
 use mathlib.Core.List.{List, [], _∷_, _++_}

@@ -8,7 +8,7 @@ use borrow.Author.Tests.{le-ltb}
 use native.Mathlib.Omega.{arith}
 use Rattle.refusal.specs.Numbers.{overLimit}
 use Rattle.lines.specs.Lines.{seqAt, allBases}
-use Rattle.definition.specs.Definition.{lineSays, readAs, lineRead}
+use Rattle.definition.specs.Definition.{definitionSays, readAs, lineRead}
 use Rattle.definition.specs.declared.DefinitionRead.the-variants as read
 use Rattle.record.specs.declared.Record.{Record}
 use Rattle.index_line.specs.Fields.{wrote}
@@ -22,7 +22,7 @@ use Rattle.table.specs.declared.Stop.the-variants.{Ended}
 use Rattle.checker.specs.Accepts.{limit}
 use Rattle.writer.specs.Text.{definitionText, recordText, recordWritten}
 use Rattle.writer.specs.Reads.{definitionOf, written-reads, call-put}
-use Rattle.written.specs.Indexed.{rowOf, text-long, written-indexed}
+use Rattle.written.specs.Indexed.{rowWorked, text-long, written-indexed}
 use Rattle.written.specs.Files.{Item, textOf, fileText, rowsFrom, Written, files-indexed}
 
 within : (n : ℕ) → n ≤ limit → overLimit n ≡ false
@@ -41,7 +41,7 @@ module _ (name : List ℕ) (t : Bool) (d bases : List ℕ) (w : ℕ) (out : List
 
   -- the indexer gives its row, and then the end
   pub call-indexed : 0 < length bases
-      → (recordRead (take k after) (record { at = 0 }) ≡ record { answer = indexed.Row (rowOf 0 name t d bases w); next = record { at = k } })
+      → (recordRead (take k after) (record { at = 0 }) ≡ record { answer = indexed.Row (rowWorked 0 name t d bases w); next = record { at = k } })
       × (recordRead (take k after) (record { at = k }) ≡ record { answer = indexed.End; next = record { at = k } })
   unfolding recordRead
   call-indexed some =

@@ -24,7 +24,7 @@ use Rattle.mission.specs.Leading.{indexText}
 use Rattle.mission.specs.Indexed.{index-checked}
 use Rattle.writer.specs.Text.{describedText, definitionText, sequenceText, recordText}
 use Rattle.writer.specs.Reads.{Writable, no-more}
-use Rattle.written.specs.Indexed.{rowOf, indexed-at}
+use Rattle.written.specs.Indexed.{rowWorked, indexed-at}
 
 -- what is given for a record
 pub record Item : Type 0 where
@@ -38,7 +38,7 @@ abbrev pub textOf : Item → List ℕ
 textOf x = recordText (x .name) (x .described) (x .description) (x .bases) (x .width)
 
 abbrev pub itemRow : ℕ → Item → Record
-itemRow at x = rowOf at (x .name) (x .described) (x .description) (x .bases) (x .width)
+itemRow at x = rowWorked at (x .name) (x .described) (x .description) (x .bases) (x .width)
 
 -- the file
 unfoldable pub fileText : List Item → List ℕ
@@ -88,7 +88,7 @@ file-rows (x ∷ xs) (each y h z) s at e =
 -- ---- its index
 
 name-there : (s : List ℕ) (at : ℕ) (x : Item) (rest : List ℕ) → drop at s ≡ textOf x ++ rest → nameIn s (itemRow at x) ≡ x .name
-unfolding nameIn rowOf recordText definitionText
+unfolding nameIn rowWorked recordText definitionText
 name-there s at x rest e =
     let q : List ℕ = describedText (x .described) (x .description) ++ (10 ∷ []) in
     let a : drop (at + 1) s ≡ ((x .name ++ q) ++ sequenceText (x .width) (x .bases)) ++ rest = sym (drop-drop 1 at s) ∙ ap (drop 1) e in

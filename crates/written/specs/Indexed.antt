@@ -18,8 +18,8 @@ use Rattle.writer.specs.Reads.{Writable, definitionOf, line-says, its-name, its
 use Rattle.written.specs.RowLines.{linesOf, widths-text, bases-count, first-is, judged-good}
 
 -- the row of a record that is written at an offset
-unfoldable pub rowOf : ℕ → List ℕ → Bool → List ℕ → List ℕ → ℕ → Record
-rowOf at name t d bases w =
+unfoldable pub rowWorked : ℕ → List ℕ → Bool → List ℕ → List ℕ → ℕ → Record
+rowWorked at name t d bases w =
     record {
       «name_start» = at + 1;
       «name_length» = length name;
@@ -48,8 +48,8 @@ module _ (name : List ℕ) (t : Bool) (d bases : List ℕ) (w : ℕ) (x : Writab
 
   -- a record that stands at an offset of a file, and behind which no sequence line follows
   pub indexed-at : (s : List ℕ) (at : ℕ) (rest : List ℕ) → drop at s ≡ recordText name t d bases w ++ rest → seqOf (lines rest) ≡ []
-      → recordAt s at ≡ record { answer = indexed.Row (rowOf at name t d bases w); next = record { at = at + length (recordText name t d bases w) } }
-  unfolding recordBy sequenceBy rowOf
+      → recordAt s at ≡ record { answer = indexed.Row (rowWorked at name t d bases w); next = record { at = at + length (recordText name t d bases w) } }
+  unfolding recordBy sequenceBy rowWorked
   indexed-at s at rest e n =
       let ls : List (List ℕ) = linesOf (rowsOf w bases) in
       let seq : seqOf (ls ++ lines rest) ≡ ls = good-seq (rowsOf w bases) (good-rows w (x .wide) (length bases) bases (x .based)) (lines rest) ∙ ap (λ (k : List (List ℕ)). ls ++ k) n ∙ append-nil ls in
@@ -57,5 +57,5 @@ module _ (name : List ℕ) (t : Bool) (d bases : List ℕ) (w : ℕ) (x : Writab
       rw (e, record-lines name t d bases w x rest, line-says name t d (its-name name t d bases w x) (its-description name t d bases w x), seq, judged-good w (x .wide) bases some (x .based) (at + length (definitionText name t d)), behind, bases-count w (x .wide) bases (x .based), first-is w (x .wide) bases some (x .based), name-said name t d)
 
   -- the record by itself: one row, then the end
-  pub written-indexed : (recordAt text 0 ≡ record { answer = indexed.Row (rowOf 0 name t d bases w); next = record { at = length text } }) × (recordAt text (length text) ≡ record { answer = indexed.End; next = record { at = length text } })
+  pub written-indexed : (recordAt text 0 ≡ record { answer = indexed.Row (rowWorked 0 name t d bases w); next = record { at = length text } }) × (recordAt text (length text) ≡ record { answer = indexed.End; next = record { at = length text } })
   written-indexed = (rw (zero-add (length text)) at (indexed-at text 0 [] (sym (append-nil text)) no-more), ends-at text)

@@ -5,7 +5,7 @@ use mathlib.Core.Path.{sym, _∙_, ap}
 use native.Mathlib.Omega.{arith}
 use lib.Seq.{length-take-le}
 use Rattle.lines.specs.Laws.{content-le, content-front}
-use Rattle.definition.specs.Definition.{contentSays, lineSays}
+use Rattle.definition.specs.Definition.{contentSays, definitionSays}
 use Rattle.definition.proofs.parse_line.Statement.{statement}
 use Rattle.definition.proofs.parse_line.Tie as tie
 
@@ -21,7 +21,7 @@ parse-definition-requires : tie.Need-parse-definition-requires
 parse-definition-requires c κs = search needs
 
 returns : tie.Need-returns
-unfolding lineSays
+unfolding definitionSays
 returns c = c .parse-definition .ensures ∙ ap contentSays (rw (c .before .before .content-length .ensures) (content-front _))
 
 pub parse-line-spec : {M : Type 1} → statement M

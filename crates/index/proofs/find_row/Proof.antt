@@ -6,19 +6,19 @@ use borrow.Author.Needs.{needs}
 use native.Mathlib.Omega.{arith}
 use native.Mathlib.Nat.{sub-zero}
 use Rattle.record.specs.Laws.{named-known}
-use Rattle.index.specs.Find.{rowFrom, rowOf}
+use Rattle.index.specs.Find.{rowFrom, rowNamed}
 use Rattle.index.specs.Laws.{from-end, from-refused, from-found, from-next}
 use Rattle.index.proofs.find_row.Statement.{statement}
 use Rattle.index.proofs.find_row.Tie as tie
 
 abbrev Inv-loop : tie.InvT-loop
-Inv-loop names table in-use name r₀ r = rowFrom names table in-use name (in-use - r) r ≡ rowOf names table in-use name
+Inv-loop names table in-use name r₀ r = rowFrom names table in-use name (in-use - r) r ≡ rowNamed names table in-use name
 
 abbrev μ-loop : tie.MeasureT-loop
 μ-loop names table in-use name r₀ r = in-use - r
 
 loop-holds : tie.Need-loop-holds Inv-loop μ-loop
-unfolding rowOf
+unfolding rowNamed
 loop-holds c = rw (sub-zero (c .before .before .before .args .in-use))
 
 named-row-requires : tie.Need-named-row-requires Inv-loop μ-loop

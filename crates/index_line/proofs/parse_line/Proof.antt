@@ -5,7 +5,7 @@ use mathlib.Core.Path.{_≡_, sym}
 use lib.Seq.{length-take-le}
 use Rattle.lines.specs.Laws.{content-le, content-front}
 use Rattle.lines.specs.Lines.{contentOf}
-use Rattle.index_line.specs.IndexLine.{contentSays, lineSays}
+use Rattle.index_line.specs.IndexLine.{contentSays, indexLineSays}
 use Rattle.index_line.specs.Ends.{plain-end}
 use Rattle.index_line.proofs.parse_line.Statement.{statement}
 use Rattle.index_line.proofs.parse_line.Tie as tie
@@ -33,7 +33,7 @@ plain-if-requires : tie.Need-plain-if-requires
 plain-if-requires c κs = search needs
 
 returns : tie.Need-returns
-unfolding lineSays
+unfolding indexLineSays
 returns c = rw (← said (c .before), ← plain-end, ← c .before .before .before .content-length .ensures) (c .plain-if .ensures)
 
 pub parse-line-spec : {M : Type 1} → statement M

@@ -3,7 +3,7 @@
 use borrow.Author.Needs.{needs}
 use mathlib.Core.Path.{_≡_, sym, ap, _∙_}
 use Rattle.index_line.specs.Reading.{told}
-use Rattle.index_line.specs.IndexLine.{rowOf, contentSays}
+use Rattle.index_line.specs.IndexLine.{entryRead, contentSays}
 use Rattle.index_line.specs.Laws.{content-empty, content-says}
 use Rattle.index_line.proofs.parse_record.Statement.{statement}
 use Rattle.index_line.proofs.parse_record.Tie as tie
@@ -23,10 +23,10 @@ read-numbers-requires c κs = search needs
 -- what the name and the other fields say
 said : (c : tie.After-read-numbers)
     → (let a = c .before .before .before .before .before .args in
-    contentSays (a .line) (a .content .now) ≡ rowOf (c .before .before .field-length .result) (told (c .read-numbers .result) (c .read-numbers .last .1 .1 .1 .0)))
+    contentSays (a .line) (a .content .now) ≡ entryRead (c .before .before .field-length .result) (told (c .read-numbers .result) (c .read-numbers .last .1 .1 .1 .0)))
 said c =
     content-says _ _ (c .before .before .before .if1 .left)
-    ∙ rw (← c .before .before .field-length .ensures) (ap (rowOf (c .before .before .field-length .result)) (sym (c .read-numbers .ensures)))
+    ∙ rw (← c .before .before .field-length .ensures) (ap (entryRead (c .before .before .field-length .result)) (sym (c .read-numbers .ensures)))
 
 enum-known-r : tie.Need-enum-known-r
 enum-known-r c = search needs

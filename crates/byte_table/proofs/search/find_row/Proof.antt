@@ -5,7 +5,7 @@ use mathlib.Core.Path.{_≡_, sym, _∙_}
 use borrow.Author.Needs.{needs}
 use native.Mathlib.Nat.{sub-zero}
 use Rattle.record.specs.Row.{rowCount}
-use Rattle.index.specs.Find.{rowFrom, rowOf}
+use Rattle.index.specs.Find.{rowFrom, rowNamed}
 use Rattle.index.specs.Laws.{from-end}
 use Rattle.byte_table.specs.Numbers.{numbersIn}
 use Rattle.byte_table.specs.FindLaws.{stepped, find-lacking, find-step}
@@ -15,7 +15,7 @@ use Rattle.byte_table.proofs.search.find_row.Statement.{statement}
 use Rattle.byte_table.proofs.search.find_row.Tie as tie
 
 abbrev Inv-loop : tie.InvT-loop
-Inv-loop names table in-use name all r₀ r = (in-use ≤ rowCount (numbersIn table)) × (rowFrom names (numbersIn table) in-use name (in-use - r) r ≡ rowOf names (numbersIn table) in-use name)
+Inv-loop names table in-use name all r₀ r = (in-use ≤ rowCount (numbersIn table)) × (rowFrom names (numbersIn table) in-use name (in-use - r) r ≡ rowNamed names (numbersIn table) in-use name)
 
 abbrev μ-loop : tie.MeasureT-loop
 μ-loop names table in-use name all r₀ r = in-use - r
@@ -27,7 +27,7 @@ returns : tie.Need-returns Inv-loop μ-loop
 returns c = find-lacking _ _ _ _ _ (c .before .count .ensures) (c .if1 .taken)
 
 loop-holds : tie.Need-loop-holds Inv-loop μ-loop
-unfolding rowOf
+unfolding rowNamed
 loop-holds c = (rw (c .before .count .ensures) at (c .if1 .left), rw (sub-zero (c .before .before .before .before .before .args .in-use)))
 
 compare-requires : tie.Need-compare-requires Inv-loop μ-loop
@@ -40,7 +40,7 @@ enum-told c = search needs
 turn : (c : tie.After-compare Inv-loop μ-loop) (w : Compared) → c .compare .result ≡ w
     → let l = c .before .before in let a = l .before .before .before .before .before .before .args in
     stepped (l .loop .r) w (rowFrom (a .names .now) (numbersIn (a .table .now)) (a .in-use) (a .name .now) (a .in-use - (l .loop .r + 1)) (l .loop .r + 1))
-    ≡ rowOf (a .names .now) (numbersIn (a .table .now)) (a .in-use) (a .name .now)
+    ≡ rowNamed (a .names .now) (numbersIn (a .table .now)) (a .in-use) (a .name .now)
 turn c w e = let l = c .before .before in sym (find-step _ _ _ _ _ (l .loop .inv .0) (c .before .loop-test .taken) _ w (c .compare .ensures) e) ∙ l .loop .inv .1
 
 returns-2 : tie.Need-returns-2 Inv-loop μ-loop
