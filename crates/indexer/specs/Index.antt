@@ -1,4 +1,4 @@
--- What indexing one record gives by the ported rule, in document 01's words, over the lines of the file.
+-- What indexing one record gives by the ported rule (docs/RULES.md, R20), over the lines of the file.
 use Prim.Native.Nat.{ℕ, _+_}
 use mathlib.Core.List.{List, [], _∷_}
 use mathlib.Core.Bool.{Bool, cond, _&&_}
