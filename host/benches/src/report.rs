@@ -36,6 +36,13 @@ pub struct Grown {
     pub sum: f64,
 }
 
+/// More and more names, looked up in one walk over more and more records.
+pub struct LookedUp {
+    pub records: usize,
+    pub regions: usize,
+    pub seconds: f64,
+}
+
 /// All that was found.
 #[derive(Default)]
 pub struct Report {
@@ -43,6 +50,7 @@ pub struct Report {
     pub compared: Vec<Compared>,
     pub checked: Vec<Checked>,
     pub grown: Vec<Grown>,
+    pub looked_up: Vec<LookedUp>,
 }
 
 /// The checker's goal: so much of the speed of indexing.
@@ -135,6 +143,14 @@ impl fmt::Display for Report {
             let verdict = if part >= CHECK_GOAL { "reached" } else { "**not reached**" };
             let (index, check) = (gigabytes(*bytes, *index), gigabytes(*bytes, *check));
             writeln!(f, "| {file} | {CHECK_GOAL} | {part:.2} | {verdict} | {index} | {check} |")?;
+        }
+        if !self.looked_up.is_empty() {
+            writeln!(f, "\n| records | regions of one base | time | ns for a record or region |")?;
+            writeln!(f, "|---|---|---|---|")?;
+        }
+        for LookedUp { records, regions, seconds } in &self.looked_up {
+            let each = seconds * 1e9 / (records + regions) as f64;
+            writeln!(f, "| {} | {} | {} | {each:.1} |", number(*records), number(*regions), time(*seconds))?;
         }
         if !self.grown.is_empty() {
             writeln!(
