@@ -4,6 +4,10 @@
 
 mod files;
 mod measure;
+/// The command's own look-up of many names: what it promises is timed here.
+#[allow(dead_code)]
+#[path = "../../command/src/names.rs"]
+mod names;
 mod original;
 mod ours;
 mod report;
@@ -11,7 +15,7 @@ mod report;
 use files::{Lines, Numbers, one_line, room};
 use measure::{Work, in_turns, limits};
 use original::{Region, Sequence, over_c, over_crate};
-use report::{Checked, Compared, Grown, HandedOut, Report};
+use report::{Checked, Compared, Grown, HandedOut, LookedUp, Report};
 
 /// The bytes of a row in a table.
 const ROW_BYTES: usize = 48;
@@ -146,6 +150,51 @@ fn reads(plan: &Plan, report: &mut Report, fasta: &[u8], bases: u64, goals: [f64
             by_c: Some(by_c),
             limits: (bases > 1).then_some([copy, sum]),
         });
+    }
+}
+
+/// Some regions, each the first base of a record, of a file whose rows are known.
+fn first_bases(rows: &[original::Row], regions: usize) -> Vec<Region> {
+    let mut numbers = Numbers::new(6);
+    (0..regions).map(|_| (rows[numbers.below(rows.len() as u64) as usize].0.clone(), 1, 1)).collect()
+}
+
+/// Times many regions of many records: each side looks up all names, and reads one base of each.
+fn look_ups(plan: &Plan, report: &mut Report, fasta: &[u8], regions: usize) {
+    let rows = ours::rows(fasta);
+    let regions = first_bases(&rows, regions);
+    let (mut by_crate, mut by_c) = (over_crate::Regions::new(fasta, &regions), over_c::Regions::new(fasta, &regions));
+    let ours = ours::Regions::new(fasta, &regions);
+    let expected = by_crate.bases();
+    assert_eq!(expected.len(), regions.len(), "no base is missing");
+    same("look-ups", "the bases of the other original", &by_c.bases(), &expected);
+    same("look-ups", "the bases", ours.bases().as_ref(), Ok(&expected));
+    same("look-ups", "the bases by names in one walk", &ours.bases_in_one_walk(), &expected);
+    let taken = in_turns(
+        plan.size(5, 3),
+        &mut [Box::new(|| by_crate.read()), Box::new(|| by_c.read()), Box::new(|| ours.read_in_one_walk())],
+    );
+    let [by_crate, by_c, one_walk] = taken[..] else { unreachable!("three works") };
+    report.compared.push(Compared {
+        work: format!("{} exact reads of 1 base, all names in one walk", report::number(regions.len())),
+        size: report::counted(rows.len(), "record"),
+        goal: 1.0,
+        bytes: expected.len(),
+        ours: one_walk,
+        by_crate,
+        by_c: Some(by_c),
+        limits: None,
+    });
+}
+
+/// Times more and more regions of more and more records.
+fn look_up_growth(plan: &Plan, report: &mut Report) {
+    let steps = [(10_000, 100), (100_000, 1000), (1_000_000, 1000), (1_000_000, 10_000), (1_000_000, 100_000)];
+    for (records, regions) in &steps[..plan.size(5, 2)] {
+        let file = Lines { bases: 60, end: b"\n" }.records(*records);
+        let ours = ours::Regions::new(&file, &first_bases(&ours::rows(&file), *regions));
+        let taken = in_turns(plan.size(7, 3), &mut [Box::new(|| ours.read_in_one_walk())]);
+        report.looked_up.push(LookedUp { records: *records, regions: *regions, seconds: taken[0] });
     }
 }
 
@@ -307,6 +356,10 @@ fn run(plan: &Plan) -> Report {
         reads(plan, &mut report, &fasta, 10_000, [2.8, 2.8]);
         reads(plan, &mut report, &fasta, 1, [1.0, 1.0]);
     }
+    if part("names") {
+        look_ups(plan, &mut report, &records, 1000);
+        look_up_growth(plan, &mut report);
+    }
     if part("complement") {
         for bases in [MEGABYTE, plan.size(100 * MEGABYTE, 10 * MEGABYTE)] {
             complement(plan, &mut report, "random ACGT", 20.0, b"ACGT", bases);
@@ -325,7 +378,7 @@ fn run(plan: &Plan) -> Report {
 
 fn main() {
     let Some(plan) = Plan::of_words(std::env::args().skip(1)) else {
-        eprintln!("usage: benches [--quick] [--only lines|records|long|reads|complement|text|growth]");
+        eprintln!("usage: benches [--quick] [--only lines|records|long|reads|names|complement|text|growth]");
         std::process::exit(2);
     };
     print!("{}", run(&plan));
@@ -347,8 +400,10 @@ mod tests {
             index_text(&QUICK, &mut report, &lines.records(50));
             reads(&QUICK, &mut report, &lines.genome(4000), 100, [1.0; 2]);
             complement(&QUICK, &mut report, "all letters", 1.0, ALL_LETTERS, 5000);
+            look_ups(&QUICK, &mut report, &lines.records(50), 20);
+            look_ups(&QUICK, &mut report, &lines.records(20), 50);
         }
-        assert_eq!((report.compared.len(), report.checked.len(), report.handed_out.len()), (22, 4, 2));
+        assert_eq!((report.compared.len(), report.checked.len(), report.handed_out.len()), (26, 4, 2));
         let told = report.to_string();
         assert!(told.contains("| index, records | ") && told.contains(" 50 records | 1 | "), "{told}");
     }

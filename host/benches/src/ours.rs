@@ -3,6 +3,7 @@
 //! to before: the proved code allocates nothing, and an app that reads much lends one room again and again.
 
 use crate::measure::sum;
+use crate::names::Names;
 use crate::original::{Region, Row};
 use std::hint::black_box;
 use wakeluri::{Refusal, Table, entry};
@@ -76,8 +77,9 @@ impl<'f> Regions<'f> {
     /// Of a file.
     pub fn new(file: &'f [u8], regions: &[Region]) -> Self {
         let table = wakeluri::index(file).expect("a good file");
+        let names = Names::new(&table, regions.iter().map(|(name, ..)| &name[..]));
         let part = |(name, start, end): &Region| {
-            let r = table.records().find(|r| r.name == &name[..]).expect("a record of that name");
+            let r = names.find(name).and_then(|row| table.record(row)).expect("a record of that name");
             let offset = |base: u64| r.position + (base - 1) / r.line_bases * r.line_width + (base - 1) % r.line_bases;
             &file[offset(*start) as usize..=offset(*end) as usize]
         };
@@ -113,6 +115,22 @@ impl<'f> Regions<'f> {
             bases += black_box(read.expect("a good region")).len() as u64;
         }
         bases
+    }
+
+    /// The bases of all regions, whose names are looked up in one walk over all records, as the command does it.
+    pub fn bases_in_one_walk(&self) -> Vec<u8> {
+        let names = Names::new(&self.table, self.regions.iter().map(|(name, ..)| &name[..]));
+        let mut bases = vec![];
+        for (name, start, end) in &self.regions {
+            let row = names.find(name).expect("a record of that name");
+            bases.extend(self.table.read_exact(self.file, row, *start..=*end).expect("a good region"));
+        }
+        bases
+    }
+
+    /// Looks up all names in one walk, and reads all regions.
+    pub fn read_in_one_walk(&self) -> u64 {
+        black_box(self.bases_in_one_walk()).len() as u64
     }
 
     /// The parts of the file that hold the regions, copied as they are, line ends and all, to the front of a room: the limit.

@@ -48,6 +48,13 @@ pub struct HandedOut {
     pub fresh: f64,
 }
 
+/// More and more names, looked up in one walk over more and more records.
+pub struct LookedUp {
+    pub records: usize,
+    pub regions: usize,
+    pub seconds: f64,
+}
+
 /// All that was found.
 #[derive(Default)]
 pub struct Report {
@@ -56,6 +63,7 @@ pub struct Report {
     pub checked: Vec<Checked>,
     pub grown: Vec<Grown>,
     pub handed_out: Vec<HandedOut>,
+    pub looked_up: Vec<LookedUp>,
 }
 
 /// The checker's goal: so much of the speed of indexing.
@@ -159,6 +167,14 @@ impl fmt::Display for Report {
         for HandedOut { work, bytes, pages, into, fresh } in &self.handed_out {
             let [pages, into, fresh] = [*pages, *into, *fresh].map(time);
             writeln!(f, "| {work} | {} | {pages} | {into} | {fresh} |", number(*bytes))?;
+        }
+        if !self.looked_up.is_empty() {
+            writeln!(f, "\n| records | regions of one base | time | ns for a record or region |")?;
+            writeln!(f, "|---|---|---|---|")?;
+        }
+        for LookedUp { records, regions, seconds } in &self.looked_up {
+            let each = seconds * 1e9 / (records + regions) as f64;
+            writeln!(f, "| {} | {} | {} | {each:.1} |", number(*records), number(*regions), time(*seconds))?;
         }
         if !self.grown.is_empty() {
             writeln!(

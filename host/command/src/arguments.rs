@@ -24,7 +24,8 @@ Examples:
 
 Blank lines, and records without bases, are taken wherever an index can lead to every base, and counted. A file is refused only
 if no index can fit it.
-The index is written beside its place and put there in one step: a stop in the middle leaves the old one whole.";
+The index is written beside its place and put there in one step: a stop in the middle leaves the old one whole.
+It never takes the place of the file that is read, under whatever name, nor that of another FASTA file.";
 
 const CHECK_EXAMPLES: &str = "\
 Examples:
@@ -39,7 +40,7 @@ Regions, counted from 1, both ends included, with commas or without:
   chr1:101-200      bases 101 to 200
   chr1:101          from base 101 to the end (as samtools has it), as chr1:101-
   chr1:-200         bases 1 to 200
-  {chr1:alt}:5-9    a name in braces; without them the longest name that exists is meant
+  {chr1:alt}:5-9    a name in braces, for where a region can be read in two ways: it is refused without them
 
 Examples:
   wakeluri read ref.fa chr1:1,000,001-1,000,100

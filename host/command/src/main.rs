@@ -259,7 +259,9 @@ fn asked<'a>(words: &'a ArgMatches, sheet: Option<&'a Input>) -> Result<Vec<Aske
     let mut asked: Vec<Asked<'_>> =
         regions.map(|region| Asked { text: region.as_bytes(), sheet: None, row: None }).collect();
     if let Some(sheet) = sheet {
-        for (line, number) in sheet.bytes().split(|byte| *byte == b'\n').zip(1..) {
+        // three bytes that some editors put before a text are no part of its first region
+        let text = sheet.bytes().strip_prefix(b"\xef\xbb\xbf").unwrap_or(sheet.bytes());
+        for (line, number) in text.split(|byte| *byte == b'\n').zip(1..) {
             let text = line.trim_ascii();
             if !text.is_empty() {
                 asked.push(Asked { text, sheet: Some((&sheet.shown, number)), row: None });

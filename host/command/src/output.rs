@@ -72,15 +72,11 @@ impl Output {
         }
     }
 
-    /// Fails if a file of sequences is there: an index would take its place, which nobody means.
+    /// Fails if something is there that nobody means to be replaced by an index.
     pub fn free(&self) -> Result<(), Failure> {
-        match self {
-            Self::File(path) if holds_sequences(path) => {
-                let what = "file of sequences, and the index would take its place";
-                Err(no_place(path, what, "move it away first, or name another file"))
-            }
-            _ => Ok(()),
-        }
+        let Self::File(path) = self else { return Ok(()) };
+        let other = other_than_index(path).map(|what| format!("{what}, and the index would take its place"));
+        other.map_or(Ok(()), |what| Err(no_place(path, &what, "move it away first, or name another file")))
     }
 
     /// Whether it is standard output.
@@ -129,13 +125,18 @@ fn once_more(open: RawFd) -> io::Result<File> {
     Ok(unsafe { File::from_raw_fd(new) })
 }
 
-/// Whether a file begins as FASTA does, or as a packed file, and not as an index.
-fn holds_sequences(path: &Path) -> bool {
+/// What a file is that begins as FASTA does, as a packed file or as a program, and not as an index; nothing is said of other texts.
+fn other_than_index(path: &Path) -> Option<&'static str> {
     let mut start = vec![];
-    let read = File::open(path).and_then(|file| file.take(1 << 16).read_to_end(&mut start));
+    File::open(path).and_then(|file| file.take(1 << 16).read_to_end(&mut start)).ok()?;
     let line = start.split_inclusive(|byte| *byte == b'\n').next().unwrap_or_default();
-    // a name may begin with '>'
-    read.is_ok() && (line.starts_with(b"\x1f\x8b") || (line.starts_with(b">") && wakeluri::index_line(line).is_err()))
+    match line {
+        // names hold any bytes
+        _ if wakeluri::index_line(line).is_ok() => None,
+        [b'>', ..] => Some("file of sequences"),
+        _ if start.contains(&0) || line.starts_with(b"\x1f\x8b") => Some("packed file or a program"),
+        _ => None,
+    }
 }
 
 /// Writes a file so that its place holds the old one or the whole new one, whenever this is stopped.

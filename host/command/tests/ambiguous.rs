@@ -55,6 +55,21 @@ fn in_a_sheet_too() {
     folder.run(&["read", "f.fa", "-r", "sheet.txt"]).gave(">chr1:1-2\nAC\n>{chr1:5}:1-2\nGG\n>{chr1}:9\nAC\n");
 }
 
+/// What can't be seen in a sheet: a mark before its text, line ends of other systems, blanks around a region.
+#[test]
+fn what_cannot_be_seen_in_a_sheet() {
+    let folder = folder("unseen", &["a", "b"]);
+    for sheet in ["\u{feff}a\nb:1-1\n", "a\r\nb:1-1\r\n", "\n\n  a\t\n\n b:1-1", "\u{feff}\r\na\nb:1-1"] {
+        folder.write("sheet.txt", sheet);
+        folder.run(&["read", "f.fa", "-r", "sheet.txt"]).gave(">a\nA\n>b:1-1\nC\n");
+    }
+    // what parts a line in another way is no region
+    for sheet in ["a\rb:1-1\r", "a b", "a\t1\t1", "a,b", "#a", "a:1 - 1", "a: 1", "a:1–1", "a:1:1", "a\0"] {
+        folder.write("sheet.txt", sheet);
+        folder.run(&["read", "f.fa", "-r", "sheet.txt"]).refused("refused 15", &["sheet.txt, line 1: "]);
+    }
+}
+
 /// What other tools take for bounds, and names in braces.
 #[test]
 fn other_texts_with_two_meanings() {

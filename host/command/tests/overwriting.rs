@@ -203,14 +203,18 @@ fn devices_folders_and_places_that_are_free() {
 #[test]
 fn an_index_over_another_file_of_sequences() {
     let folder = folder("over-another");
-    for (name, bytes) in
-        [("g.fa", &b">u\nAC\n"[..]), ("f.fa.fai", b">u\nAC\n"), ("packed.gz", b"\x1f\x8b\x08rest"), ("one", b">")]
-    {
+    for (name, bytes, what) in [
+        ("g.fa", &b">u\nAC\n"[..], "this is a file of sequences"),
+        ("f.fa.fai", b">u\nAC\n", "this is a file of sequences"),
+        ("one", b">", "this is a file of sequences"),
+        ("packed.gz", b"\x1f\x8b\x08rest", "this is a packed file or a program"),
+        ("program", b"\x7fELF\x02\0\0", "this is a packed file or a program"),
+    ] {
         folder.write(name, bytes);
         symlink(name, folder.at("link")).unwrap();
         for output in [name, "link"] {
             let answer = folder.run(&["index", "f.fa", "-o", output]);
-            answer.failed(3, &["this is a file of sequences, and the index would take its place", "with --output"]);
+            answer.failed(3, &[&format!("{what}, and the index would take its place"), "with --output"]);
             assert_eq!(folder.read(name), bytes);
         }
         fs::remove_file(folder.at("link")).unwrap();
