@@ -27,7 +27,7 @@ pub record Has (names t : List ℕ) (n : ℕ) (name : List ℕ) (r : ℕ) : Type
   pub sound : namedAt t n r (length names) ≡ held.Row row
   pub same : nameIn names row ≡ name
 
-pub record Lacks (names t : List ℕ) (n : ℕ) (name : List ℕ) (r : ℕ) : Type 0 where
+pub record HasAnother (names t : List ℕ) (n : ℕ) (name : List ℕ) (r : ℕ) : Type 0 where
   pub row : Record
   pub sound : namedAt t n r (length names) ≡ held.Row row
   pub other : nameIn names row ≡ name → ⊥
@@ -35,7 +35,7 @@ pub record Lacks (names t : List ℕ) (n : ℕ) (name : List ℕ) (r : ℕ) : Ty
 -- row r is the first that has the name
 pub record IsFirst (names t : List ℕ) (n : ℕ) (name : List ℕ) (r : ℕ) : Type 0 where
   pub here : Has names t n name r
-  pub before : (k : ℕ) → k < r → Lacks names t n name k
+  pub before : (k : ℕ) → k < r → HasAnother names t n name k
 
 module _ (names t : List ℕ) (n : ℕ) (name : List ℕ) where
   -- row q is the first of k rows from r on
@@ -43,7 +43,7 @@ module _ (names t : List ℕ) (n : ℕ) (name : List ℕ) where
     low : r ≤ q
     high : q < r + k
     here : Has names t n name q
-    before : (j : ℕ) → r ≤ j → j < q → Lacks names t n name j
+    before : (j : ℕ) → r ≤ j → j < q → HasAnother names t n name j
 
   unnamed : (x : Record) → named names x name ≡ false → nameIn names x ≡ name → ⊥
   unfolding named
@@ -63,10 +63,10 @@ module _ (names t : List ℕ) (n : ℕ) (name : List ℕ) where
           let f = ih m in
           record { low = omega (arith, f .low); high = omega (arith, f .high); here = f .here; before = before f }
         where
-          before : From k (suc r) q → (j : ℕ) → r ≤ j → j < q → Lacks names t n name j
+          before : From k (suc r) q → (j : ℕ) → r ≤ j → j < q → HasAnother names t n name j
           before f j a b = at (ltb r j) refl
             where
-              at : (u : Bool) → ltb r j ≡ u → Lacks names t n name j
+              at : (u : Bool) → ltb r j ≡ u → HasAnother names t n name j
               at true c = f .before j (ltb-true r j c) b
               at false c = let same : j ≡ r = omega (arith, ltb-false r j c) in rw same (record { row = x; sound = s; other = unnamed x e })
 
