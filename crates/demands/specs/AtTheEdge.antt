@@ -7,7 +7,8 @@
 -- many they are. With the table as that call left it, wakeluri_read_exact of a row below that count, by bounds inside the record, given or
 -- absent, with room in the output, gives just those bases.
 --
--- `indexed-index`, `indexed-read`: the same of the table that wakeluri_index_file leaves, if that answers 0, with no index text between.
+-- `indexed-index`, `indexed-read`: the same of the table that wakeluri_index_file or wakeluri_index_complete leaves, if that answers 0,
+-- with no index text between.
 --
 -- `indexed-line`, `indexed-checked`: wakeluri_write_index_line of a row of that table answers 0, or 14 and how much room its line needs. If it
 -- answers 0 for each row, then the lines, one after another, are an index for which wakeluri_check answers 0, if they are within the limit.

@@ -43,7 +43,6 @@ use Rattle.mission.specs.TableLaws.{accepted-gives, row-named, leading-r
 -- ---- an indexer's rows, by either rule
 
 pub indexed-leads : (rule : Rule) (f : List ℕ) → Along (LeadsTo f) 0 (groups (lines f)) (rowsBy rule f 0 .rows) (rowsBy rule f 0 .stop)
-unfolding rowsBy
 indexed-leads Strict f = file-leads f
 indexed-leads Complete f = rows-lead f
 
