@@ -11,4 +11,6 @@ pub mod Tables
 pub mod Asked
 pub mod ReadsLaws
 pub mod Reads
+pub mod Covers
+pub mod MendingLaws
 pub mod Mending
