@@ -208,3 +208,25 @@ fn a_table_to_the_byte() {
     assert_eq!(&table[16..24], &[2, 1, 0, 0, 0, 0, 0, 0]);
     assert_eq!(&table[48..], &[255; 3]);
 }
+
+#[test]
+fn rows_by_the_complete_rule() {
+    let indexed = |file: &str| {
+        let mut table = vec![0; 48];
+        let answer = entry::index_complete(file.as_bytes(), &mut table);
+        let told = (no(answer), answer.count);
+        (told, if answer.count == 1 { table } else { vec![] })
+    };
+    let one = |row: Vec<u8>| (((0, 0, 0), 1), row);
+    // a blank line behind a short last line, as genomes come from archives
+    assert_eq!(indexed(">s\nACGT\nAC\n\n"), one(row(6, 3, 4, 5)));
+    // blank lines in front of the first base, and between lines that stay equally far apart
+    assert_eq!(indexed(">s\n\nACGT\n"), one(row(4, 4, 4, 5)));
+    assert_eq!(indexed(">s\nA\n\n\nC\n"), one(row(2, 3, 1, 4)));
+    // a last line without an end, and a CR there
+    assert_eq!(indexed(">s\nAC\r"), one(row(2, 3, 2, 3)));
+    // no bases
+    assert_eq!(indexed(">s\n"), one(row(0, 3, 1, 2)));
+    // a line of one base between lines of two: base 4, at offset 8, is not where base 3 says
+    assert_eq!(indexed(">s\nAC\nA\nAC\n"), (((42, 8, 4), 0), vec![]));
+}
