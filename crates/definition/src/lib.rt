@@ -34,19 +34,19 @@ pub enum DefinitionRead {
 pub fn is_space(b: u8) -> bool
     ensures { λ r. ⌜ r ≡ isSpace b ⌝ }
 {
-    if b == 32 {
+    if b == b' ' {
         return true;
     }
-    if b == 9 {
+    if b == b'\t' {
         return true;
     }
-    if b == 10 {
+    if b == b'\n' {
         return true;
     }
-    if b == 12 {
+    if b == b'\x0c' {
         return true;
     }
-    b == 13
+    b == b'\r'
 }
 
 // The end of the run of whitespace, or of bytes that are none, from `at` on.
@@ -88,7 +88,7 @@ fn parse_definition(content: &[u8]) -> Parsed
     if content.len() == 0 {
         return Parsed::Bad(Fault::Empty);
     }
-    if content[0] != 62 {
+    if content[0] != b'>' {
         return Parsed::Bad(Fault::NoPrefix);
     }
     let n = run_end(content, 1, false);

@@ -66,7 +66,7 @@ pub(crate) fn read_number(s: &[u8]) -> Number
     if s.len() == 0 {
         return Number::Bad;
     }
-    if s[0] == 43 {
+    if s[0] == b'+' {
         return read_digits(&s[1..]);
     }
     read_digits(s)
@@ -79,10 +79,10 @@ pub(crate) fn plain_number(s: &[u8]) -> bool
     if s.len() < 2 {
         return true;
     }
-    if s[0] == 43 {
+    if s[0] == b'+' {
         return false;
     }
-    s[0] != 48
+    s[0] != b'0'
 }
 
 // How many digits a number is written with.

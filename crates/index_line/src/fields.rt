@@ -54,7 +54,7 @@ pub(crate) fn field_length(l: &[u8], tabs: usize) -> usize
     if tabs == 0 {
         return l.len();
     }
-    first_byte(l, 9)
+    first_byte(l, b'\t')
 }
 
 // Is a value 0 where it may not be: in field 4 and in field 5.
@@ -166,7 +166,7 @@ fn field_ends(s: &[u8], at: usize, tabs: usize) -> bool
     if s.len() <= at {
         return false;
     }
-    s[at] == 9
+    s[at] == b'\t'
 }
 
 // A number at the front of `s`, as most are written: its first digit is 1 to 9. The length is 0 where there is none.
@@ -175,7 +175,7 @@ fn quick_field(s: &[u8], tabs: usize) -> Field
 {
     let d = front_digits(s);
     if 0 < d.count {
-        if s[0] != 48 {
+        if s[0] != b'0' {
             if field_ends(s, d.count, tabs) {
                 return Field {
                     value: d.value,
@@ -234,8 +234,8 @@ pub(crate) fn read_numbers(
 fn name_split(name: &[u8]) -> usize
     ensures { λ r. ⌜ r ≡ firstWhere splits (now (name .entry)) ⌝ }
 {
-    let tab = first_byte(name, 9);
-    first_byte(&name[..tab], 10)
+    let tab = first_byte(name, b'\t');
+    first_byte(&name[..tab], b'\n')
 }
 
 // How many bytes a name and numbers are written with.
@@ -268,7 +268,7 @@ fn put_numbers(numbers: &[u64], out: &mut [u8], at: usize) -> usize
     let mut place = at;
     let mut i = 0;
     while i < numbers.len() {
-        out[place] = 9;
+        out[place] = b'\t';
         place += 1;
         place += decimal::write_number(numbers[i], out, place);
         i += 1;
@@ -283,7 +283,7 @@ fn put_text(name: &[u8], numbers: &[u64], out: &mut [u8])
 {
     put_front(name, out);
     let end = put_numbers(numbers, out, name.len());
-    out[end] = 10;
+    out[end] = b'\n';
 }
 
 // The same, if the name has no tab and no LF, and if there is room.

@@ -38,7 +38,7 @@ pub enum Step {
 fn left_if_lf(b: u8, left: u8) -> u8
     ensures { λ r. ⌜ r ≡ cond (eqb b 10) left 0 ⌝ }
 {
-    if b == 10 { left } else { 0 }
+    if b == b'\n' { left } else { 0 }
 }
 
 // The greater of two numbers.
@@ -68,7 +68,7 @@ fn lf_in_64(s: &[u8], i: usize) -> bool
 {
     let mut any = false;
     for k in 0..64 {
-        any = any | (s[i + k] == 10);
+        any = any | (s[i + k] == b'\n');
     }
     any
 }
@@ -79,7 +79,7 @@ fn line_end_near(s: &[u8], at: usize) -> usize
 {
     let mut i = at;
     while i < s.len() {
-        if s[i] == 10 {
+        if s[i] == b'\n' {
             return i + 1;
         }
         i += 1;
@@ -139,8 +139,8 @@ fn chopped(l: &[u8], b: u8) -> usize
 pub fn base_count(l: &[u8]) -> usize
     ensures { λ r. ⌜ r ≡ length (basesOf (now (l .entry))) ⌝ }
 {
-    let t = chopped(l, 10);
-    chopped(&l[..t], 13)
+    let t = chopped(l, b'\n');
+    chopped(&l[..t], b'\r')
 }
 
 // How many bytes a line's content has: without the LF, and only if there was one, without one CR before it.
@@ -148,18 +148,18 @@ pub fn content_length(l: &[u8]) -> usize
     ensures { λ r. ⌜ r ≡ length (contentOf (now (l .entry))) ⌝ }
 {
     let n = l.len();
-    let e = chopped(l, 10);
+    let e = chopped(l, b'\n');
     if e == n {
         return n;
     }
-    chopped(&l[..e], 13)
+    chopped(&l[..e], b'\r')
 }
 
 // Is there no sequence line at `at`: the end of the file, or a '>'.
 pub fn sequence_ends(s: &[u8], at: usize) -> bool
     ensures { λ r. ⌜ r ≡ none (seqAt (now (s .entry)) at) ⌝ }
 {
-    if at < s.len() { s[at] == 62 } else { true }
+    if at < s.len() { s[at] == b'>' } else { true }
 }
 
 // The sequence line at `at`; 0 and 0 where there is none.
@@ -184,7 +184,7 @@ fn lf_in_either_16(s: &[u8], p: usize, q: usize) -> bool
 {
     let mut any = false;
     for k in 0..16 {
-        any = any | (s[p + k] == 10) | (s[q + k] == 10);
+        any = any | (s[p + k] == b'\n') | (s[q + k] == b'\n');
     }
     any
 }
@@ -196,7 +196,7 @@ fn lf_in_either_32(s: &[u8], p: usize, q: usize) -> bool
 {
     let mut any = false;
     for k in 0..32 {
-        any = any | (s[p + k] == 10) | (s[q + k] == 10);
+        any = any | (s[p + k] == b'\n') | (s[q + k] == b'\n');
     }
     any
 }
@@ -208,7 +208,7 @@ fn lf_in_either_64(s: &[u8], p: usize, q: usize) -> bool
 {
     let mut any = false;
     for k in 0..64 {
-        any = any | (s[p + k] == 10) | (s[q + k] == 10);
+        any = any | (s[p + k] == b'\n') | (s[q + k] == b'\n');
     }
     any
 }
@@ -220,7 +220,7 @@ fn lf_among_few(s: &[u8], at: usize, n: usize) -> bool
 {
     let mut k = 0;
     while k < n {
-        if s[at + k] == 10 {
+        if s[at + k] == b'\n' {
             return true;
         }
         k += 1;
@@ -277,13 +277,13 @@ fn is_like(s: &[u8], at: usize, like: Line) -> bool
     if lf_within(s, at, like.width - 1) {
         return false;
     }
-    if s[at] == 62 {
+    if s[at] == b'>' {
         return false;
     }
-    if s[last] != 10 {
+    if s[last] != b'\n' {
         return false;
     }
-    chopped(&s[at..last], 13) == like.bases
+    chopped(&s[at..last], b'\r') == like.bases
 }
 
 // How many sequence lines from `at` on are ended by an LF, with the width and the bases of `like`, up to the first that is not.

@@ -31,10 +31,10 @@ pub enum RunRead {
 fn ends_line(b: u8) -> bool
     ensures { λ r. ⌜ r ≡ endsLine b ⌝ }
 {
-    if b == 13 {
+    if b == b'\r' {
         return true;
     }
-    b == 10
+    b == b'\n'
 }
 
 // The place behind the CR and LF that stand at `at`.

@@ -16,7 +16,7 @@ ghost use Rattle.writer.specs.Text.{anyOf, nameUnfit, descriptionUnfit, 
 fn is_barred(b: u8) -> bool
     ensures { λ r. ⌜ r ≡ barred b ⌝ }
 {
-    (b == 10) | (b == 13) | (b == 62)
+    (b == b'\n') | (b == b'\r') | (b == b'>')
 }
 
 // Is one of some bytes whitespace.
@@ -39,7 +39,7 @@ fn any_lf(s: &[u8]) -> bool
 {
     let mut i = 0;
     while i < s.len() {
-        if s[i] == 10 {
+        if s[i] == b'\n' {
             return true;
         }
         i += 1;
