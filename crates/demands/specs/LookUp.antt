@@ -16,8 +16,8 @@ use Rattle.region.specs.declared.RegionRead.{RegionRead}
 use Rattle.region.specs.declared.RegionRead.the-variants as region
 use Rattle.region.specs.Region.{Outcome, refuses}
 use Rattle.region.specs.Split.{exactNamed, rawNamed, OfFirst, OfSecond, Small}
-use Rattle.region.specs.Split.OfFirst as of-first
-use Rattle.region.specs.Split.OfSecond as of-second
+use Rattle.region.specs.Split.OfFirst.{bad-row, unknown}
+use Rattle.region.specs.Split.OfSecond.{bad-bounds, past-length, no-room, not-in-file}
 use Rattle.region.specs.Split as calls
 use Rattle.byte_table.specs.Numbers.{numbersIn}
 use Rattle.wakeluri.specs.declared.answer.Answer.{Answer}
@@ -27,16 +27,16 @@ use Rattle.demands.specs.Calls.{Find, ReadExact, ReadRaw}
 
 -- the numbers of the refusals that come from looking up
 pub data FirstTells : ℕ → Type 0 where
-  bad-row : FirstTells 25
-  unknown : FirstTells 15
+  told-25 : FirstTells 25
+  told-15 : FirstTells 15
 
 -- and what comes from the read: no refusal, or one of four
 pub data SecondTells : ℕ → Type 0 where
-  none : SecondTells 0
-  bad-bounds : SecondTells 16
-  past-length : SecondTells 17
-  no-room : SecondTells 14
-  not-in-file : SecondTells 18
+  told-0 : SecondTells 0
+  told-16 : SecondTells 16
+  told-17 : SecondTells 17
+  told-14 : SecondTells 14
+  told-18 : SecondTells 18
 
 -- what one call told and left is what two calls tell and leave; the second is made of the row that the first tells, and only if that tells no
 -- refusal
@@ -48,19 +48,19 @@ pub record Split (one : Told) (first : Answer) (Second : ℕ → Answer → List
 
 first-tells : (f : Refusal) → OfFirst f → FirstTells (numbersOf f .refusal)
 unfolding numbersOf
-first-tells _ (of-first.bad-row r) = bad-row
-first-tells _ of-first.unknown = unknown
+first-tells _ (bad-row r) = told-25
+first-tells _ unknown = told-15
 
 second-refuses : (f : Refusal) → OfSecond f → SecondTells (numbersOf f .refusal)
 unfolding numbersOf
-second-refuses _ of-second.bad-bounds = bad-bounds
-second-refuses _ (of-second.past-length n) = past-length
-second-refuses _ (of-second.no-room n) = no-room
-second-refuses _ (of-second.not-in-file p) = not-in-file
+second-refuses _ bad-bounds = told-16
+second-refuses _ (past-length n) = told-17
+second-refuses _ (no-room n) = told-14
+second-refuses _ (not-in-file p) = told-18
 
 second-tells : (r : RegionRead) → ((f : Refusal) → r ≡ region.Refused f → OfSecond f) → SecondTells (regionAnswer r .refusal)
 unfolding regionAnswer
-second-tells (region.Bytes n) h = none
+second-tells (region.Bytes n) h = told-0
 second-tells (region.Refused f) h = second-refuses f (h f refl)
 
 split : (one : Outcome) (d : Found) (second : ℕ → Outcome) (out : List ℕ) (first : Answer) → first ≡ foundAnswer d → calls.Split one d second out
