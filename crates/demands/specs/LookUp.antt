@@ -15,9 +15,10 @@ use Rattle.index.specs.declared.Found.the-variants as found
 use Rattle.region.specs.declared.RegionRead.{RegionRead}
 use Rattle.region.specs.declared.RegionRead.the-variants as region
 use Rattle.region.specs.Region.{Outcome, refuses}
-use Rattle.region.specs.Split.{exactNamed, rawNamed, OfFirst, OfSecond, Small}
-use Rattle.region.specs.Split.OfFirst.{bad-row, unknown}
-use Rattle.region.specs.Split.OfSecond.{bad-bounds, past-length, no-room, not-in-file}
+use Rattle.region.specs.Refusals.{OfLookUp, OfRead}
+use Rattle.region.specs.Refusals.OfLookUp.{bad-row, unknown}
+use Rattle.region.specs.Refusals.OfRead.{bad-bounds, past-length, no-room, not-in-file}
+use Rattle.region.specs.Split.{exactNamed, rawNamed, Small}
 use Rattle.region.specs.Split as calls
 use Rattle.byte_table.specs.Numbers.{numbersIn}
 use Rattle.wakeluri.specs.declared.answer.Answer.{Answer}
@@ -46,19 +47,19 @@ pub record Split (one : Told) (first : Answer) (Second : ℕ → Answer → List
 
 -- ---- the same of the calls below, told as numbers
 
-first-tells : (f : Refusal) → OfFirst f → FirstTells (numbersOf f .refusal)
+first-tells : (f : Refusal) → OfLookUp f → FirstTells (numbersOf f .refusal)
 unfolding numbersOf
 first-tells _ (bad-row r) = told-25
 first-tells _ unknown = told-15
 
-second-refuses : (f : Refusal) → OfSecond f → SecondTells (numbersOf f .refusal)
+second-refuses : (f : Refusal) → OfRead f → SecondTells (numbersOf f .refusal)
 unfolding numbersOf
 second-refuses _ bad-bounds = told-16
 second-refuses _ (past-length n) = told-17
 second-refuses _ (no-room n) = told-14
 second-refuses _ (not-in-file p) = told-18
 
-second-tells : (r : RegionRead) → ((f : Refusal) → r ≡ region.Refused f → OfSecond f) → SecondTells (regionAnswer r .refusal)
+second-tells : (r : RegionRead) → ((f : Refusal) → r ≡ region.Refused f → OfRead f) → SecondTells (regionAnswer r .refusal)
 unfolding regionAnswer
 second-tells (region.Bytes n) h = told-0
 second-tells (region.Refused f) h = second-refuses f (h f refl)

@@ -7,4 +7,5 @@ pub mod Laws
 pub mod Judge
 pub mod Dependence
 pub mod Changed
+pub mod Refusals
 pub mod Split
