@@ -10,8 +10,6 @@ mod search;
 pub use fill::index_file;
 pub use fill::read_index;
 pub use reads::read_exact;
-pub use reads::read_exact_by_name;
 pub use reads::read_raw;
-pub use reads::read_raw_by_name;
 pub use reads::write_line;
 pub use search::find;

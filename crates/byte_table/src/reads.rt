@@ -2,11 +2,8 @@
 // table of numbers do.
 use crate::rows;
 use crate::rows::Names;
-use crate::search;
-use index::Found;
 use index_line::Written;
 use record::Record;
-use refusal::Refusal;
 use region::Bound;
 use region::RegionRead;
 ghost use mathlib.Core.Path.{_≡_};
@@ -15,7 +12,6 @@ ghost use Rattle.index_line.specs.IndexLine.{writtenAs};
 ghost use Rattle.region.specs.Region.{leaves};
 ghost use Rattle.region.specs.Exact.{exactRead};
 ghost use Rattle.region.specs.Raw.{rawRead};
-ghost use Rattle.region.specs.Named.{rowFor, exactNamed, rawNamed};
 ghost use Rattle.byte_table.specs.Numbers.{numbersIn};
 
 // The exact read by row.
@@ -50,56 +46,6 @@ pub fn read_raw(
     let mut one = [0; Record::WORDS];
     let p = rows::stand_in(table, in_use, row, Names::Unread, &mut one);
     region::read_raw(file, &one, p.in_use, p.row, start, end, out)
-}
-
-// The row that has the name, for a file of so many bytes.
-fn find_for(file: usize, names: &[u8], table: &[u8], in_use: usize, name: &[u8]) -> Found
-    ensures { λ r. ⌜ r ≡ rowFor file (now (names .entry)) (numbersIn (now (table .entry))) «in_use» (now (name .entry)) ⌝ }
-{
-    if refusal::over_limit(file) {
-        return Found::Refused(Refusal::TooLong);
-    }
-    search::find(names, table, in_use, name)
-}
-
-// The exact read by name.
-pub fn read_exact_by_name(
-    file: &[u8],
-    names: &[u8],
-    table: &[u8],
-    in_use: usize,
-    name: &[u8],
-    start: Bound,
-    end: Bound,
-    out: &mut [u8],
-) -> RegionRead
-    ensures { λ r. ⌜ leaves r (now (out .exit)) ≡ exactNamed (now (file .entry)) (now (names .entry)) (numbersIn (now (table .entry))) «in_use» (now (name .entry)) start end (now (out .entry)) ⌝ }
-{
-    let found = find_for(file.len(), names, table, in_use, name);
-    match found {
-        Found::Row(row) => read_exact(file, table, in_use, row, start, end, out),
-        Found::Refused(f) => RegionRead::Refused(f),
-    }
-}
-
-// The raw read by name.
-pub fn read_raw_by_name(
-    file: &[u8],
-    names: &[u8],
-    table: &[u8],
-    in_use: usize,
-    name: &[u8],
-    start: Bound,
-    end: Bound,
-    out: &mut [u8],
-) -> RegionRead
-    ensures { λ r. ⌜ leaves r (now (out .exit)) ≡ rawNamed (now (file .entry)) (now (names .entry)) (numbersIn (now (table .entry))) «in_use» (now (name .entry)) start end (now (out .entry)) ⌝ }
-{
-    let found = find_for(file.len(), names, table, in_use, name);
-    match found {
-        Found::Row(row) => read_raw(file, table, in_use, row, start, end, out),
-        Found::Refused(f) => RegionRead::Refused(f),
-    }
 }
 
 // Writes the index line of a row.

@@ -6,13 +6,15 @@ use mathlib.Core.List.{List}
 use Rattle.record.specs.Row.{rowCount}
 use Rattle.index_line.specs.IndexLine.{writtenAs}
 use Rattle.index.specs.Index.{indexIn}
+use Rattle.index.specs.Find.{rowRead}
 use Rattle.fitting.specs.declared.Rule.{Rule}
 use Rattle.fitting.specs.Rules.{rowsIn}
 use Rattle.region.specs.Exact.{exactRead}
+use Rattle.region.specs.Raw.{rawRead}
 use Rattle.checker.specs.Check.{checkOf}
 use Rattle.byte_table.specs.Numbers.{numbersIn}
 use Rattle.wakeluri.specs.declared.answer.Answer.{Answer}
-use Rattle.wakeluri.specs.Answer.{boundOf, verdictAnswer}
+use Rattle.wakeluri.specs.Answer.{boundOf, verdictAnswer, foundAnswer}
 use Rattle.wakeluri.specs.Told.{tells, filledTold, writtenTold, regionTold}
 
 -- wakeluri_check(file, index) answers a
@@ -31,7 +33,15 @@ IndexFile rule file table a table′ = tells a table′ ≡ filledTold (rowsIn r
 abbrev pub WriteIndexLine : List ℕ → List ℕ → ℕ → ℕ → List ℕ → Answer → List ℕ → Type 0
 WriteIndexLine names table in-use row out a out′ = tells a out′ ≡ writtenTold (writtenAs names (numbersIn table) in-use row out)
 
--- wakeluri_read_exact(file, table, in_use, row, has_start, start, has_end, end, out)
+-- wakeluri_find(names, table, in_use, name)
+abbrev pub Find : List ℕ → List ℕ → ℕ → List ℕ → Answer → Type 0
+Find names table in-use name a = a ≡ foundAnswer (rowRead names (numbersIn table) in-use name)
+
+-- wakeluri_read_exact(file, table, in_use, row, has_start, start, has_end, end, out), and wakeluri_read_raw of the same
 abbrev pub ReadExact : List ℕ → List ℕ → ℕ → ℕ → ℕ → ℕ → ℕ → ℕ → List ℕ → Answer → List ℕ → Type 0
 ReadExact file table in-use row has-start start has-end end out a out′ =
     tells a out′ ≡ regionTold (exactRead file (numbersIn table) in-use row (boundOf has-start start) (boundOf has-end end) out)
+
+abbrev pub ReadRaw : List ℕ → List ℕ → ℕ → ℕ → ℕ → ℕ → ℕ → ℕ → List ℕ → Answer → List ℕ → Type 0
+ReadRaw file table in-use row has-start start has-end end out a out′ =
+    tells a out′ ≡ regionTold (rawRead file (numbersIn table) in-use row (boundOf has-start start) (boundOf has-end end) out)

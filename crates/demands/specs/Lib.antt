@@ -5,3 +5,4 @@ pub mod Laws
 pub mod Chains
 pub mod AtTheEdge
 pub mod Marked
+pub mod LookUp

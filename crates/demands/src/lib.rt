@@ -1,10 +1,11 @@
-// Demand 3 at the entry points. The theorems are in specs/AtTheEdge.antt, over the calls' promises as relations (specs/Calls.antt). Here each
-// call is made, and has its relation for a contract: so the theorems are about the calls themselves.
+// Demand 3 at the entry points, and looking up and reading as two calls (request K8). The theorems are in specs/AtTheEdge.antt and
+// specs/LookUp.antt, over the calls' promises as relations (specs/Calls.antt). Here each call is made, and has its relation for a contract: so
+// the theorems are about the calls themselves.
 use wakeluri::answer::Answer;
 use wakeluri::files;
 use wakeluri::rows;
 ghost use Rattle.fitting.specs.declared.Rule.the-variants.{Strict, Complete};
-ghost use Rattle.demands.specs.Calls.{Check, ReadIndex, IndexFile, WriteIndexLine, ReadExact};
+ghost use Rattle.demands.specs.Calls.{Check, ReadIndex, IndexFile, WriteIndexLine, Find, ReadExact, ReadRaw};
 
 fn check(file: &[u8], index: &[u8]) -> Answer
     ensures { λ a. ⌜ Check (now (file .entry)) (now (index .entry)) a ⌝ }
@@ -36,6 +37,12 @@ fn write_index_line(names: &[u8], table: &[u8], in_use: u64, row: u64, out: &mut
     rows::wakeluri_write_index_line(names, table, in_use, row, out)
 }
 
+fn find(names: &[u8], table: &[u8], in_use: u64, name: &[u8]) -> Answer
+    ensures { λ a. ⌜ Find (now (names .entry)) (now (table .entry)) «in_use» (now (name .entry)) a ⌝ }
+{
+    rows::wakeluri_find(names, table, in_use, name)
+}
+
 fn read_exact(
     file: &[u8],
     table: &[u8],
@@ -50,6 +57,32 @@ fn read_exact(
     ensures { λ a. ⌜ ReadExact (now (file .entry)) (now (table .entry)) «in_use» row «has_start» start «has_end» end (now (out .entry)) a (now (out .exit)) ⌝ }
 {
     rows::wakeluri_read_exact(
+        file,
+        table,
+        in_use,
+        row,
+        has_start,
+        start,
+        has_end,
+        end,
+        out,
+    )
+}
+
+fn read_raw(
+    file: &[u8],
+    table: &[u8],
+    in_use: u64,
+    row: u64,
+    has_start: u64,
+    start: u64,
+    has_end: u64,
+    end: u64,
+    out: &mut [u8],
+) -> Answer
+    ensures { λ a. ⌜ ReadRaw (now (file .entry)) (now (table .entry)) «in_use» row «has_start» start «has_end» end (now (out .entry)) a (now (out .exit)) ⌝ }
+{
+    rows::wakeluri_read_raw(
         file,
         table,
         in_use,

@@ -22,8 +22,6 @@ use Rattle.sequence.specs.declared.SequenceRead.{SequenceRead}
 use Rattle.sequence.specs.declared.SequenceRead.the-variants as scanned
 use Rattle.sequence.specs.Scan.{Scan, scanAt, scanAll}
 use Rattle.sequence.specs.Read.{Left, leaves as scanned-leaves, written, poured, scanInto}
-use Rattle.index.specs.declared.Found.{Found}
-use Rattle.index.specs.declared.Found.the-variants as found
 use Rattle.region.specs.declared.Bound.{Bound}
 use Rattle.region.specs.declared.Bound.the-variants.{Given, Absent}
 use Rattle.region.specs.declared.RegionRead.{RegionRead}
@@ -31,7 +29,6 @@ use Rattle.region.specs.declared.RegionRead.the-variants.{Bytes, Refused
 use Rattle.region.specs.Region.{Outcome, leaves, refuses, gives, isZero, crossed, badBounds, boundedRow, startOf, endOf, basesTo}
 use Rattle.region.specs.Exact.{offsetsOf, inFile, pastLength, bytesAt, basesFrom, regionOf, exactIn, exactOf, exactRead}
 use Rattle.region.specs.Raw.{scanTo, pours, rawAt, rawOf, rawIn, rawRead}
-use Rattle.region.specs.Named.{readFound}
 use Rattle.region.specs.Inside.{length-offsets}
 
 -- ---- bounds
@@ -184,14 +181,3 @@ module _ (s t : List ℕ) (u r : ℕ) (a e : Bound) (out : List ℕ) where
     pub raw-row : (x : Record) → boundedRow a e (heldAt t u r) ≡ held.Row x → rawAt s (addressOf x (record { 0 = startOf a })) (startOf a) e out ≡ rawRead s t u r a e out
     unfolding rawRead rawOf rawIn
     raw-row x q = rw (h, q)
-
--- ---- by name
-
-module _ (f : Found) (read : ℕ → Outcome) (out : List ℕ) where
-  pub found-refused : (y : Refusal) → f ≡ found.Refused y → leaves (Refused y) out ≡ readFound f read out
-  unfolding readFound refuses
-  found-refused y q = rw q
-
-  pub found-row : (r : ℕ) → f ≡ found.Row r → read r ≡ readFound f read out
-  unfolding readFound
-  found-row r q = rw q

@@ -1,10 +1,11 @@
 pub mod Region
 pub mod Exact
 pub mod Raw
-pub mod Named
 pub mod Inside
 pub mod Copy
 pub mod Laws
 pub mod Judge
 pub mod Dependence
 pub mod Changed
+pub mod Refusals
+pub mod Split

@@ -4,13 +4,13 @@
 // short; 18, a base that is not in the file, the first of them.
 // The raw read scans from where the first base lies, and does not look at the record's length: it may run into the next record,
 // and give bytes of its definition line. It refuses 1, 16, 25, 18 where the first base's offset is over 64 bits, and 14.
-// Both are by row, or by name: then the name is looked up first, and 25 judges row by row before its name, with 15 after the last.
+// Both are by row. Whoever has a name looks its row up first, once for all regions of it, with `index::find`: specs/Split.antt has what the
+// two calls say together.
 // A refusal leaves the output as it was, and so stay the bytes behind an answer.
 mod bounds;
 mod exact;
 mod raw;
 
-use index::Found;
 use record::Held;
 use record::Position;
 use record::Record;
@@ -20,7 +20,6 @@ ghost use Rattle.record.specs.Row.{heldAt};
 ghost use Rattle.region.specs.Region.{leaves, boundedRow};
 ghost use Rattle.region.specs.Exact.{exactRead};
 ghost use Rattle.region.specs.Raw.{rawRead};
-ghost use Rattle.region.specs.Named.{rowFor, exactNamed, rawNamed};
 
 // A bound of a region: a base position, or none.
 pub enum Bound {
@@ -86,55 +85,5 @@ pub fn read_raw(
     match held {
         Held::Refused(f) => RegionRead::Refused(f),
         Held::Row(x) => raw::scan_region(file, x, start, end, out),
-    }
-}
-
-// The row that has the name, for a file of so many bytes.
-fn find_row(file: usize, names: &[u8], table: &[u64], in_use: usize, name: &[u8]) -> Found
-    ensures { λ r. ⌜ r ≡ rowFor file (now (names .entry)) (now (table .entry)) «in_use» (now (name .entry)) ⌝ }
-{
-    if refusal::over_limit(file) {
-        return Found::Refused(Refusal::TooLong);
-    }
-    index::find(names, table, in_use, name)
-}
-
-// The exact read by name: looks the name up, then reads by row. The names of rows are spans of `names`.
-pub fn read_exact_by_name(
-    file: &[u8],
-    names: &[u8],
-    table: &[u64],
-    in_use: usize,
-    name: &[u8],
-    start: Bound,
-    end: Bound,
-    out: &mut [u8],
-) -> RegionRead
-    ensures { λ r. ⌜ leaves r (now (out .exit)) ≡ exactNamed (now (file .entry)) (now (names .entry)) (now (table .entry)) «in_use» (now (name .entry)) start end (now (out .entry)) ⌝ }
-{
-    let found = find_row(file.len(), names, table, in_use, name);
-    match found {
-        Found::Row(row) => read_exact(file, table, in_use, row, start, end, out),
-        Found::Refused(f) => RegionRead::Refused(f),
-    }
-}
-
-// The raw read by name: looks the name up, then reads by row. The names of rows are spans of `names`.
-pub fn read_raw_by_name(
-    file: &[u8],
-    names: &[u8],
-    table: &[u64],
-    in_use: usize,
-    name: &[u8],
-    start: Bound,
-    end: Bound,
-    out: &mut [u8],
-) -> RegionRead
-    ensures { λ r. ⌜ leaves r (now (out .exit)) ≡ rawNamed (now (file .entry)) (now (names .entry)) (now (table .entry)) «in_use» (now (name .entry)) start end (now (out .entry)) ⌝ }
-{
-    let found = find_row(file.len(), names, table, in_use, name);
-    match found {
-        Found::Row(row) => read_raw(file, table, in_use, row, start, end, out),
-        Found::Refused(f) => RegionRead::Refused(f),
     }
 }

@@ -8,7 +8,6 @@ ghost use Rattle.index.specs.Find.{rowRead};
 ghost use Rattle.index_line.specs.IndexLine.{writtenAs};
 ghost use Rattle.region.specs.Exact.{exactRead};
 ghost use Rattle.region.specs.Raw.{rawRead};
-ghost use Rattle.region.specs.Named.{exactNamed, rawNamed};
 ghost use Rattle.byte_table.specs.Numbers.{numbersIn};
 ghost use Rattle.wakeluri.specs.Answer.{boundOf, foundAnswer};
 ghost use Rattle.wakeluri.specs.Told.{tells, writtenTold, regionTold};
@@ -85,49 +84,5 @@ pub extern "C" fn wakeluri_read_raw(
     let a = bound(has_start, start);
     let e = bound(has_end, end);
     let read = byte_table::read_raw(file, table, in_use as usize, row as usize, a, e, out);
-    answer::region_answer(read)
-}
-
-// The exact read of the first row that has the name.
-#[no_mangle]
-pub extern "C" fn wakeluri_read_exact_by_name(
-    file: &[u8],
-    names: &[u8],
-    table: &[u8],
-    in_use: u64,
-    name: &[u8],
-    has_start: u64,
-    start: u64,
-    has_end: u64,
-    end: u64,
-    out: &mut [u8],
-) -> Answer
-    ensures { λ a. ⌜ tells a (now (out .exit)) ≡ regionTold (exactNamed (now (file .entry)) (now (names .entry)) (numbersIn (now (table .entry))) «in_use» (now (name .entry)) (boundOf «has_start» start) (boundOf «has_end» end) (now (out .entry))) ⌝ }
-{
-    let a = bound(has_start, start);
-    let e = bound(has_end, end);
-    let read = byte_table::read_exact_by_name(file, names, table, in_use as usize, name, a, e, out);
-    answer::region_answer(read)
-}
-
-// The raw read of the first row that has the name.
-#[no_mangle]
-pub extern "C" fn wakeluri_read_raw_by_name(
-    file: &[u8],
-    names: &[u8],
-    table: &[u8],
-    in_use: u64,
-    name: &[u8],
-    has_start: u64,
-    start: u64,
-    has_end: u64,
-    end: u64,
-    out: &mut [u8],
-) -> Answer
-    ensures { λ a. ⌜ tells a (now (out .exit)) ≡ regionTold (rawNamed (now (file .entry)) (now (names .entry)) (numbersIn (now (table .entry))) «in_use» (now (name .entry)) (boundOf «has_start» start) (boundOf «has_end» end) (now (out .entry))) ⌝ }
-{
-    let a = bound(has_start, start);
-    let e = bound(has_end, end);
-    let read = byte_table::read_raw_by_name(file, names, table, in_use as usize, name, a, e, out);
     answer::region_answer(read)
 }

@@ -1,0 +1,138 @@
+-- Which refusals looking up gives, and which a read of a row that was found, once 1 is out of the way. Looking up judges every row up to the one
+-- that it gives, so the read has no bad row to tell.
+use Prim.Native.Nat.{ℕ, zero, suc, _+_}
+use mathlib.Core.Path.{_≡_, refl}
+use mathlib.Core.List.{List, map}
+use mathlib.Core.Bool.{Bool, true, false, cond}
+use native.Mathlib.Omega.{arith}
+use lib.ListN.{length}
+use lib.Dec.{eqb, ltb}
+use Rattle.refusal.specs.Numbers.{overLimit}
+use Rattle.refusal.specs.declared.Refusal.{Refusal}
+use Rattle.refusal.specs.declared.Refusal.the-variants.{NoRoom, NameUnknown, BadBounds, PastLength, NotInFile, BadRow}
+use Rattle.record.specs.declared.Record.{Record}
+use Rattle.record.specs.declared.Held.{Held}
+use Rattle.record.specs.declared.Held.the-variants as held
+use Rattle.record.specs.declared.Address.{Address}
+use Rattle.record.specs.declared.Address.the-variants.{At, Nowhere}
+use Rattle.record.specs.Place.{addressOf}
+use Rattle.record.specs.Bases.{byteAt}
+use Rattle.record.specs.Row.{rowCount, rowAt, badRow, soundRow, heldAt, namedIn, namedAt}
+use Rattle.index.specs.declared.Found.the-variants as found
+use Rattle.index.specs.Find.{named, judged, rowFrom, rowNamed, rowRead}
+use Rattle.region.specs.declared.Bound.{Bound}
+use Rattle.region.specs.declared.RegionRead.the-variants.{Refused}
+use Rattle.region.specs.Region.{Outcome, refuses, gives, badBounds, boundedRow, startOf, endOf, basesTo}
+use Rattle.region.specs.Exact.{offsetsOf, inFile, pastLength, bytesAt, basesFrom, regionOf, exactIn, exactOf, exactRead}
+use Rattle.region.specs.Raw.{scanTo, pours, rawAt, rawIn, rawOf, rawRead}
+
+-- the refusals of looking up: 25, 15
+pub data OfLookUp : Refusal → Type 0 where
+  bad-row : (r : ℕ) → OfLookUp (BadRow r)
+  unknown : OfLookUp NameUnknown
+
+-- those of reading a sound row: 16, 17, 14, 18
+pub data OfRead : Refusal → Type 0 where
+  bad-bounds : OfRead BadBounds
+  past-length : (bases : ℕ) → OfRead (PastLength bases)
+  no-room : (needed : ℕ) → OfRead (NoRoom needed)
+  not-in-file : (base : ℕ) → OfRead (NotInFile base)
+
+-- whatever an outcome refuses is one of these
+abbrev pub ReadRefuses : Outcome → Type 0
+ReadRefuses o = (f : Refusal) → o .answer ≡ Refused f → OfRead f
+
+-- ---- looking up
+
+module _ (t : List ℕ) (n r : ℕ) where
+  held-refused : (f : Refusal) → heldAt t n r ≡ held.Refused f → OfLookUp f
+  unfolding heldAt soundRow
+  held-refused f h = go (ltb (rowCount t) n) (ltb r n) (eqb (rowAt t r .«line_bases») 0) (eqb (rowAt t r .«line_width») 0) h
+    where
+      bad : (k : ℕ) → badRow k ≡ held.Refused f → OfLookUp f
+      bad k q = let e : BadRow k ≡ f = cc in rw (← e) (bad-row k)
+
+      go : (l u b w : Bool) → cond l (badRow (rowCount t)) (cond u (cond b (badRow r) (cond w (badRow r) (held.Row (rowAt t r)))) (badRow r)) ≡ held.Refused f → OfLookUp f
+      go true _ _ _ q = bad (rowCount t) q
+      go false false _ _ q = bad r q
+      go false true true _ q = bad r q
+      go false true false true q = bad r q
+      go false true false false q = let z : _≡_ {A = ℕ} 0 1 = cc in absurd (omega arith)
+
+  named-refused : (bytes : ℕ) (f : Refusal) → namedAt t n r bytes ≡ held.Refused f → OfLookUp f
+  unfolding namedAt namedIn
+  named-refused bytes f h = go (heldAt t n r) refl h
+    where
+      row : (b : Bool) (x : Record) → cond b (badRow r) (held.Row x) ≡ held.Refused f → OfLookUp f
+      row true x q = let e : BadRow r ≡ f = cc in rw (← e) (bad-row r)
+      row false x q = let z : _≡_ {A = ℕ} 0 1 = cc in absurd (omega arith)
+
+      go : (o : Held) → heldAt t n r ≡ o → namedIn bytes r o ≡ held.Refused f → OfLookUp f
+      go (held.Row x) k q = row (ltb bytes (x .«name_start» + x .«name_length»)) x q
+      go (held.Refused g) k q = let e : g ≡ f = cc in held-refused f (rw e at k)
+
+module _ (names t : List ℕ) (n : ℕ) (name : List ℕ) (f : Refusal) where
+  from-refused : (k r : ℕ) → rowFrom names t n name k r ≡ found.Refused f → OfLookUp f
+  unfolding rowFrom
+  from-refused zero r h = let e : NameUnknown ≡ f = cc in rw (← e) unknown
+  from-refused (suc k) r h = go (namedAt t n r (length names)) refl h (from-refused k (suc r))
+    where
+      pick : (b : Bool) → cond b (found.Row r) (rowFrom names t n name k (suc r)) ≡ found.Refused f → (rowFrom names t n name k (suc r) ≡ found.Refused f → OfLookUp f) → OfLookUp f
+      pick true q ih = let z : _≡_ {A = ℕ} 0 1 = cc in absurd (omega arith)
+      pick false q ih = ih q
+
+      go : (d : Held) → namedAt t n r (length names) ≡ d → judged names name r d (rowFrom names t n name k (suc r)) ≡ found.Refused f
+          → (rowFrom names t n name k (suc r) ≡ found.Refused f → OfLookUp f) → OfLookUp f
+      go (held.Row x) s q ih = pick (named names x name) q ih
+      go (held.Refused g) s q ih = let e : g ≡ f = cc in named-refused t n r (length names) f (rw e at s)
+
+  pub look-up-refuses : overLimit (length names) ≡ false → overLimit (length name) ≡ false → rowRead names t n name ≡ found.Refused f → OfLookUp f
+  unfolding rowRead rowNamed
+  look-up-refuses h k q = from-refused n 0 (rw (h, k) at q)
+
+-- ---- reading a sound row
+
+by-refusal : (g : Refusal) (out : List ℕ) → OfRead g → ReadRefuses (refuses g out)
+unfolding refuses
+by-refusal g out p f q = let e : g ≡ f = cc in rw (← e) p
+
+by-bytes : (bs out : List ℕ) → ReadRefuses (gives bs out)
+unfolding gives
+by-bytes bs out f q = let z : _≡_ {A = ℕ} 0 1 = cc in absurd (omega arith)
+
+by-test : (b : Bool) (o p : Outcome) → ReadRefuses o → ReadRefuses p → ReadRefuses (cond b o p)
+by-test true o p h k = h
+by-test false o p h k = k
+
+region-refuses : (bytes : ℕ) (byte : ℕ → ℕ) (x : Record) (a e : ℕ) (out : List ℕ) → ReadRefuses (regionOf bytes byte x a e out)
+unfolding regionOf basesFrom bytesAt
+region-refuses bytes byte x a e out =
+    let n = basesTo a e in
+    let os = offsetsOf x a n in
+    by-test (pastLength (x .length) a e) _ _ (by-refusal (PastLength (x .length)) out (past-length (x .length)))
+    (by-test (ltb (length out) n) _ _ (by-refusal (NoRoom n) out (no-room n))
+    (by-test (ltb (inFile bytes os) (length os)) _ _ (by-refusal (NotInFile (a + inFile bytes os)) out (not-in-file (a + inFile bytes os))) (by-bytes (map byte os) out)))
+
+scan-refuses : (s : List ℕ) (o : Address) (a : ℕ) (e : Bound) (out : List ℕ) → ReadRefuses (rawAt s o a e out)
+unfolding rawAt pours
+scan-refuses s Nowhere a e out = by-refusal (NotInFile a) out (not-in-file a)
+scan-refuses s (At o) a e out =
+    let bs = scanTo s (o .0) a e .bases in
+    by-test (ltb (length out) (length bs)) _ _ (by-refusal (NoRoom (length bs)) out (no-room (length bs))) (by-bytes bs out)
+
+module _ (s t : List ℕ) (u r : ℕ) (a e : Bound) (out : List ℕ) (small : overLimit (length s) ≡ false) (x : Record) (sound : heldAt t u r ≡ held.Row x) where
+  pub exact-refuses : ReadRefuses (exactRead s t u r a e out)
+  unfolding exactRead exactOf exactIn boundedRow
+  exact-refuses = rw (small, sound) (go (badBounds a e))
+    where
+      go : (b : Bool) → ReadRefuses (exactIn (length s) (byteAt s) (cond b (held.Refused BadBounds) (held.Row x)) a e out)
+      go true = by-refusal BadBounds out bad-bounds
+      go false = region-refuses (length s) (byteAt s) x (startOf a) (endOf (x .length) e) out
+
+  pub raw-refuses : ReadRefuses (rawRead s t u r a e out)
+  unfolding rawRead rawOf rawIn boundedRow
+  raw-refuses = rw (small, sound) (go (badBounds a e))
+    where
+      go : (b : Bool) → ReadRefuses (rawIn s (cond b (held.Refused BadBounds) (held.Row x)) a e out)
+      go true = by-refusal BadBounds out bad-bounds
+      go false = scan-refuses s (addressOf x (record { 0 = startOf a })) (startOf a) e out
