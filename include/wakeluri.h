@@ -94,12 +94,6 @@ struct wakeluri_answer wakeluri_read_exact(const uint8_t *file, size_t file_leng
 /* The bases that a scan finds from `start` on; ignores the record's length, and may run into the next record. Refuses 1, 16, 25, 18, 14. */
 struct wakeluri_answer wakeluri_read_raw(const uint8_t *file, size_t file_length, const uint8_t *table, size_t table_length, uint64_t in_use, uint64_t row, uint64_t has_start, uint64_t start, uint64_t has_end, uint64_t end, uint8_t *out, size_t out_length);
 
-/* The exact read of the first row that has the name. Refuses 1, then as looking up, then as the exact read. */
-struct wakeluri_answer wakeluri_read_exact_by_name(const uint8_t *file, size_t file_length, const uint8_t *names, size_t names_length, const uint8_t *table, size_t table_length, uint64_t in_use, const uint8_t *name, size_t name_length, uint64_t has_start, uint64_t start, uint64_t has_end, uint64_t end, uint8_t *out, size_t out_length);
-
-/* The raw read of the first row that has the name. Refuses 1, then as looking up, then as the raw read. */
-struct wakeluri_answer wakeluri_read_raw_by_name(const uint8_t *file, size_t file_length, const uint8_t *names, size_t names_length, const uint8_t *table, size_t table_length, uint64_t in_use, const uint8_t *name, size_t name_length, uint64_t has_start, uint64_t start, uint64_t has_end, uint64_t end, uint8_t *out, size_t out_length);
-
 /* The complement of some bases, at the front of `out`. Refuses 1, 14, and 24 with the first bad byte. */
 struct wakeluri_answer wakeluri_complement(const uint8_t *bases, size_t bases_length, uint8_t *out, size_t out_length);
 
