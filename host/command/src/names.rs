@@ -40,10 +40,7 @@ impl Sieve {
 }
 
 /// The rows of the names that are wanted, and of a few others; of all names, where more are wanted than there are.
-pub fn wanted_names<'t, 'n, 'w>(
-    table: &'t Table<'n>,
-    wanted: impl Iterator<Item = &'w [u8]> + Clone,
-) -> Names<'t, 'n> {
+pub fn wanted_names<'t, 'n, 'w>(table: &'t Table<'n>, wanted: impl Iterator<Item = &'w [u8]> + Clone) -> Names<'t, 'n> {
     if wanted.clone().nth(table.len()).is_some() {
         return Names::new(table);
     }
