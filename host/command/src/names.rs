@@ -2,6 +2,7 @@
 //! proportion to both together. The map is the library's own (`wakeluri::Names`), which has each row that it gives confirmed by the proved
 //! look-up. Here is only which names may be asked for: what is passed over needs no place in the map.
 
+use std::collections::HashSet;
 use wakeluri::{Names, Table};
 
 /// Which names may be wanted: a glance at the end of a name tells of most that they are not. It lets all through that are.
@@ -39,13 +40,14 @@ impl Sieve {
     }
 }
 
-/// The rows of the names that are wanted, and of a few others; of all names, where more are wanted than there are.
+/// The rows of the names that are wanted; of all names, where more are wanted than there are.
 pub fn wanted_names<'t, 'n, 'w>(table: &'t Table<'n>, wanted: impl Iterator<Item = &'w [u8]> + Clone) -> Names<'t, 'n> {
     if wanted.clone().nth(table.len()).is_some() {
         return Names::new(table);
     }
-    let sieve = Sieve::new(wanted);
-    Names::of_some(table, |name| sieve.lets_through(name))
+    let wanted: HashSet<&[u8]> = wanted.collect();
+    let sieve = Sieve::new(wanted.iter().copied());
+    Names::of_some(table, |name| sieve.lets_through(name) && wanted.contains(name))
 }
 
 #[cfg(test)]

@@ -204,7 +204,9 @@ mod tests {
         let find = |name: &[u8]| names.iter().position(|known| known.as_bytes() == name).map(Row::of_any_table);
         let number = |number: Option<Number>| number.map_or("_".to_string(), |number| number.to_string());
         match meaning(region.as_bytes(), find) {
-            Meaning::Row(row, Written { start, end }) => format!("{} {} {}", names[row.number()], number(start), number(end)),
+            Meaning::Row(row, Written { start, end }) => {
+                format!("{} {} {}", names[row.number()], number(start), number(end))
+            }
             Meaning::Bounds(row, why) => format!("{}? {why}", names[row.number()]),
             Meaning::NoName(name) => format!("no {}", String::from_utf8_lossy(name)),
             Meaning::Several(ways) => {
