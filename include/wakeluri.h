@@ -85,7 +85,7 @@ struct wakeluri_answer wakeluri_read_index(const uint8_t *index, size_t index_le
 /* The index line of a row, with its LF, at the front of `out`; tells how many bytes. Refuses 1, 25, 13, 14. */
 struct wakeluri_answer wakeluri_write_index_line(const uint8_t *names, size_t names_length, const uint8_t *table, size_t table_length, uint64_t in_use, uint64_t row, uint8_t *out, size_t out_length);
 
-/* The first row in use that has the name, as `count`. Refuses 1, 25, 15. */
+/* The first row in use that has the name, as `count`: look a name up once, and read from its row as often as you like. Refuses 1, 25, 15. */
 struct wakeluri_answer wakeluri_find(const uint8_t *names, size_t names_length, const uint8_t *table, size_t table_length, uint64_t in_use, const uint8_t *name, size_t name_length);
 
 /* Exactly the bases from `start` to `end` of a row's record, never fewer; a bound is absent where its flag is 0. Refuses 1, 16, 25, 17, 14, 18. */

@@ -254,7 +254,7 @@ impl<'n> Table<'n> {
     /// # Ok::<(), wakeluri::Refusal>(())
     /// ```
     pub fn row(&self, number: usize) -> Option<Row> {
-        self.rows().nth(number)
+        (number < self.rows().len()).then(|| Row::new(self.identity, number))
     }
 
     /// How many rows a call may use, and the number of the row for it: none where the row is of another table, so that the call refuses
