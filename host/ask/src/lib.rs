@@ -122,32 +122,6 @@ impl Speaker for Library {
         told(entry::read_raw(file, &bytes(&rows.numbers), rows.in_use, row, Bounds::from(bounds), out))
     }
 
-    fn read_exact_by_name(
-        &self,
-        file: &[u8],
-        names: &[u8],
-        rows: &Rows,
-        name: &[u8],
-        bounds: form::Bounds,
-        out: &mut [u8],
-    ) -> Told {
-        let (table, bounds) = (bytes(&rows.numbers), Bounds::from(bounds));
-        told(entry::read_exact_by_name(file, names, &table, rows.in_use, name, bounds, out))
-    }
-
-    fn read_raw_by_name(
-        &self,
-        file: &[u8],
-        names: &[u8],
-        rows: &Rows,
-        name: &[u8],
-        bounds: form::Bounds,
-        out: &mut [u8],
-    ) -> Told {
-        let (table, bounds) = (bytes(&rows.numbers), Bounds::from(bounds));
-        told(entry::read_raw_by_name(file, names, &table, rows.in_use, name, bounds, out))
-    }
-
     fn complement(&self, bases: &[u8], out: &mut [u8]) -> Told {
         told(entry::complement(bases, out))
     }

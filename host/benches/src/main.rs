@@ -4,7 +4,7 @@
 
 mod files;
 mod measure;
-/// The command's own look-up of many names: what it promises is timed here.
+/// How the command has the library look up many names: what it promises is timed here.
 #[allow(dead_code)]
 #[path = "../../command/src/names.rs"]
 mod names;
@@ -15,7 +15,7 @@ mod report;
 use files::{Lines, Numbers, one_line, room};
 use measure::{Work, in_turns, limits};
 use original::{Region, Sequence, over_c, over_crate};
-use report::{Checked, Compared, Grown, HandedOut, LookedUp, Report};
+use report::{Checked, Compared, Grown, HandedOut, LookedUp, Mapped, Report};
 
 /// The bytes of a row in a table.
 const ROW_BYTES: usize = 48;
@@ -185,6 +185,20 @@ fn look_ups(plan: &Plan, report: &mut Report, fasta: &[u8], regions: usize) {
         by_c: Some(by_c),
         limits: None,
     });
+}
+
+/// Times look-ups by the proved walk, and by the library's map of all names, which is built once and confirms each row.
+fn map(plan: &Plan, report: &mut Report, fasta: &[u8], look_ups: usize) {
+    let rows = ours::rows(fasta);
+    let ours = ours::Regions::new(fasta, &first_bases(&rows, look_ups));
+    let names = ours.names();
+    same("look-ups", "the rows by the map", ours.map(&names), ours.walk());
+    let taken = in_turns(
+        plan.size(7, 3),
+        &mut [Box::new(|| ours.walk()), Box::new(|| ours.map(&ours.names())), Box::new(|| ours.map(&names))],
+    );
+    let [walk, built, used] = taken[..] else { unreachable!("three works") };
+    report.mapped.push(Mapped { names: rows.len(), look_ups, walk, built, used });
 }
 
 /// Times more and more regions of more and more records.
@@ -358,6 +372,7 @@ fn run(plan: &Plan) -> Report {
     }
     if part("names") {
         look_ups(plan, &mut report, &records, 1000);
+        map(plan, &mut report, &records, 1000);
         look_up_growth(plan, &mut report);
     }
     if part("complement") {
@@ -402,6 +417,7 @@ mod tests {
             complement(&QUICK, &mut report, "all letters", 1.0, ALL_LETTERS, 5000);
             look_ups(&QUICK, &mut report, &lines.records(50), 20);
             look_ups(&QUICK, &mut report, &lines.records(20), 50);
+            map(&QUICK, &mut report, &lines.records(50), 20);
         }
         assert_eq!((report.compared.len(), report.checked.len(), report.handed_out.len()), (26, 4, 2));
         let told = report.to_string();

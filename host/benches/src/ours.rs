@@ -3,10 +3,10 @@
 //! to before: the proved code allocates nothing, and an app that reads much lends one room again and again.
 
 use crate::measure::sum;
-use crate::names::Names;
+use crate::names::wanted_names;
 use crate::original::{Region, Row};
 use std::hint::black_box;
-use wakeluri::{Refusal, Table, entry};
+use wakeluri::{Names, Refusal, Table, entry};
 
 fn rows_of(table: &Table) -> Vec<Row> {
     table.records().map(|r| (r.name.to_vec(), r.length, r.position, r.line_bases, r.line_width)).collect()
@@ -58,7 +58,7 @@ pub fn read_index(text: &[u8]) -> u64 {
 /// Writes the index text of a table to a room that is lent, by the entry point, line behind line.
 pub fn write_into(table: &Table, room: &mut [u8]) -> usize {
     let mut at = 0;
-    for row in 0..table.len() {
+    for row in table.rows() {
         at += table.write_index_line_into(black_box(row), &mut room[at..]).expect("a good row");
     }
     at
@@ -77,9 +77,9 @@ impl<'f> Regions<'f> {
     /// Of a file.
     pub fn new(file: &'f [u8], regions: &[Region]) -> Self {
         let table = wakeluri::index(file).expect("a good file");
-        let names = Names::new(&table, regions.iter().map(|(name, ..)| &name[..]));
+        let names = wanted_names(&table, regions.iter().map(|(name, ..)| &name[..]));
         let part = |(name, start, end): &Region| {
-            let r = names.find(name).and_then(|row| table.record(row)).expect("a record of that name");
+            let r = names.get(name).and_then(|row| table.record(row)).expect("a record of that name");
             let offset = |base: u64| r.position + (base - 1) / r.line_bases * r.line_width + (base - 1) % r.line_bases;
             &file[offset(*start) as usize..=offset(*end) as usize]
         };
@@ -91,16 +91,22 @@ impl<'f> Regions<'f> {
     pub fn bases(&self) -> Result<Vec<u8>, Refusal> {
         let mut bases = vec![];
         for (name, start, end) in &self.regions {
-            bases.extend(self.table.read_exact_by_name(self.file, name, *start..=*end)?);
+            bases.extend(self.table.read_exact(self.file, self.table.find(name)?, *start..=*end)?);
         }
         Ok(bases)
     }
 
-    /// Reads all regions, each by its record's name, to the front of a room that is lent.
+    /// The row of a name, by the proved walk.
+    fn row(&self, name: &[u8]) -> wakeluri::Row {
+        self.table.find(name).expect("a record of that name")
+    }
+
+    /// Reads all regions, the name of each looked up by the proved walk, to the front of a room that is lent.
     pub fn read_into(&self, room: &mut [u8]) -> u64 {
         let mut bases = 0;
         for (name, start, end) in black_box(&self.regions) {
-            let read = self.table.read_exact_by_name_into(self.file, name, *start..=*end, room);
+            let row = self.row(name);
+            let read = self.table.read_exact_into(self.file, row, *start..=*end, room);
             bases += read.expect("a good region") as u64;
             black_box(&mut *room);
         }
@@ -111,7 +117,7 @@ impl<'f> Regions<'f> {
     pub fn read(&self) -> u64 {
         let mut bases = 0;
         for (name, start, end) in black_box(&self.regions) {
-            let read = self.table.read_exact_by_name(self.file, name, *start..=*end);
+            let read = self.table.read_exact(self.file, self.row(name), *start..=*end);
             bases += black_box(read.expect("a good region")).len() as u64;
         }
         bases
@@ -119,10 +125,10 @@ impl<'f> Regions<'f> {
 
     /// The bases of all regions, whose names are looked up in one walk over all records, as the command does it.
     pub fn bases_in_one_walk(&self) -> Vec<u8> {
-        let names = Names::new(&self.table, self.regions.iter().map(|(name, ..)| &name[..]));
+        let names = wanted_names(&self.table, self.regions.iter().map(|(name, ..)| &name[..]));
         let mut bases = vec![];
         for (name, start, end) in &self.regions {
-            let row = names.find(name).expect("a record of that name");
+            let row = names.get(name).expect("a record of that name");
             bases.extend(self.table.read_exact(self.file, row, *start..=*end).expect("a good region"));
         }
         bases
@@ -131,6 +137,22 @@ impl<'f> Regions<'f> {
     /// Looks up all names in one walk, and reads all regions.
     pub fn read_in_one_walk(&self) -> u64 {
         black_box(self.bases_in_one_walk()).len() as u64
+    }
+
+    /// The table's map of all names.
+    pub fn names(&self) -> Names<'_, 'f> {
+        Names::new(&self.table)
+    }
+
+    /// Looks all names up by the proved walk, and tells the sum of their rows.
+    pub fn walk(&self) -> u64 {
+        black_box(&self.regions).iter().map(|(name, ..)| self.row(name).number() as u64).sum()
+    }
+
+    /// Looks all names up in a map, and tells the same.
+    pub fn map(&self, names: &Names<'_, '_>) -> u64 {
+        let row = |(name, ..): &Region| names.find(name).expect("a record of that name").number() as u64;
+        black_box(&self.regions).iter().map(row).sum()
     }
 
     /// The parts of the file that hold the regions, copied as they are, line ends and all, to the front of a room: the limit.

@@ -55,6 +55,15 @@ pub struct LookedUp {
     pub seconds: f64,
 }
 
+/// Look-ups of names by the proved walk and by the map, with its building and without.
+pub struct Mapped {
+    pub names: usize,
+    pub look_ups: usize,
+    pub walk: f64,
+    pub built: f64,
+    pub used: f64,
+}
+
 /// All that was found.
 #[derive(Default)]
 pub struct Report {
@@ -64,10 +73,14 @@ pub struct Report {
     pub grown: Vec<Grown>,
     pub handed_out: Vec<HandedOut>,
     pub looked_up: Vec<LookedUp>,
+    pub mapped: Vec<Mapped>,
 }
 
 /// The checker's goal: so much of the speed of indexing.
 const CHECK_GOAL: f64 = 0.8;
+
+/// The goal of the map of names: with its building, so many times as fast as the walks.
+const MAP_GOAL: f64 = 10.0;
 
 /// A number with commas.
 pub fn number(n: usize) -> String {
@@ -167,6 +180,20 @@ impl fmt::Display for Report {
         for HandedOut { work, bytes, pages, into, fresh } in &self.handed_out {
             let [pages, into, fresh] = [*pages, *into, *fresh].map(time);
             writeln!(f, "| {work} | {} | {pages} | {into} | {fresh} |", number(*bytes))?;
+        }
+        if !self.mapped.is_empty() {
+            writeln!(
+                f,
+                "\n| look-ups | among names | goal | times as fast as the walk | | the walks | the map, built and used | used alone |"
+            )?;
+            writeln!(f, "|---|---|---|---|---|---|---|---|")?;
+        }
+        for Mapped { names, look_ups, walk, built, used } in &self.mapped {
+            let ratio = walk / built;
+            let verdict = if ratio >= MAP_GOAL { "reached" } else { "**not reached**" };
+            let ([look_ups, names], [walk, built, used]) =
+                ([*look_ups, *names].map(number), [*walk, *built, *used].map(time));
+            writeln!(f, "| {look_ups} | {names} | {MAP_GOAL} | {ratio:.1} | {verdict} | {walk} | {built} | {used} |")?;
         }
         if !self.looked_up.is_empty() {
             writeln!(f, "\n| records | regions of one base | time | ns for a record or region |")?;

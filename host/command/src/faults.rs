@@ -74,7 +74,7 @@ fn has_cr_inside(file: &[u8], line: Line) -> bool {
 
 /// What is likely wrong with a file though it is taken: it has one record, without bases, whose definition line holds CR.
 pub fn lines_of_cr(fasta: &Input, rows: &Table<'_>) -> Option<String> {
-    let record = rows.record(0).filter(|record| rows.len() == 1 && record.length == 0)?;
+    let record = rows.records().next().filter(|record| rows.len() == 1 && record.length == 0)?;
     let line = place::lines(fasta.bytes(), 0, 1).next()?;
     has_cr_inside(fasta.bytes(), line)
         .then(|| format!("{}: {} has no bases: {CR_ALONE}\n  {LF_ENDS}", fasta.shown, quoted(record.name)))

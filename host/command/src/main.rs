@@ -230,7 +230,7 @@ fn answer(
     };
     let asked: Vec<Asked<'_>> = if asked.is_empty() {
         let whole = |(row, text)| Asked { text, sheet: None, row: Some(row) };
-        rows.records().map(|record| record.name).enumerate().map(whole).collect()
+        rows.rows().zip(rows.records().map(|record| record.name)).map(whole).collect()
     } else {
         asked
     };

@@ -3,14 +3,14 @@
 use crate::failure::{Failure, Refused};
 use crate::input::Input;
 use crate::json::Object;
-use crate::names::Names;
+use crate::names::wanted_names;
 use crate::nearest::nearest;
 use crate::output::Answers;
 use crate::place::{commas, count, quoted};
 use crate::region::{Meaning, Number, Reading, Written, is_before_a_colon, meaning, plain_form, readings};
 use std::io::Write;
 use std::ops::Range;
-use wakeluri::{Bounds, Call, Refusal, Table};
+use wakeluri::{Bounds, Call, Names, Refusal, Row, Table};
 
 /// The bases that are read at a time.
 const PIECE: u64 = 64 << 20;
@@ -60,14 +60,14 @@ pub struct Asked<'a> {
     /// The sheet and the line.
     pub sheet: Option<(&'a str, u64)>,
     /// The row, where a record is meant and not a region in words.
-    pub row: Option<usize>,
+    pub row: Option<Row>,
 }
 
 /// A region that is known to be good.
 #[derive(Clone, Copy, Debug)]
 pub struct Region<'a> {
     asked: Asked<'a>,
-    row: usize,
+    row: Row,
     /// The first base.
     start: u64,
     /// The last.
@@ -114,11 +114,11 @@ impl Source<'_> {
     }
 
     /// A region's row and bounds, or why it isn't good.
-    fn resolve<'a>(self, asked: Asked<'a>, names: &Names<'_>) -> Result<Region<'a>, Failure> {
+    fn resolve<'a>(self, asked: Asked<'a>, names: &Names<'_, '_>) -> Result<Region<'a>, Failure> {
         let no = |number, first| Refusal { number, first, second: 0, call: Call::ReadExact };
         let meaning = match asked.row {
             Some(row) => Meaning::Row(row, Written::default()),
-            None => meaning(asked.text, |name| names.find(name)),
+            None => meaning(asked.text, |name| names.get(name)),
         };
         let (row, written) = match meaning {
             Meaning::Row(row, written) => (row, written),
@@ -152,19 +152,19 @@ impl Source<'_> {
     }
 
     /// What follows a record's name is no region of it.
-    fn no_bounds(self, asked: Asked<'_>, row: usize, why: &str, refusal: Refusal) -> Failure {
+    fn no_bounds(self, asked: Asked<'_>, row: Row, why: &str, refusal: Refusal) -> Failure {
         let name = self.rows.record(row).map_or(String::new(), |record| quoted(record.name));
         let what = format!("there is a record {name}, and what follows is no region of it: {why}");
         self.refused(asked, what, format!("write it as {name}:5-9"), refusal)
     }
 
     /// More than one record may be meant: each way to read it, and a form that has no other.
-    fn several(self, asked: Asked<'_>, ways: &[(Reading<'_>, usize)], refusal: Refusal) -> Failure {
-        let told = |(reading, _): &(Reading<'_>, usize)| match reading.bounds {
+    fn several(self, asked: Asked<'_>, ways: &[(Reading<'_>, Row)], refusal: Refusal) -> Failure {
+        let told = |(reading, _): &(Reading<'_>, Row)| match reading.bounds {
             None => format!("the whole of {}", quoted(reading.name)),
             Some(bounds) => format!("'{}' of {}", quoted(bounds), quoted(reading.name)),
         };
-        let plain = |(reading, row): &(Reading<'_>, usize)| {
+        let plain = |(reading, row): &(Reading<'_>, Row)| {
             let length = self.rows.record(*row).map_or(0, |record| record.length);
             plain_form(*reading, length, |name| self.rows.find(name).ok())
         };
@@ -179,7 +179,8 @@ impl Source<'_> {
 
     fn no_name(self, asked: Asked<'_>, name: &[u8], refusal: Refusal) -> Failure {
         // the longest name that stands before a colon, with something that is no bounds behind it
-        let before = self.rows.records().enumerate().filter(|(_, record)| is_before_a_colon(record.name, asked.text));
+        let records = self.rows.rows().zip(self.rows.records());
+        let before = records.filter(|(_, record)| is_before_a_colon(record.name, asked.text));
         if let Some((row, record)) =
             before.reduce(|one, two| if two.1.name.len() > one.1.name.len() { two } else { one })
         {
@@ -202,7 +203,7 @@ impl Source<'_> {
     }
 
     /// A refusal of a read, in words.
-    fn not_read(self, asked: Asked<'_>, row: usize, written: &Written, refusal: Refusal) -> Failure {
+    fn not_read(self, asked: Asked<'_>, row: Row, written: &Written, refusal: Refusal) -> Failure {
         let name = self.rows.record(row).map_or(String::new(), |record| quoted(record.name));
         let length = self.rows.record(row).map_or(0, |record| record.length);
         let (what, next) = match refusal.number {
@@ -278,17 +279,20 @@ impl Source<'_> {
     }
 
     /// Says it aloud where a name could mean another record too.
-    fn warn_of_twins(self, regions: &[Region<'_>], names: &Names<'_>) {
-        let mut rows: Vec<usize> =
+    fn warn_of_twins(self, regions: &[Region<'_>], names: &Names<'_, '_>) {
+        let mut rows: Vec<Row> =
             regions.iter().filter(|region| region.asked.row.is_none()).map(|region| region.row).collect();
-        rows.sort_unstable();
+        rows.sort_unstable_by_key(|row| row.number());
         rows.dedup();
         let file = &self.fasta.shown;
         let twins = rows.into_iter().filter_map(|row| {
             let name = self.rows.record(row)?.name;
-            Some((row, names.twin(name)?, name))
+            Some((row, names.second(name)?, name))
         });
-        let number = |row: usize| self.numbers.and_then(|numbers| numbers.get(row).copied()).unwrap_or(row) as u64 + 1;
+        let number = |row: Row| {
+            let row = row.number();
+            self.numbers.and_then(|numbers| numbers.get(row).copied()).unwrap_or(row) as u64 + 1
+        };
         let mut more = 0;
         for (told, (row, twin, name)) in twins.enumerate() {
             if told < TWINS {
@@ -308,7 +312,7 @@ impl Source<'_> {
     /// The regions that are asked for, if all of them are good.
     pub fn regions<'a>(self, asked: &[Asked<'a>]) -> Result<Vec<Region<'a>>, Failure> {
         let wanted = asked.iter().filter(|asked| asked.row.is_none());
-        let names = Names::new(self.rows, wanted.flat_map(|asked| readings(asked.text).map(|reading| reading.name)));
+        let names = wanted_names(self.rows, wanted.flat_map(|asked| readings(asked.text).map(|reading| reading.name)));
         let regions: Vec<Region<'_>> =
             asked.iter().map(|asked| self.resolve(*asked, &names)).collect::<Result<_, _>>()?;
         self.warn_of_twins(&regions, &names);

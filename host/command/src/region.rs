@@ -5,6 +5,7 @@
 //! nobody can know which is meant, and it is refused.
 
 use std::cmp::Ordering;
+use wakeluri::Row;
 
 /// A number as it is written: its digits without needless zeros, and its value where 64 bits hold it.
 #[derive(Clone, Debug, Eq, PartialEq)]
@@ -137,18 +138,18 @@ fn like_bounds(text: &[u8]) -> bool {
 #[derive(Debug, Eq, PartialEq)]
 pub enum Meaning<'r> {
     /// This row, with these bounds.
-    Row(usize, Written),
+    Row(Row, Written),
     /// A name that exists, with bounds that can't be read, and why.
-    Bounds(usize, String),
+    Bounds(Row, String),
     /// More than one way to read it leads to a record.
-    Several(Vec<(Reading<'r>, usize)>),
+    Several(Vec<(Reading<'r>, Row)>),
     /// No name in it exists: the name that was most likely meant.
     NoName(&'r [u8]),
 }
 
 /// What a region means, where `find` tells the row of a name.
-pub fn meaning(region: &[u8], find: impl Fn(&[u8]) -> Option<usize>) -> Meaning<'_> {
-    let there: Vec<(Reading<'_>, usize)> =
+pub fn meaning(region: &[u8], find: impl Fn(&[u8]) -> Option<Row>) -> Meaning<'_> {
+    let there: Vec<(Reading<'_>, Row)> =
         readings(region).filter_map(|reading| Some((reading, find(reading.name)?))).collect();
     let sensible = || there.iter().filter(|(reading, _)| reading.is_sensible());
     if sensible().nth(1).is_some() {
@@ -175,7 +176,7 @@ pub fn is_before_a_colon(name: &[u8], region: &[u8]) -> bool {
 }
 
 /// A form of a reading that can't be read in another way, if there is one; for a record of so many bases.
-pub fn plain_form(reading: Reading<'_>, length: u64, find: impl Fn(&[u8]) -> Option<usize>) -> Option<Vec<u8>> {
+pub fn plain_form(reading: Reading<'_>, length: u64, find: impl Fn(&[u8]) -> Option<Row>) -> Option<Vec<u8>> {
     let behind = reading.bounds.map_or(vec![], |bounds| [b":", bounds].concat());
     let whole = format!(":1-{length}").into_bytes();
     let only = |form: &Vec<u8>| match meaning(form, &find) {
@@ -188,7 +189,7 @@ pub fn plain_form(reading: Reading<'_>, length: u64, find: impl Fn(&[u8]) -> Opt
     forms.into_iter().find(only)
 }
 
-fn bounded<'r>(row: usize, bounds: &[u8]) -> Meaning<'r> {
+fn bounded<'r>(row: Row, bounds: &[u8]) -> Meaning<'r> {
     match Written::of(bounds) {
         Ok(written) => Meaning::Row(row, written),
         Err(why) => Meaning::Bounds(row, why),
@@ -200,11 +201,13 @@ mod tests {
     use super::*;
 
     fn told(region: &str, names: &[&str]) -> String {
-        let find = |name: &[u8]| names.iter().position(|known| known.as_bytes() == name);
+        let find = |name: &[u8]| names.iter().position(|known| known.as_bytes() == name).map(Row::of_any_table);
         let number = |number: Option<Number>| number.map_or("_".to_string(), |number| number.to_string());
         match meaning(region.as_bytes(), find) {
-            Meaning::Row(row, Written { start, end }) => format!("{} {} {}", names[row], number(start), number(end)),
-            Meaning::Bounds(row, why) => format!("{}? {why}", names[row]),
+            Meaning::Row(row, Written { start, end }) => {
+                format!("{} {} {}", names[row.number()], number(start), number(end))
+            }
+            Meaning::Bounds(row, why) => format!("{}? {why}", names[row.number()]),
             Meaning::NoName(name) => format!("no {}", String::from_utf8_lossy(name)),
             Meaning::Several(ways) => {
                 let form = |(reading, _)| plain_form(reading, 7, find).unwrap_or_default();

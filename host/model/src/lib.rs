@@ -124,32 +124,6 @@ impl Speaker for Model {
         counted(raw(file, rows, row, bounds, out))
     }
 
-    fn read_exact_by_name(
-        &self,
-        file: &[u8],
-        names: &[u8],
-        rows: &Rows,
-        name: &[u8],
-        bounds: Bounds,
-        out: &mut [u8],
-    ) -> Told {
-        let found = within_limit(&[file, names, name]).and_then(|()| find(names, rows, name));
-        counted(found.and_then(|row| exact(file, rows, row, bounds, out)))
-    }
-
-    fn read_raw_by_name(
-        &self,
-        file: &[u8],
-        names: &[u8],
-        rows: &Rows,
-        name: &[u8],
-        bounds: Bounds,
-        out: &mut [u8],
-    ) -> Told {
-        let found = within_limit(&[file, names, name]).and_then(|()| find(names, rows, name));
-        counted(found.and_then(|row| raw(file, rows, row, bounds, out)))
-    }
-
     fn complement(&self, bases: &[u8], out: &mut [u8]) -> Told {
         counted(complemented(bases, false, out))
     }

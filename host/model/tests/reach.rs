@@ -18,7 +18,7 @@ fn every_refusal_of_every_family_is_reached() {
     const EXPECTED: &str = "\
         def:0,2,3,4 dfc:0,2,3,4 lin:0 run:0 seq:0,14 lim:0,14 rec:0,2,3,4,5,6,7 idx:0,2,3,4,5,6,7,8 fit:0,2,3,4,8,42 ixl:0,9,10,11,12 \
         ixc:0,9,10,11,12 ixt:0,8,9,10,11,12 wrl:0,13,14,25 fnd:0,15,25 exr:0,14,16,17,18,25 rar:0,14,16,18,25 \
-        exn:0,14,15,16,17,18,25 ran:0,14,15,16,18,25 cmp:0,14,24 rev:0,14,24 chk:0,2,3,4,9,10,11,12,19,20,21,22,23";
+        cmp:0,14,24 rev:0,14,24 chk:0,2,3,4,9,10,11,12,19,20,21,22,23";
     let mut reached = BTreeSet::new();
     for question in Questions::new(1).take(100_000) {
         let line = answered(&Model, &question).expect("a question");

@@ -69,26 +69,6 @@ pub trait Speaker {
     fn read_exact(&self, file: &[u8], rows: &Rows, row: u64, bounds: Bounds, out: &mut [u8]) -> Told;
     /// `rar`.
     fn read_raw(&self, file: &[u8], rows: &Rows, row: u64, bounds: Bounds, out: &mut [u8]) -> Told;
-    /// `exn`.
-    fn read_exact_by_name(
-        &self,
-        file: &[u8],
-        names: &[u8],
-        rows: &Rows,
-        name: &[u8],
-        bounds: Bounds,
-        out: &mut [u8],
-    ) -> Told;
-    /// `ran`.
-    fn read_raw_by_name(
-        &self,
-        file: &[u8],
-        names: &[u8],
-        rows: &Rows,
-        name: &[u8],
-        bounds: Bounds,
-        out: &mut [u8],
-    ) -> Told;
     /// `cmp`.
     fn complement(&self, bases: &[u8], out: &mut [u8]) -> Told;
     /// `rev`.
@@ -322,17 +302,6 @@ fn answer(speaker: &impl Speaker, question: &str, line: &mut String) -> Option<(
                 speaker.read_exact(&file, &rows, row, bounds, &mut out)
             } else {
                 speaker.read_raw(&file, &rows, row, bounds, &mut out)
-            };
-            tell_output(line, told, &out);
-        }
-        "exn" | "ran" => {
-            let (file, names, rows, name) = (words.bytes()?, words.bytes()?, words.rows()?, words.bytes()?);
-            let (bounds, mut out) = (words.bounds()?, words.bytes()?);
-            words.end()?;
-            let told = if family == "exn" {
-                speaker.read_exact_by_name(&file, &names, &rows, &name, bounds, &mut out)
-            } else {
-                speaker.read_raw_by_name(&file, &names, &rows, &name, bounds, &mut out)
             };
             tell_output(line, told, &out);
         }

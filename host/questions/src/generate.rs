@@ -47,9 +47,9 @@ impl Iterator for Questions {
 }
 
 fn question_by_chance(chance: &mut Chance) -> String {
-    const FAMILIES: [&str; 31] = [
+    const FAMILIES: [&str; 30] = [
         "def", "dfc", "lin", "run", "seq", "lim", "rec", "idx", "idx", "idx", "idx", "fit", "fit", "fit", "ixl", "ixc",
-        "ixt", "ixt", "wrl", "fnd", "exr", "exr", "exr", "rar", "rar", "exn", "ran", "cmp", "rev", "chk", "chk",
+        "ixt", "ixt", "wrl", "fnd", "fnd", "exr", "exr", "exr", "rar", "rar", "cmp", "rev", "chk", "chk",
     ];
     if chance.once_in(500) {
         return ask("prg").bytes(&file(chance).text).0;
@@ -122,16 +122,6 @@ fn question_by_chance(chance: &mut Chance) -> String {
             let bounds = some_bounds(chance, numbers[2]);
             let room = some_room(chance, wanted(bounds, numbers[2]));
             ask(family).bytes(&sample.text).table(&rows).number(in_use).number(row).bounds(bounds).bytes(&room).0
-        }
-        "exn" | "ran" => {
-            let sample = file(chance);
-            let (_, numbers) = a_row(chance, &sample);
-            let (rows, in_use) = some_rows(chance, &sample.rows);
-            let bounds = some_bounds(chance, numbers[2]);
-            let room = some_room(chance, wanted(bounds, numbers[2]));
-            let wanted = wanted_name(chance, &sample);
-            let line = ask(family).bytes(&sample.text).bytes(&sample.text).table(&rows).number(in_use);
-            line.bytes(&wanted).bounds(bounds).bytes(&room).0
         }
         "cmp" | "rev" => {
             const LETTERS: &[u8] = b"ACGTUNRYKMSWBDHVacgtunrykmswbdhv";

@@ -17,11 +17,12 @@
 //! wakeluri::check(fasta, &text)?;
 //! let table = wakeluri::read_index(&text)?;
 //!
-//! // read bases 5 to 8, counted from 1
-//! assert_eq!(table.read_exact_by_name(fasta, b"sq1", 5..=8)?, b"ACGT");
+//! // look a name up once, and read as often as you like: here bases 5 to 8, counted from 1
+//! let row = table.find(b"sq1")?;
+//! assert_eq!(table.read_exact(fasta, row, 5..=8)?, b"ACGT");
 //!
 //! // never fewer than were asked for
-//! let refusal = table.read_exact_by_name(fasta, b"sq1", 9..=11).unwrap_err();
+//! let refusal = table.read_exact(fasta, row, 9..=11).unwrap_err();
 //! assert_eq!(refusal.to_string(), "the record has 10 bases, and the region goes past them: refused 17 (length 10)");
 //! # Ok::<(), wakeluri::Refusal>(())
 //! ```
@@ -34,14 +35,18 @@
 mod bounds;
 #[allow(unsafe_code)]
 pub mod entry;
+mod names;
 mod refusal;
+mod row;
 #[allow(unsafe_code)]
 mod sys;
 mod table;
 mod text;
 
 pub use bounds::Bounds;
+pub use names::Names;
 pub use refusal::{Call, Refusal};
+pub use row::Row;
 pub use table::{
     Record, Table, check, index, index_strict, index_strict_until_refused, index_until_refused, read_index,
     read_index_until_refused,

@@ -34,8 +34,9 @@ pub enum Call {
 /// Its `Display` says in words what is wrong and where, then the numbers:
 ///
 /// ```
-/// let table = wakeluri::index(b">s\nACGT\nAC\n")?;
-/// let refusal = table.read_exact(b">s\nACGT\nAC\n", 0, 5..=7).unwrap_err();
+/// let fasta = b">s\nACGT\nAC\n";
+/// let table = wakeluri::index(fasta)?;
+/// let refusal = table.read_exact(fasta, table.find(b"s")?, 5..=7).unwrap_err();
 /// assert_eq!((refusal.number, refusal.first), (17, 6));
 /// assert_eq!(refusal.to_string(), "the record has 6 bases, and the region goes past them: refused 17 (length 6)");
 /// # Ok::<(), wakeluri::Refusal>(())

@@ -80,8 +80,6 @@ unsafe extern "C" {
     pub(crate) fn wakeluri_find(names: *const u8, names_length: usize, table: *const u8, table_length: usize, in_use: u64, name: *const u8, name_length: usize) -> Answer;
     pub(crate) fn wakeluri_read_exact(file: *const u8, file_length: usize, table: *const u8, table_length: usize, in_use: u64, row: u64, has_start: u64, start: u64, has_end: u64, end: u64, out: *mut u8, out_length: usize) -> Answer;
     pub(crate) fn wakeluri_read_raw(file: *const u8, file_length: usize, table: *const u8, table_length: usize, in_use: u64, row: u64, has_start: u64, start: u64, has_end: u64, end: u64, out: *mut u8, out_length: usize) -> Answer;
-    pub(crate) fn wakeluri_read_exact_by_name(file: *const u8, file_length: usize, names: *const u8, names_length: usize, table: *const u8, table_length: usize, in_use: u64, name: *const u8, name_length: usize, has_start: u64, start: u64, has_end: u64, end: u64, out: *mut u8, out_length: usize) -> Answer;
-    pub(crate) fn wakeluri_read_raw_by_name(file: *const u8, file_length: usize, names: *const u8, names_length: usize, table: *const u8, table_length: usize, in_use: u64, name: *const u8, name_length: usize, has_start: u64, start: u64, has_end: u64, end: u64, out: *mut u8, out_length: usize) -> Answer;
     pub(crate) fn wakeluri_complement(bases: *const u8, bases_length: usize, out: *mut u8, out_length: usize) -> Answer;
     pub(crate) fn wakeluri_reverse_complement(bases: *const u8, bases_length: usize, out: *mut u8, out_length: usize) -> Answer;
     pub(crate) fn wakeluri_check(fasta: *const u8, fasta_length: usize, index: *const u8, index_length: usize) -> Answer;

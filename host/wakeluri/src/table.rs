@@ -1,10 +1,11 @@
 //! The rows of an index: made from a file or read from an index text, looked up, and used to read bases.
 
 use crate::refusal::Call;
+use crate::row::{Identity, Row};
 use crate::{Bounds, Refusal, entry};
 
 /// The bytes of a row: six numbers of eight bytes.
-const ROW_BYTES: usize = 48;
+pub(crate) const ROW_BYTES: usize = 48;
 
 /// A table of this many rows is tried first: enough for most files, and so small that it costs little beside any.
 const FIRST_ROWS: usize = 1 << 10;
@@ -45,12 +46,23 @@ impl<'n> Record<'n> {
 /// assert_eq!(table.read_exact(fasta, row, 8..)?, b"NNN");
 /// # Ok::<(), wakeluri::Refusal>(())
 /// ```
-#[derive(Clone, Debug, Eq, PartialEq)]
+///
+/// Two tables are equal if their bytes are; a [`Row`] is of the one that gave it all the same, or of a clone of it.
+#[derive(Clone, Debug)]
 pub struct Table<'n> {
     names: &'n [u8],
     bytes: Vec<u8>,
     in_use: usize,
+    identity: Identity,
 }
+
+impl PartialEq for Table<'_> {
+    fn eq(&self, other: &Self) -> bool {
+        (self.names, &self.bytes, self.in_use) == (other.names, &other.bytes, other.in_use)
+    }
+}
+
+impl Eq for Table<'_> {}
 
 /// A row for each record of a FASTA file. Refuses 1 to 4, and 42 only where no index of the file can ever be right.
 ///
@@ -60,7 +72,7 @@ pub struct Table<'n> {
 ///
 /// ```
 /// let table = wakeluri::index(b">s\nACGT\nAC\n")?;
-/// let record = table.record(0).expect("one record");
+/// let record = table.records().next().expect("one record");
 /// assert_eq!((record.name, record.length, record.position), (&b"s"[..], 6, 3));
 /// assert_eq!((record.line_bases, record.line_width), (4, 5));
 ///
@@ -128,7 +140,7 @@ pub fn index_strict_until_refused(fasta: &[u8]) -> (Table<'_>, Option<Refusal>) 
 ///
 /// ```
 /// let table = wakeluri::read_index(b"sq0\t4\t5\t4\t5\nsq1\t10\t15\t4\t5\n")?;
-/// assert_eq!(table.find(b"sq1")?, 1);
+/// assert_eq!(table.find(b"sq1")?.number(), 1);
 ///
 /// let refusal = wakeluri::read_index(b"s\t4\t3\t0\t5\n").unwrap_err();
 /// assert_eq!(
@@ -161,14 +173,14 @@ fn filled(
         let answer = fill(text, &mut bytes);
         let in_use = answer.count as usize;
         if answer.refusal == 8 && rows < most {
-            let table = Table { names: text, bytes, in_use };
+            let table = Table::from_bytes(text, bytes, in_use);
             rows = table.rows_for_all().clamp(rows + 1, most);
             continue;
         }
         bytes.truncate(in_use.saturating_mul(ROW_BYTES));
         bytes.shrink_to_fit();
         let refusal = Refusal::of(call, answer.refusal, answer.first, answer.second).err();
-        return (Table { names: text, bytes, in_use }, refusal);
+        return (Table::from_bytes(text, bytes, in_use), refusal);
     }
 }
 
@@ -195,7 +207,7 @@ impl<'n> Table<'n> {
     /// A table from bytes as they are: six numbers of eight bytes to a row, low byte first. Nothing is judged here; a row that
     /// can't be used is refused with 25 when it is.
     pub fn from_bytes(names: &'n [u8], bytes: Vec<u8>, in_use: usize) -> Self {
-        Self { names, bytes, in_use }
+        Self { names, bytes, in_use, identity: Identity::fresh() }
     }
 
     /// How many rows are in use.
@@ -218,6 +230,40 @@ impl<'n> Table<'n> {
         self.names
     }
 
+    /// The rows in use, in their order, as far as the bytes reach.
+    ///
+    /// ```
+    /// let fasta = b">s\nAC\n>t\nGT\n";
+    /// let table = wakeluri::index(fasta)?;
+    /// for row in table.rows() {
+    ///     assert_eq!(table.read_exact(fasta, row, ..)?.len(), 2);
+    /// }
+    /// # Ok::<(), wakeluri::Refusal>(())
+    /// ```
+    pub fn rows(&self) -> impl DoubleEndedIterator<Item = Row> + ExactSizeIterator + use<'n> {
+        let identity = self.identity;
+        (0..self.in_use.min(self.bytes.len() / ROW_BYTES)).map(move |number| Row::new(identity, number))
+    }
+
+    /// The row of a number, counted from 0; none where it isn't in use.
+    ///
+    /// ```
+    /// let table = wakeluri::index(b">s\nAC\n>t\nGT\n")?;
+    /// assert_eq!(table.row(1), table.find(b"t").ok());
+    /// assert_eq!(table.row(2), None);
+    /// # Ok::<(), wakeluri::Refusal>(())
+    /// ```
+    pub fn row(&self, number: usize) -> Option<Row> {
+        (number < self.rows().len()).then(|| Row::new(self.identity, number))
+    }
+
+    /// How many rows a call may use, and the number of the row for it: none where the row is of another table, so that the call refuses
+    /// it as one that isn't there.
+    fn lent(&self, row: Row) -> (u64, u64) {
+        let in_use = if row.is_of(self.identity) { self.in_use } else { 0 };
+        (in_use as u64, row.number() as u64)
+    }
+
     /// The numbers of a row; none where there is no such row.
     fn numbers(&self, row: usize) -> Option<[u64; 6]> {
         if row >= self.in_use {
@@ -232,14 +278,18 @@ impl<'n> Table<'n> {
         Some(numbers)
     }
 
-    /// The record of a row; none where there is no such row, or its name isn't in the bytes.
-    pub fn record(&self, row: usize) -> Option<Record<'n>> {
+    /// The record of a row; none where there is no such row, it is of another table, or its name isn't in the bytes.
+    pub fn record(&self, row: Row) -> Option<Record<'n>> {
+        if row.is_of(self.identity) { self.numbered_record(row.number()) } else { None }
+    }
+
+    fn numbered_record(&self, row: usize) -> Option<Record<'n>> {
         Record::of(self.names, self.numbers(row)?)
     }
 
-    /// The records in order of their rows.
+    /// The records in order of their rows, up to one whose name isn't in the bytes.
     pub fn records(&self) -> impl Iterator<Item = Record<'n>> + '_ {
-        (0..self.in_use).map_while(|row| self.record(row))
+        (0..self.in_use).map_while(|row| self.numbered_record(row))
     }
 
     /// About how many rows all the bytes have, where this table has the first of them: as many for a byte as up to its last name,
@@ -253,28 +303,32 @@ impl<'n> Table<'n> {
 
     /// The first row that has a name. Refuses 1, 25, 15.
     ///
+    /// It walks over the names from the first on; [`Names`](crate::Names) is for many look-ups.
+    ///
     /// ```
     /// let table = wakeluri::index(b">s\nAC\n>t\nGT\n")?;
-    /// assert_eq!(table.find(b"t"), Ok(1));
+    /// assert_eq!(table.find(b"t")?.number(), 1);
     /// assert_eq!(table.find(b"u").unwrap_err().to_string(), "no record has that name: refused 15");
     /// # Ok::<(), wakeluri::Refusal>(())
     /// ```
-    pub fn find(&self, name: &[u8]) -> Result<usize, Refusal> {
-        counted(Call::Find, entry::find(self.names, &self.bytes, self.in_use as u64, name))
+    pub fn find(&self, name: &[u8]) -> Result<Row, Refusal> {
+        let found = counted(Call::Find, entry::find(self.names, &self.bytes, self.in_use as u64, name));
+        found.map(|number| Row::new(self.identity, number))
     }
 
     /// Exactly the bases of a row's record within some bounds, never fewer. Refuses 1, 16, 25, 17, 14, 18.
     ///
-    /// 14 tells that so many bytes are not to be had.
+    /// 14 tells that so many bytes are not to be had; 25 also that the row is of another table.
     ///
     /// ```
     /// let fasta = b">s\nACGT\nAC\n";
     /// let table = wakeluri::index(fasta)?;
-    /// assert_eq!(table.read_exact(fasta, 0, 4..=5)?, b"TA");
-    /// assert_eq!(table.read_exact(fasta, 0, ..)?, b"ACGTAC");
+    /// let row = table.find(b"s")?;
+    /// assert_eq!(table.read_exact(fasta, row, 4..=5)?, b"TA");
+    /// assert_eq!(table.read_exact(fasta, row, ..)?, b"ACGTAC");
     /// # Ok::<(), wakeluri::Refusal>(())
     /// ```
-    pub fn read_exact(&self, fasta: &[u8], row: usize, bounds: impl Into<Bounds>) -> Result<Vec<u8>, Refusal> {
+    pub fn read_exact(&self, fasta: &[u8], row: Row, bounds: impl Into<Bounds>) -> Result<Vec<u8>, Refusal> {
         let bounds = bounds.into();
         with_room(bounds.bases(), |out| self.read_exact_into(fasta, row, bounds, out))
     }
@@ -283,38 +337,12 @@ impl<'n> Table<'n> {
     pub fn read_exact_into(
         &self,
         fasta: &[u8],
-        row: usize,
+        row: Row,
         bounds: impl Into<Bounds>,
         out: &mut [u8],
     ) -> Result<usize, Refusal> {
-        let in_use = self.in_use as u64;
-        counted(Call::ReadExact, entry::read_exact(fasta, &self.bytes, in_use, row as u64, bounds.into(), out))
-    }
-
-    /// Exactly the bases of the first record that has a name. Refuses 1, 25, 15, then as [`Table::read_exact`].
-    ///
-    /// ```
-    /// let fasta = b">s\nAC\n>t\nGT\n";
-    /// let table = wakeluri::index(fasta)?;
-    /// assert_eq!(table.read_exact_by_name(fasta, b"t", 2..)?, b"T");
-    /// # Ok::<(), wakeluri::Refusal>(())
-    /// ```
-    pub fn read_exact_by_name(&self, fasta: &[u8], name: &[u8], bounds: impl Into<Bounds>) -> Result<Vec<u8>, Refusal> {
-        let bounds = bounds.into();
-        with_room(bounds.bases(), |out| self.read_exact_by_name_into(fasta, name, bounds, out))
-    }
-
-    /// As [`Table::read_exact_by_name`], to the front of a room that is lent; tells how many bytes.
-    pub fn read_exact_by_name_into(
-        &self,
-        fasta: &[u8],
-        name: &[u8],
-        bounds: impl Into<Bounds>,
-        out: &mut [u8],
-    ) -> Result<usize, Refusal> {
-        let in_use = self.in_use as u64;
-        let answer = entry::read_exact_by_name(fasta, self.names, &self.bytes, in_use, name, bounds.into(), out);
-        counted(Call::ReadExact, answer)
+        let (in_use, row) = self.lent(row);
+        counted(Call::ReadExact, entry::read_exact(fasta, &self.bytes, in_use, row, bounds.into(), out))
     }
 
     /// The bases that a scan finds from the start on. Refuses 1, 16, 25, 18, 14.
@@ -326,11 +354,12 @@ impl<'n> Table<'n> {
     /// ```
     /// let fasta = b">s\nAC\n>t\nGG\n";
     /// let table = wakeluri::index(fasta)?;
-    /// assert_eq!(table.read_raw(fasta, 0, 1..=100)?, b"AC");
-    /// assert_eq!(table.read_raw(fasta, 0, 4..=5)?, b"tG");
+    /// let row = table.find(b"s")?;
+    /// assert_eq!(table.read_raw(fasta, row, 1..=100)?, b"AC");
+    /// assert_eq!(table.read_raw(fasta, row, 4..=5)?, b"tG");
     /// # Ok::<(), wakeluri::Refusal>(())
     /// ```
-    pub fn read_raw(&self, fasta: &[u8], row: usize, bounds: impl Into<Bounds>) -> Result<Vec<u8>, Refusal> {
+    pub fn read_raw(&self, fasta: &[u8], row: Row, bounds: impl Into<Bounds>) -> Result<Vec<u8>, Refusal> {
         let bounds = bounds.into();
         with_room(bounds.bases(), |out| self.read_raw_into(fasta, row, bounds, out))
     }
@@ -339,31 +368,12 @@ impl<'n> Table<'n> {
     pub fn read_raw_into(
         &self,
         fasta: &[u8],
-        row: usize,
+        row: Row,
         bounds: impl Into<Bounds>,
         out: &mut [u8],
     ) -> Result<usize, Refusal> {
-        let in_use = self.in_use as u64;
-        counted(Call::ReadRaw, entry::read_raw(fasta, &self.bytes, in_use, row as u64, bounds.into(), out))
-    }
-
-    /// The raw read of the first record that has a name. Refuses 1, 25, 15, then as [`Table::read_raw`].
-    pub fn read_raw_by_name(&self, fasta: &[u8], name: &[u8], bounds: impl Into<Bounds>) -> Result<Vec<u8>, Refusal> {
-        let bounds = bounds.into();
-        with_room(bounds.bases(), |out| self.read_raw_by_name_into(fasta, name, bounds, out))
-    }
-
-    /// As [`Table::read_raw_by_name`], to the front of a room that is lent; tells how many bytes.
-    pub fn read_raw_by_name_into(
-        &self,
-        fasta: &[u8],
-        name: &[u8],
-        bounds: impl Into<Bounds>,
-        out: &mut [u8],
-    ) -> Result<usize, Refusal> {
-        let in_use = self.in_use as u64;
-        let answer = entry::read_raw_by_name(fasta, self.names, &self.bytes, in_use, name, bounds.into(), out);
-        counted(Call::ReadRaw, answer)
+        let (in_use, row) = self.lent(row);
+        counted(Call::ReadRaw, entry::read_raw(fasta, &self.bytes, in_use, row, bounds.into(), out))
     }
 
     /// The whole index text: a line for each row. Refuses 1, 25, 13.
@@ -375,14 +385,15 @@ impl<'n> Table<'n> {
     /// ```
     pub fn write_index(&self) -> Result<Vec<u8>, Refusal> {
         let mut text = vec![];
-        for row in 0..self.in_use {
-            self.write_index_line(row, &mut text)?;
+        // each that is said to be in use: one that isn't there is refused
+        for number in 0..self.in_use {
+            self.write_index_line(Row::new(self.identity, number), &mut text)?;
         }
         Ok(text)
     }
 
     /// Adds the index line of a row to a text. Refuses 1, 25, 13, and then adds nothing.
-    pub fn write_index_line(&self, row: usize, text: &mut Vec<u8>) -> Result<(), Refusal> {
+    pub fn write_index_line(&self, row: Row, text: &mut Vec<u8>) -> Result<(), Refusal> {
         let before = text.len();
         // room for most lines; a longer one says how much it needs
         text.resize(before + 128, 0);
@@ -396,9 +407,9 @@ impl<'n> Table<'n> {
     }
 
     /// The index line of a row, at the front of a room that is lent; tells how many bytes. Refuses 1, 25, 13, 14.
-    pub fn write_index_line_into(&self, row: usize, out: &mut [u8]) -> Result<usize, Refusal> {
-        let in_use = self.in_use as u64;
-        counted(Call::WriteIndex, entry::write_index_line(self.names, &self.bytes, in_use, row as u64, out))
+    pub fn write_index_line_into(&self, row: Row, out: &mut [u8]) -> Result<usize, Refusal> {
+        let (in_use, row) = self.lent(row);
+        counted(Call::WriteIndex, entry::write_index_line(self.names, &self.bytes, in_use, row, out))
     }
 }
 

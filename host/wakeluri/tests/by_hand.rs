@@ -79,22 +79,27 @@ fn raw_reads() {
     assert_eq!(read(">s\nACG", &row(3, 3, 2, u64::MAX), (3..).into(), "..."), refused(18, 3, "..."));
 }
 
-/// A name that no row has is told before bad bounds, and a bad row before any name.
+/// A look-up, then a read of the row that it gives: a name that no row has is told before bad bounds, and a bad row before any name.
 #[test]
-fn reads_by_name() {
+fn look_ups_and_reads() {
     let file = b">s\nACG";
-    let zero = Bounds::from(0..);
-    let both = |names: &[u8], table: &[u8], in_use, name: &[u8]| {
-        let exact = told(|out| entry::read_exact_by_name(file, names, table, in_use, name, zero, out), "");
-        let raw = told(|out| entry::read_raw_by_name(file, names, table, in_use, name, zero, out), "");
+    let read = |names: &[u8], table: &[u8], in_use, name: &[u8], bounds: Bounds| {
+        let found = entry::find(names, table, in_use, name);
+        if found.refusal > 0 {
+            return (no(found), found.count, "...".to_string());
+        }
+        let exact = told(|out| entry::read_exact(file, table, in_use, found.count, bounds, out), "...");
+        let raw = told(|out| entry::read_raw(file, table, in_use, found.count, bounds, out), "...");
         assert_eq!(exact, raw);
         exact
     };
-    assert_eq!(both(file, &row(3, 3, 3, 4), 0, b"s"), refused(15, 0, ""));
-    assert_eq!(both(file, &row(3, 3, 0, 4), 1, b"t"), refused(25, 0, ""));
-    assert_eq!(both(file, &row(3, 3, 3, 4), 2, b"s"), refused(25, 1, ""));
-    assert_eq!(both(b">", &row(3, 3, 3, 4), 1, b"s"), refused(25, 0, ""));
-    assert_eq!(both(file, &row(3, 3, 3, 4), 1, b"s"), refused(16, 0, ""));
+    let (zero, all) = (Bounds::from(0..), Bounds::from(..));
+    assert_eq!(read(file, &row(3, 3, 3, 4), 0, b"s", zero), refused(15, 0, "..."));
+    assert_eq!(read(file, &row(3, 3, 0, 4), 1, b"t", zero), refused(25, 0, "..."));
+    assert_eq!(read(file, &row(3, 3, 3, 4), 2, b"s", zero), refused(25, 1, "..."));
+    assert_eq!(read(b">", &row(3, 3, 3, 4), 1, b"s", zero), refused(25, 0, "..."));
+    assert_eq!(read(file, &row(3, 3, 3, 4), 1, b"s", zero), refused(16, 0, "..."));
+    assert_eq!(read(file, &row(3, 3, 3, 4), 1, b"s", all), bytes(3, "ACG"));
 }
 
 #[test]

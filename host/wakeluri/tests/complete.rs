@@ -59,7 +59,7 @@ fn every_small_file() {
             None => {
                 complete += 1;
                 assert_eq!(check(&file, &rows.write_index().expect("an index")), Ok(()), "{}", file.escape_ascii());
-                for (row, record) in records(&file).into_iter().enumerate() {
+                for (row, record) in rows.rows().zip(records(&file)) {
                     let read = rows.read_exact(&file, row, ..).map_err(|refusal| refusal.number);
                     let expected = Some(bases(record)).filter(|bases| !bases.is_empty()).ok_or(17);
                     assert_eq!(read, expected, "{}", file.escape_ascii());

@@ -1,7 +1,10 @@
 //! The marked examples of the rules, and what must come out right though it surprises.
 
 use wakeluri::entry::{self, Answer};
-use wakeluri::{Bounds, Refusal, Table, check, complement, index, index_strict, read_index, reverse_complement};
+use wakeluri::{Bounds, Refusal, Row, Table, check, complement, index, index_strict, read_index, reverse_complement};
+
+/// The first row of any table.
+const FIRST: Row = Row::of_any_table(0);
 
 /// A table of one row.
 fn row(numbers: [u64; 6]) -> Vec<u8> {
@@ -70,8 +73,8 @@ fn m9_exact_and_never_clipped() {
     let fasta = b">s\nACGT\nAC\n";
     assert_eq!(index_text(fasta).as_deref(), Ok("s\t6\t3\t4\t5\n"));
     let table = index(fasta).expect("an index");
-    assert_eq!(table.read_exact(fasta, 0, 4..=5).as_deref(), Ok(&b"TA"[..]));
-    let refusal = table.read_exact(fasta, 0, 5..=7).expect_err("past the end");
+    assert_eq!(table.read_exact(fasta, FIRST, 4..=5).as_deref(), Ok(&b"TA"[..]));
+    let refusal = table.read_exact(fasta, FIRST, 5..=7).expect_err("past the end");
     assert_eq!((refusal.number, refusal.first, refusal.second), (17, 6, 0));
 }
 
@@ -85,8 +88,8 @@ fn m10_m11_the_checker() {
 fn m12_an_angle_inside_a_line() {
     let fasta = b">s\nAC>GT\n";
     let table = index(fasta).expect("an index");
-    assert_eq!(table.read_exact(fasta, 0, 3..=4).as_deref(), Ok(&b">G"[..]));
-    assert_eq!(table.read_raw(fasta, 0, 3..=4).as_deref(), Ok(&b""[..]));
+    assert_eq!(table.read_exact(fasta, FIRST, 3..=4).as_deref(), Ok(&b">G"[..]));
+    assert_eq!(table.read_raw(fasta, FIRST, 3..=4).as_deref(), Ok(&b""[..]));
 }
 
 #[test]
@@ -156,11 +159,11 @@ fn the_order_of_refusals_in_an_exact_read() {
 fn a_raw_read_that_starts_behind_its_record() {
     let fasta = b">s\nAC\n>t\nGG\n";
     let table = index(fasta).expect("an index");
-    assert_eq!(table.read_raw(fasta, 0, 4..=5).as_deref(), Ok(&b"tG"[..]));
-    assert_eq!(table.read_exact(fasta, 0, 4..=5).map_err(|r| r.number), Err(17));
+    assert_eq!(table.read_raw(fasta, FIRST, 4..=5).as_deref(), Ok(&b"tG"[..]));
+    assert_eq!(table.read_exact(fasta, FIRST, 4..=5).map_err(|r| r.number), Err(17));
     // as many as there are, though a hundred were asked for
     let mut out = *b"..";
-    assert_eq!(table.read_raw_into(fasta, 0, 1..=100, &mut out), Ok(2));
+    assert_eq!(table.read_raw_into(fasta, FIRST, 1..=100, &mut out), Ok(2));
 }
 
 #[test]
@@ -334,7 +337,7 @@ fn a_name_with_a_tab_is_not_written() {
     let refusal = table.write_index().expect_err("a tab");
     assert_eq!((refusal.number, refusal.first), (13, 1));
     let mut text = b"kept".to_vec();
-    assert!(table.write_index_line(0, &mut text).is_err());
+    assert!(table.write_index_line(FIRST, &mut text).is_err());
     assert_eq!(text, b"kept");
 }
 
@@ -345,7 +348,7 @@ fn long_names_are_written_whole() {
     let text = index(&fasta).and_then(|table| table.write_index()).expect("a line");
     assert_eq!(text, [&name[..], b"\t4\t1002\t4\t5\n"].concat());
     let read = read_index(&text).expect("it reads back");
-    assert_eq!(read.record(0).map(|r| (r.name, r.length)), Some((&name[..], 4)));
+    assert_eq!(read.record(FIRST).map(|r| (r.name, r.length)), Some((&name[..], 4)));
 }
 
 #[test]
@@ -354,15 +357,15 @@ fn more_records_than_were_thought_of() {
     let fasta = b">s\nA\n".repeat(records);
     let table = index(&fasta).expect("an index");
     assert_eq!(table.len(), records);
-    assert_eq!(table.record(records - 1).map(|r| r.position), Some(fasta.len() as u64 - 2));
-    assert_eq!(table.record(records), None);
+    assert_eq!(table.rows().last().and_then(|row| table.record(row)).map(|r| r.position), Some(fasta.len() as u64 - 2));
+    assert_eq!((table.row(records), table.record(Row::of_any_table(records))), (None, None));
 }
 
 #[test]
 fn lengths_that_lie_cost_nothing() {
     for length in [u64::MAX, 1 << 62, 1 << 50] {
         let table = Table::from_bytes(b"", row([0, 0, length, 3, 4, 5]), 1);
-        let refusal = table.read_exact(b">s\nACGT\n", 0, ..).expect_err("no such bases");
+        let refusal = table.read_exact(b">s\nACGT\n", FIRST, ..).expect_err("no such bases");
         assert!(refusal.number == 14 || refusal.number == 18, "{refusal}");
     }
 }

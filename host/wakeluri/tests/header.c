@@ -87,10 +87,14 @@ static void ordinary_calls(void) {
     MUST(a.refusal == 17 && a.first == 6 && a.second == 0 && a.count == 0 && memcmp(out, "ACGTAC.", 7) == 0);
     a = wakeluri_read_raw(BYTES(fasta), table, sizeof table, 2, 0, 1, 5, 1, 100, out, sizeof out);
     MUST(a.refusal == 0 && a.count == 2 && memcmp(out, "ACGTAC.", 7) == 0);
-    a = wakeluri_read_exact_by_name(BYTES(fasta), BYTES(fasta), table, sizeof table, 2, BYTES("t"), 1, 2, 0, 0, out, sizeof out);
+    /* looked up once, read twice */
+    a = wakeluri_find(BYTES(fasta), table, sizeof table, 2, BYTES("t"));
+    const uint64_t row = a.count;
+    MUST(a.refusal == 0 && row == 1);
+    a = wakeluri_read_exact(BYTES(fasta), table, sizeof table, 2, row, 1, 2, 0, 0, out, sizeof out);
     MUST(a.refusal == 0 && a.count == 1 && out[0] == 'G');
-    a = wakeluri_read_raw_by_name(BYTES(fasta), BYTES(fasta), table, sizeof table, 2, BYTES("s"), 0, 0, 1, 2, out, sizeof out);
-    MUST(a.refusal == 0 && a.count == 2 && memcmp(out, "AC", 2) == 0);
+    a = wakeluri_read_raw(BYTES(fasta), table, sizeof table, 2, row, 0, 0, 1, 2, out, sizeof out);
+    MUST(a.refusal == 0 && a.count == 2 && memcmp(out, "GG", 2) == 0);
 
     a = wakeluri_complement(BYTES("ACGU"), out, sizeof out);
     MUST(a.refusal == 0 && a.count == 4 && memcmp(out, "TGCA", 4) == 0);
@@ -136,12 +140,6 @@ static void beyond_the_limit(void) {
     REFUSED(wakeluri_find(out, 0, table, 0, 9, big, n));
     REFUSED(wakeluri_read_exact(big, n, table, 0, 9, 9, 1, 0, 1, 0, out, 0));
     REFUSED(wakeluri_read_raw(big, n, table, 0, 9, 9, 1, 0, 1, 0, out, 0));
-    REFUSED(wakeluri_read_exact_by_name(big, n, out, 0, table, 0, 9, out, 0, 1, 0, 1, 0, out, 0));
-    REFUSED(wakeluri_read_exact_by_name(out, 0, big, n, table, 0, 9, out, 0, 1, 0, 1, 0, out, 0));
-    REFUSED(wakeluri_read_exact_by_name(out, 0, out, 0, table, 0, 9, big, n, 1, 0, 1, 0, out, 0));
-    REFUSED(wakeluri_read_raw_by_name(big, n, out, 0, table, 0, 9, out, 0, 1, 0, 1, 0, out, 0));
-    REFUSED(wakeluri_read_raw_by_name(out, 0, big, n, table, 0, 9, out, 0, 1, 0, 1, 0, out, 0));
-    REFUSED(wakeluri_read_raw_by_name(out, 0, out, 0, table, 0, 9, big, n, 1, 0, 1, 0, out, 0));
     REFUSED(wakeluri_complement(big, n, out, 0));
     REFUSED(wakeluri_reverse_complement(big, n, out, 0));
     REFUSED(wakeluri_check(big, n, out, 0));

@@ -97,7 +97,7 @@ fn declarations_in_rust_are_those_of_the_header() {
     let header = std::fs::read_to_string(root().join("include/wakeluri.h")).expect("the header");
     let sys = std::fs::read_to_string(Path::new(env!("CARGO_MANIFEST_DIR")).join("src/sys.rs")).expect("sys.rs");
     let calls = in_header(&header);
-    assert!(calls.len() >= 20, "{calls:?}");
+    assert!(calls.len() >= 19, "{calls:?}");
     assert_eq!(calls, in_rust(&sys));
 
     let c_fields = |line: &str| {

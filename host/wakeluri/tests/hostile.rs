@@ -5,7 +5,7 @@
 
 use questions::generate::Chance;
 use wakeluri::entry::{self, Answer};
-use wakeluri::{Bounds, Table};
+use wakeluri::{Bounds, Names, Row, Table};
 
 const NUMBERS: [u64; 16] = [
     0,
@@ -103,7 +103,7 @@ fn call(chance: &mut Chance) {
     let row = if chance.once_in(2) { 0 } else { row };
     let (at, limit, bounds, mut out) = (number(chance), number(chance), bounds(chance), room(chance));
     let name = bytes(chance, b"s");
-    match chance.below(21) {
+    match chance.below(19) {
         0 => assert!(entry::definition_line(&file).refusal <= 4),
         1 => assert!(entry::definition_content(&file).refusal <= 4),
         2 => {
@@ -131,14 +131,12 @@ fn call(chance: &mut Chance) {
         12 => assert!(entry::find(&file, &table, in_use, &name).refusal <= 25),
         13 => stayed(entry::read_exact(&file, &table, in_use, row, bounds, &mut out), &out),
         14 => stayed(entry::read_raw(&file, &table, in_use, row, bounds, &mut out), &out),
-        15 => stayed(entry::read_exact_by_name(&file, &file, &table, in_use, &name, bounds, &mut out), &out),
-        16 => stayed(entry::read_raw_by_name(&file, &file, &table, in_use, &name, bounds, &mut out), &out),
-        17 => stayed(entry::complement(&bytes(chance, b"ACGTN"), &mut out), &out),
-        18 => {
+        15 => stayed(entry::complement(&bytes(chance, b"ACGTN"), &mut out), &out),
+        16 => {
             let mut table = vec![b'.'; chance.below(150)].into_boxed_slice();
             rows_stayed(entry::index_complete(&file, &mut table), &table);
         }
-        19 => stayed(entry::reverse_complement(&bytes(chance, b"ACGTN"), &mut out), &out),
+        17 => stayed(entry::reverse_complement(&bytes(chance, b"ACGTN"), &mut out), &out),
         _ => assert!(entry::check(&file, &index(chance)).refusal <= 23),
     }
 }
@@ -148,13 +146,19 @@ fn comfortable_call(chance: &mut Chance) {
     let (file, bytes, in_use, row) = (fasta(chance), table(chance), number(chance), number(chance));
     let table = Table::from_bytes(&file, bytes.into_vec(), in_use as usize);
     let bounds = bounds(chance);
-    let _ = match chance.below(7) {
-        0 => table.read_exact(&file, row as usize, bounds).map(|bases| bases.len()),
-        1 => table.read_raw(&file, row as usize, bounds).map(|bases| bases.len()),
-        2 => table.read_exact_by_name(&file, b"s", bounds).map(|bases| bases.len()),
-        3 => table.write_index_line(row as usize, &mut vec![]).map(|()| 0),
-        4 => Ok(table.records().count()),
-        5 => wakeluri::index_strict(&file).and_then(|table| table.write_index()).map(|text| {
+    let row = Row::of_any_table(row as usize);
+    let _ = match chance.below(8) {
+        0 => table.read_exact(&file, row, bounds).map(|bases| bases.len()),
+        1 => table.read_raw(&file, row, bounds).map(|bases| bases.len()),
+        2 => table.find(b"s").and_then(|row| table.read_exact(&file, row, bounds)).map(|bases| bases.len()),
+        3 => table.write_index_line(row, &mut vec![]).map(|()| 0),
+        4 => Ok(table.records().zip(table.rows()).count()),
+        5 => {
+            let (names, name) = (Names::new(&table), chance.one_of(&[&b"s"[..], b"", b"A"]));
+            assert_eq!(names.find(name), table.find(name));
+            Ok(table.row(row.number()).map_or(0, Row::number))
+        }
+        6 => wakeluri::index_strict(&file).and_then(|table| table.write_index()).map(|text| {
             assert_eq!(wakeluri::index(&file).and_then(|table| table.write_index()).as_deref(), Ok(&text[..]));
             text.len()
         }),

@@ -168,15 +168,7 @@ fn every_look_up() -> Source {
     Box::new(cases.map(move |(k, c)| {
         let rows = [row(k % 32), row(k / 32)].concat();
         let (name, in_use) = (NAMES[c % 4], c as u64 / 4);
-        let read = |family, bounds| {
-            let line = ask(family).bytes(b">a\nAC\n").bytes(b"ab").table(&rows).number(in_use);
-            line.bytes(name).bounds(bounds).bytes(&room(2)).0
-        };
-        match (k + c as u64) % 4 {
-            0 => read("exn", (Some(k % 3), None)),
-            1 => read("ran", (None, Some(k % 3))),
-            _ => ask("fnd").bytes(b"ab").table(&rows).number(in_use).bytes(name).0,
-        }
+        ask("fnd").bytes(b"ab").table(&rows).number(in_use).bytes(name).0
     }))
 }
 
