@@ -3,13 +3,11 @@
 //! Against the model they must be equal. Against the original there are listed differences, and each of them is held to what
 //! the list says: an answer that merely looks like one is a difference.
 
+use crate::family::{Original, family};
 use crate::form;
 
 /// Refusals that the original doesn't have: where one is right, it has no answer to give.
 const ADDED: [&str; 7] = ["1", "8", "13", "14", "16", "18", "25"];
-
-/// Families where the original tells the memory after a refusal too.
-const TELLS_MEMORY: [&str; 3] = ["idx", "cmp", "rev"];
 
 /// How two answers stand to each other.
 #[derive(Clone, Copy, Debug, Eq, Ord, PartialEq, PartialOrd)]
@@ -72,7 +70,7 @@ impl Rules {
 }
 
 fn against_original(question: &str, original: &str, ours: &str) -> Kind {
-    let (family, mine): (_, Vec<&str>) = (question.split(' ').next().unwrap_or_default(), ours.split(' ').collect());
+    let (name, mine): (_, Vec<&str>) = (question.split(' ').next().unwrap_or_default(), ours.split(' ').collect());
     let refused = if mine[0] == "no" { mine.get(1).copied() } else { None };
     if original == "skip" {
         return if refused.is_some_and(|n| ADDED.contains(&n)) { Kind::Added } else { Kind::Skipped };
@@ -82,7 +80,7 @@ fn against_original(question: &str, original: &str, ours: &str) -> Kind {
     }
     let theirs: Vec<&str> = original.split(' ').collect();
     if theirs[0] == "no" && refused.is_some() {
-        let all = TELLS_MEMORY.contains(&family);
+        let all = family(name).is_some_and(|family| family.original == Original::Memory);
         let length = if all { theirs.len().max(mine.len()) } else { 4 };
         let told = (0..length).all(|k| theirs.get(k) == Some(&"?") || theirs.get(k) == mine.get(k));
         if told {
@@ -90,7 +88,7 @@ fn against_original(question: &str, original: &str, ours: &str) -> Kind {
         }
     }
     let arguments: Vec<&str> = question.split(' ').skip(1).collect();
-    match family {
+    match name {
         "prg" if is_program_limit(&arguments, original, ours) => Kind::ProgramLimit,
         "rar" if is_no_limit(&arguments, &theirs, &mine) => Kind::NoLimit,
         _ => Kind::Different,

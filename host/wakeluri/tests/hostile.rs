@@ -4,7 +4,7 @@
 //! memory that should have stayed is looked at. WAKELURI_CALLS says how many calls are made.
 
 use questions::generate::Chance;
-use wakeluri::entry::{self, Answer};
+use wakeluri::entry::{self, ROW_BYTES, ROW_WORDS};
 use wakeluri::{Bounds, Names, Row, Table};
 
 const NUMBERS: [u64; 16] = [
@@ -66,9 +66,9 @@ fn index(chance: &mut Chance) -> Box<[u8]> {
 /// A table whose numbers may say anything, and whose last row may be a part of one.
 fn table(chance: &mut Chance) -> Box<[u8]> {
     let rows = chance.below(4);
-    let mut table: Vec<u8> = (0..6 * rows).flat_map(|_| number(chance).to_le_bytes()).collect();
+    let mut table: Vec<u8> = (0..ROW_WORDS * rows).flat_map(|_| number(chance).to_le_bytes()).collect();
     if chance.once_in(3) {
-        table.extend(vec![9; chance.below(48)]);
+        table.extend(vec![9; chance.below(ROW_BYTES)]);
     }
     table.into_boxed_slice()
 }
@@ -78,68 +78,157 @@ fn bounds(chance: &mut Chance) -> Bounds {
     Bounds { start: bound(), end: bound() }
 }
 
-fn room(chance: &mut Chance) -> Box<[u8]> {
-    vec![b'.'; chance.below(60)].into_boxed_slice()
+/// Memory that a call may change, all of one byte.
+fn room(chance: &mut Chance, longest: usize) -> Box<[u8]> {
+    vec![b'.'; chance.below(longest)].into_boxed_slice()
 }
 
-/// After a refusal nothing has changed, and nothing was counted; after an answer all behind it is as it was.
-fn stayed(answer: Answer, out: &[u8]) {
-    let kept = if answer.refusal == 0 { answer.count as usize } else { 0 };
-    assert!(answer.refusal <= 25 && kept <= out.len());
-    assert!(answer.refusal == 0 || answer.count == 0);
-    assert!(out[kept..].iter().all(|b| *b == b'.'));
-}
-
-/// Rows that were written, and nothing else.
-fn rows_stayed(answer: Answer, table: &[u8]) {
-    let written = answer.count as usize * 48;
-    assert!((answer.refusal <= 12 || answer.refusal == 42) && written <= table.len());
-    assert!(table[written..].iter().all(|b| *b == b'.'));
-}
-
-fn call(chance: &mut Chance) {
-    let (file, table, in_use, row) = (fasta(chance), table(chance), number(chance), number(chance));
-    let in_use = if chance.once_in(2) { (table.len() / 48) as u64 } else { in_use };
-    let row = if chance.once_in(2) { 0 } else { row };
-    let (at, limit, bounds, mut out) = (number(chance), number(chance), bounds(chance), room(chance));
-    let name = bytes(chance, b"s");
-    match chance.below(19) {
-        0 => assert!(entry::definition_line(&file).refusal <= 4),
-        1 => assert!(entry::definition_content(&file).refusal <= 4),
-        2 => {
-            let line = entry::read_line(&file, at);
-            assert!(line.refusal == 0 && line.start.saturating_add(line.length) <= file.len() as u64);
-        }
-        3 => {
-            let run = entry::read_run(&file, at);
-            assert!(run.refusal == 0 && (run.length == 0 || run.start + run.length <= file.len() as u64));
-        }
-        4 => stayed(entry::read_sequence(&file, at, &mut out), &out),
-        5 => stayed(entry::read_sequence_limit(&file, at, limit, &mut out), &out),
-        6 => assert!(entry::index_record(&file, at).refusal <= 7),
-        7 => {
-            let mut table = vec![b'.'; chance.below(150)].into_boxed_slice();
-            rows_stayed(entry::index_file(&file, &mut table), &table);
-        }
-        8 => assert!(entry::index_line(&index(chance)).refusal <= 12),
-        9 => assert!(entry::index_content(&index(chance)).refusal <= 12),
-        10 => {
-            let mut table = vec![b'.'; chance.below(150)].into_boxed_slice();
-            rows_stayed(entry::read_index(&index(chance), &mut table), &table);
-        }
-        11 => stayed(entry::write_index_line(&file, &table, in_use, row, &mut out), &out),
-        12 => assert!(entry::find(&file, &table, in_use, &name).refusal <= 25),
-        13 => stayed(entry::read_exact(&file, &table, in_use, row, bounds, &mut out), &out),
-        14 => stayed(entry::read_raw(&file, &table, in_use, row, bounds, &mut out), &out),
-        15 => stayed(entry::complement(&bytes(chance, b"ACGTN"), &mut out), &out),
-        16 => {
-            let mut table = vec![b'.'; chance.below(150)].into_boxed_slice();
-            rows_stayed(entry::index_complete(&file, &mut table), &table);
-        }
-        17 => stayed(entry::reverse_complement(&bytes(chance, b"ACGTN"), &mut out), &out),
-        _ => assert!(entry::check(&file, &index(chance)).refusal <= 23),
+/// The bytes of a parameter, by its name.
+fn bytes_for(chance: &mut Chance, parameter: &str) -> Box<[u8]> {
+    match parameter {
+        "file" | "fasta" | "names" | "line" | "content" if !chance.once_in(8) => fasta(chance),
+        "index" | "line" | "content" => index(chance),
+        "table" => table(chance),
+        "bases" => bytes(chance, b"ACGTN"),
+        _ => bytes(chance, b"s"),
     }
 }
+
+/// A number for a parameter, by its name: rows are few.
+fn number_for(chance: &mut Chance, parameter: &str) -> u64 {
+    match parameter {
+        "in_use" | "row" if chance.once_in(2) => chance.below(3) as u64,
+        _ => number(chance),
+    }
+}
+
+/// What an answer says of itself, to be held against what was lent.
+trait Judged {
+    /// The refusal's number, and how many bytes or rows are counted.
+    fn told(&self) -> (u64, usize);
+    /// Whether the places that it names lie in so many bytes.
+    fn lies_in(&self, bytes: usize) -> bool;
+}
+
+impl Judged for entry::Answer {
+    fn told(&self) -> (u64, usize) {
+        (self.refusal, self.count as usize)
+    }
+
+    fn lies_in(&self, _: usize) -> bool {
+        true
+    }
+}
+
+impl Judged for entry::Definition {
+    fn told(&self) -> (u64, usize) {
+        (self.refusal, 0)
+    }
+
+    fn lies_in(&self, bytes: usize) -> bool {
+        let end = self.description_start.saturating_add(self.description_length);
+        self.name_start.saturating_add(self.name_length).max(end) <= bytes as u64
+    }
+}
+
+impl Judged for entry::Span {
+    fn told(&self) -> (u64, usize) {
+        (self.refusal, 0)
+    }
+
+    fn lies_in(&self, bytes: usize) -> bool {
+        self.length == 0 || self.start.saturating_add(self.length) <= bytes as u64
+    }
+}
+
+impl Judged for entry::Row {
+    fn told(&self) -> (u64, usize) {
+        (self.refusal, 0)
+    }
+
+    fn lies_in(&self, bytes: usize) -> bool {
+        self.name_start.saturating_add(self.name_length) <= bytes as u64
+    }
+}
+
+/// An argument of a kind.
+macro_rules! made {
+    (bytes $parameter:ident $chance:ident) => {
+        bytes_for($chance, stringify!($parameter))
+    };
+    (output $parameter:ident $chance:ident) => {
+        room($chance, 60)
+    };
+    (table $parameter:ident $chance:ident) => {
+        room($chance, 3 * ROW_BYTES + 6)
+    };
+    (number $parameter:ident $chance:ident) => {
+        number_for($chance, stringify!($parameter))
+    };
+    (bounds $parameter:ident $chance:ident) => {
+        bounds($chance)
+    };
+}
+
+/// An argument as it is handed to a call.
+macro_rules! lent {
+    (bytes $argument:ident) => {
+        &$argument
+    };
+    (output $argument:ident) => {
+        &mut $argument
+    };
+    (table $argument:ident) => {
+        &mut $argument
+    };
+    (number $argument:ident) => {
+        $argument
+    };
+    (bounds $argument:ident) => {
+        $argument
+    };
+}
+
+/// After a call: what was counted lies in what was lent, all behind it is as it was, and of an output all is after a refusal.
+macro_rules! judged {
+    (bytes $argument:ident $answer:ident $($_lent:tt)*) => {};
+    (output $argument:ident $answer:ident) => {{
+        let (refusal, count) = $answer.told();
+        assert!(refusal == 0 || count == 0);
+        assert!(count <= $argument.len() && $argument[count..].iter().all(|b| *b == b'.'), stringify!($argument));
+    }};
+    (table $argument:ident $answer:ident) => {{
+        let written = $answer.told().1 * ROW_BYTES;
+        assert!(written <= $argument.len() && $argument[written..].iter().all(|b| *b == b'.'), stringify!($argument));
+    }};
+    (number $argument:ident $answer:ident) => {};
+    (bounds $argument:ident $answer:ident) => {};
+}
+
+macro_rules! hostile {
+    ($($(#[$doc:meta])* $name:ident($($parameter:ident: $kind:ident),*) -> $answer:ident;)*) => {
+        /// A hostile call of each entry point.
+        const CALLS: &[fn(&mut Chance)] = &[$(|chance| {
+            $(#[allow(unused_mut)] let mut $parameter = made!($kind $parameter chance);)*
+            let answer = entry::$name($(lent!($kind $parameter)),*);
+            $(judged!($kind $parameter answer);)*
+            let longest = [$(length!($kind $parameter)),*].into_iter().max().unwrap_or(0);
+            assert!(matches!(answer.told().0, 0 | 2..=25 | 42) && answer.lies_in(longest), stringify!($name));
+        }),*];
+    };
+}
+
+/// How many bytes an argument has.
+macro_rules! length {
+    (bytes $argument:ident) => {
+        $argument.len()
+    };
+    ($kind:ident $argument:ident) => {
+        0
+    };
+}
+
+wakeluri::entry_points!(hostile);
 
 /// The comfortable calls, over tables that lie: an answer or a refusal, and no panic.
 fn comfortable_call(chance: &mut Chance) {
@@ -174,6 +263,6 @@ fn hostile_calls() {
     let calls = std::env::var("WAKELURI_CALLS").ok().and_then(|n| n.parse().ok()).unwrap_or(1_000_000);
     let mut chance = Chance::new(20_240_501);
     for k in 0..calls {
-        if k % 16 == 0 { comfortable_call(&mut chance) } else { call(&mut chance) }
+        if k % 16 == 0 { comfortable_call(&mut chance) } else { chance.one_of(CALLS)(&mut chance) }
     }
 }
