@@ -273,8 +273,8 @@ pub fn question(family: &str, arguments: &[Value]) -> String {
     line
 }
 
-/// The arguments of a question, if they are of its family's kinds and no word is left over.
-fn read_question(question: &str) -> Option<(&'static Family, Vec<Value>)> {
+/// A question's family and arguments, if these are of the family's kinds and no word is left over.
+pub fn read_question(question: &str) -> Option<(&'static Family, Vec<Value>)> {
     let mut words = question.split(' ');
     let family = family(words.next()?)?;
     let arguments = family.takes.iter().map(|kind| Value::read(*kind, &mut words)).collect::<Option<Vec<_>>>()?;
@@ -336,4 +336,51 @@ pub fn converse(speaker: &impl Speaker, input: impl BufRead, output: impl Write)
         }
     }
     output.flush()
+}
+
+/// Every kind is read from the words that it is written with, and from no others.
+#[test]
+fn words_of_each_kind() {
+    let good = [
+        (Kind::Bytes, "x"),
+        (Kind::Bytes, "x00ff"),
+        (Kind::MaybeBytes, "-"),
+        (Kind::MaybeBytes, "x"),
+        (Kind::Number, "18446744073709551615"),
+        (Kind::MaybeNumber, "-"),
+        (Kind::MaybeNumber, "0"),
+        (Kind::Bounds, "4 5"),
+        (Kind::Bounds, "- 7"),
+        (Kind::Numbers, "t"),
+        (Kind::Rows, "t1,2,3 1"),
+        (Kind::Regions, "r"),
+        (Kind::Regions, "r0:4:5,1:-:7,2:-:-"),
+        (Kind::Steps, "f3e73,f,e"),
+        (Kind::Table, "t700,701"),
+        (Kind::Output, "x2e"),
+    ];
+    for (kind, text) in good {
+        let mut words = text.split(' ');
+        let value = Value::read(kind, &mut words).expect(text);
+        assert_eq!((value.kind(), words.next()), (kind, None), "{text}");
+        assert_eq!(question("", &[value]), format!(" {text}"));
+    }
+    assert_eq!(question("", &[Value::Stepped(vec![[0, 0, 0, 1], [6, 0, 4, 1]])]), " 0:0:0:1 6:0:4:1");
+    let bad = [
+        (Kind::Bytes, "x0"),
+        (Kind::Bytes, "-"),
+        (Kind::Number, "+1"),
+        (Kind::Number, "18446744073709551616"),
+        (Kind::Number, ""),
+        (Kind::Bounds, "4"),
+        (Kind::Rows, "t1"),
+        (Kind::Regions, "r0:4"),
+        (Kind::Regions, "r0:4:5:6"),
+        (Kind::Steps, "x3e"),
+        (Kind::Table, "t1,,2"),
+        (Kind::Stepped, "0:0:0:1"),
+    ];
+    for (kind, text) in bad {
+        assert_eq!(Value::read(kind, &mut text.split(' ')), None, "{text}");
+    }
 }

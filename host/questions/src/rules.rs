@@ -18,7 +18,7 @@ pub enum Kind {
     SameAsToldOf,
     /// The original has no answer, and ours is a refusal that was added.
     Added,
-    /// The original has no answer.
+    /// The original has no answer, or neither the model nor ours has one.
     Skipped,
     /// Ours wasn't asked: there is no program to run.
     NotAsked,
@@ -62,6 +62,7 @@ impl Rules {
             return if question.starts_with("prg ") { Kind::NotAsked } else { Kind::Different };
         }
         match self {
+            Self::Exact if first == ours && ours == "skip" => Kind::Skipped,
             Self::Exact if first == ours => Kind::Same,
             Self::Exact => Kind::Different,
             Self::Original => against_original(question, first, ours),
@@ -104,11 +105,20 @@ fn is_program_limit(arguments: &[&str], original: &str, ours: &str) -> bool {
     input.len() <= 65_536 && full && theirs.len() > rows.len() && theirs.starts_with(rows)
 }
 
-/// The end is absent, the original's answer is as long as there are base positions up to the greatest, and ours begins with it.
-fn is_no_limit(arguments: &[&str], theirs: &[&str], mine: &[&str]) -> bool {
-    let [_, _, _, _, start, "-", _] = arguments else { return false };
-    let (["ok", count, theirs], ["ok", _, mine]) = (theirs, mine) else { return false };
+/// A raw read whose end is absent, and whose answer is as long as there are base positions up to the greatest: there the original
+/// stops.
+pub fn stops_at_the_greatest(arguments: &[&str], theirs: &[&str]) -> bool {
+    let ([_, _, _, _, start, "-", _], ["ok", count, _]) = (arguments, theirs) else { return false };
     let (Ok(start), Ok(count)) = (start.parse::<u64>(), count.parse::<u64>()) else { return false };
-    let given = 1 + 2 * count as usize;
-    start > 0 && count == u64::MAX - start + 1 && mine.get(..given) == theirs.get(..given)
+    start > 0 && count == u64::MAX - start + 1
+}
+
+/// The original stops at the greatest base position, and ours begins with its answer.
+fn is_no_limit(arguments: &[&str], theirs: &[&str], mine: &[&str]) -> bool {
+    if !stops_at_the_greatest(arguments, theirs) {
+        return false;
+    }
+    let (["ok", count, theirs], ["ok", _, mine]) = (theirs, mine) else { return false };
+    let given = 1 + 2 * count.parse::<usize>().unwrap_or(0);
+    mine.get(..given) == theirs.get(..given)
 }

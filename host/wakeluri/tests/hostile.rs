@@ -5,7 +5,7 @@
 
 use questions::generate::Chance;
 use wakeluri::entry::{self, ROW_BYTES, ROW_WORDS};
-use wakeluri::{Bounds, Names, Row, Table};
+use wakeluri::{Bounds, Call, Names, Refusal, Row, Table};
 
 const NUMBERS: [u64; 16] = [
     0,
@@ -83,148 +83,131 @@ fn room(chance: &mut Chance, longest: usize) -> Box<[u8]> {
     vec![b'.'; chance.below(longest)].into_boxed_slice()
 }
 
-/// The bytes of a parameter, by its name.
-fn bytes_for(chance: &mut Chance, parameter: &str) -> Box<[u8]> {
-    match parameter {
-        "file" | "fasta" | "names" | "line" | "content" if !chance.once_in(8) => fasta(chance),
-        "index" | "line" | "content" => index(chance),
-        "table" => table(chance),
-        "bases" => bytes(chance, b"ACGTN"),
-        _ => bytes(chance, b"s"),
+/// Where the arguments of a call come from.
+struct Hostile {
+    chance: Chance,
+    /// The whole rows of the last table.
+    rows: usize,
+}
+
+impl Hostile {
+    /// The bytes of a parameter, by its name.
+    fn bytes(&mut self, parameter: &str) -> Box<[u8]> {
+        let chance = &mut self.chance;
+        match parameter {
+            "line" | "content" if chance.once_in(2) => index(chance),
+            "file" | "fasta" | "names" | "line" | "content" => fasta(chance),
+            "index" => index(chance),
+            "bases" => bytes(chance, b"ACGTN"),
+            "table" => {
+                let table = table(chance);
+                self.rows = table.len() / ROW_BYTES;
+                table
+            }
+            _ => bytes(chance, b"s"),
+        }
+    }
+
+    /// A number for a parameter, by its name: of a table's rows it is at times a right one.
+    fn number(&mut self, parameter: &str) -> u64 {
+        match parameter {
+            "in_use" if self.chance.once_in(2) => self.rows as u64,
+            "row" if self.chance.once_in(2) => 0,
+            _ => number(&mut self.chance),
+        }
     }
 }
 
-/// A number for a parameter, by its name: rows are few.
-fn number_for(chance: &mut Chance, parameter: &str) -> u64 {
-    match parameter {
-        "in_use" | "row" if chance.once_in(2) => chance.below(3) as u64,
-        _ => number(chance),
-    }
-}
-
-/// What an answer says of itself, to be held against what was lent.
+/// What an answer tells: the refusal, how many bytes or rows it counts, and where the parts that it names end.
 trait Judged {
-    /// The refusal's number, and how many bytes or rows are counted.
-    fn told(&self) -> (u64, usize);
-    /// Whether the places that it names lie in so many bytes.
-    fn lies_in(&self, bytes: usize) -> bool;
+    fn told(&self) -> (u64, usize, u64);
 }
 
 impl Judged for entry::Answer {
-    fn told(&self) -> (u64, usize) {
-        (self.refusal, self.count as usize)
-    }
-
-    fn lies_in(&self, _: usize) -> bool {
-        true
+    fn told(&self) -> (u64, usize, u64) {
+        (self.refusal, self.count as usize, 0)
     }
 }
 
 impl Judged for entry::Definition {
-    fn told(&self) -> (u64, usize) {
-        (self.refusal, 0)
-    }
-
-    fn lies_in(&self, bytes: usize) -> bool {
-        let end = self.description_start.saturating_add(self.description_length);
-        self.name_start.saturating_add(self.name_length).max(end) <= bytes as u64
+    fn told(&self) -> (u64, usize, u64) {
+        let description = end(self.description_start, self.description_length);
+        (self.refusal, 0, end(self.name_start, self.name_length).max(description))
     }
 }
 
 impl Judged for entry::Span {
-    fn told(&self) -> (u64, usize) {
-        (self.refusal, 0)
-    }
-
-    fn lies_in(&self, bytes: usize) -> bool {
-        self.length == 0 || self.start.saturating_add(self.length) <= bytes as u64
+    fn told(&self) -> (u64, usize, u64) {
+        (self.refusal, 0, end(self.start, self.length))
     }
 }
 
 impl Judged for entry::Row {
-    fn told(&self) -> (u64, usize) {
-        (self.refusal, 0)
+    fn told(&self) -> (u64, usize, u64) {
+        (self.refusal, 0, end(self.name_start, self.name_length))
     }
+}
 
-    fn lies_in(&self, bytes: usize) -> bool {
-        self.name_start.saturating_add(self.name_length) <= bytes as u64
-    }
+/// Where a part ends; one of no bytes may be told at any place.
+fn end(start: u64, length: u64) -> u64 {
+    if length == 0 { 0 } else { start.saturating_add(length) }
+}
+
+/// No refusal, or one that the library has words for. That of size is not: nothing so long is lent.
+fn has_words(number: u64) -> bool {
+    let refusal = Refusal { number, first: 0, second: 0, call: Call::Check };
+    number != 1 && (number == 0 || !refusal.words().contains("no words for"))
+}
+
+/// What was counted lies in what was lent, and all behind it is as it was.
+fn stayed(written: usize, lent: &[u8]) {
+    assert!(written <= lent.len() && lent[written..].iter().all(|b| *b == b'.'));
 }
 
 /// An argument of a kind.
+#[rustfmt::skip]
 macro_rules! made {
-    (bytes $parameter:ident $chance:ident) => {
-        bytes_for($chance, stringify!($parameter))
-    };
-    (output $parameter:ident $chance:ident) => {
-        room($chance, 60)
-    };
-    (table $parameter:ident $chance:ident) => {
-        room($chance, 3 * ROW_BYTES + 6)
-    };
-    (number $parameter:ident $chance:ident) => {
-        number_for($chance, stringify!($parameter))
-    };
-    (bounds $parameter:ident $chance:ident) => {
-        bounds($chance)
-    };
+    (bytes $parameter:ident $hostile:ident) => { $hostile.bytes(stringify!($parameter)) };
+    (output $parameter:ident $hostile:ident) => { room(&mut $hostile.chance, 60) };
+    (table $parameter:ident $hostile:ident) => { room(&mut $hostile.chance, 3 * ROW_BYTES + 6) };
+    (number $parameter:ident $hostile:ident) => { $hostile.number(stringify!($parameter)) };
+    (bounds $parameter:ident $hostile:ident) => { bounds(&mut $hostile.chance) };
 }
 
 /// An argument as it is handed to a call.
+#[rustfmt::skip]
 macro_rules! lent {
-    (bytes $argument:ident) => {
-        &$argument
-    };
-    (output $argument:ident) => {
-        &mut $argument
-    };
-    (table $argument:ident) => {
-        &mut $argument
-    };
-    (number $argument:ident) => {
-        $argument
-    };
-    (bounds $argument:ident) => {
-        $argument
-    };
+    (bytes $argument:ident) => { &$argument };
+    (output $argument:ident) => { &mut $argument };
+    (table $argument:ident) => { &mut $argument };
+    (number $argument:ident) => { $argument };
+    (bounds $argument:ident) => { $argument };
 }
 
-/// After a call: what was counted lies in what was lent, all behind it is as it was, and of an output all is after a refusal.
+/// An argument after a call that told so much. A refusal leaves an output as it was; rows before it stand.
+#[rustfmt::skip]
 macro_rules! judged {
-    (bytes $argument:ident $answer:ident $($_lent:tt)*) => {};
-    (output $argument:ident $answer:ident) => {{
-        let (refusal, count) = $answer.told();
-        assert!(refusal == 0 || count == 0);
-        assert!(count <= $argument.len() && $argument[count..].iter().all(|b| *b == b'.'), stringify!($argument));
-    }};
-    (table $argument:ident $answer:ident) => {{
-        let written = $answer.told().1 * ROW_BYTES;
-        assert!(written <= $argument.len() && $argument[written..].iter().all(|b| *b == b'.'), stringify!($argument));
-    }};
-    (number $argument:ident $answer:ident) => {};
-    (bounds $argument:ident $answer:ident) => {};
+    (bytes $argument:ident $refusal:ident $count:ident $end:ident) => { $end = $end.saturating_sub($argument.len() as u64) };
+    (output $argument:ident $refusal:ident $count:ident $end:ident) => {
+        assert!($refusal == 0 || $count == 0);
+        stayed($count, &$argument);
+    };
+    (table $argument:ident $refusal:ident $count:ident $end:ident) => { stayed($count * ROW_BYTES, &$argument) };
+    (number $argument:ident $refusal:ident $count:ident $end:ident) => {};
+    (bounds $argument:ident $refusal:ident $count:ident $end:ident) => {};
 }
 
 macro_rules! hostile {
     ($($(#[$doc:meta])* $name:ident($($parameter:ident: $kind:ident),*) -> $answer:ident;)*) => {
         /// A hostile call of each entry point.
-        const CALLS: &[fn(&mut Chance)] = &[$(|chance| {
-            $(#[allow(unused_mut)] let mut $parameter = made!($kind $parameter chance);)*
-            let answer = entry::$name($(lent!($kind $parameter)),*);
-            $(judged!($kind $parameter answer);)*
-            let longest = [$(length!($kind $parameter)),*].into_iter().max().unwrap_or(0);
-            assert!(matches!(answer.told().0, 0 | 2..=25 | 42) && answer.lies_in(longest), stringify!($name));
+        #[allow(unused_mut, unused_variables)]
+        const CALLS: &[fn(&mut Hostile)] = &[$(|hostile| {
+            $(let mut $parameter = made!($kind $parameter hostile);)*
+            let (refusal, count, mut end) = entry::$name($(lent!($kind $parameter)),*).told();
+            $(judged!($kind $parameter refusal count end);)*
+            // no part lies outside of the bytes
+            assert!(end == 0 && has_words(refusal), stringify!($name));
         }),*];
-    };
-}
-
-/// How many bytes an argument has.
-macro_rules! length {
-    (bytes $argument:ident) => {
-        $argument.len()
-    };
-    ($kind:ident $argument:ident) => {
-        0
     };
 }
 
@@ -261,8 +244,12 @@ fn comfortable_call(chance: &mut Chance) {
 #[test]
 fn hostile_calls() {
     let calls = std::env::var("WAKELURI_CALLS").ok().and_then(|n| n.parse().ok()).unwrap_or(1_000_000);
-    let mut chance = Chance::new(20_240_501);
+    let mut hostile = Hostile { chance: Chance::new(20_240_501), rows: 0 };
     for k in 0..calls {
-        if k % 16 == 0 { comfortable_call(&mut chance) } else { chance.one_of(CALLS)(&mut chance) }
+        if k % 16 == 0 {
+            comfortable_call(&mut hostile.chance);
+        } else {
+            hostile.chance.one_of(CALLS)(&mut hostile);
+        }
     }
 }
