@@ -1,7 +1,7 @@
 //! The model's own examples, and that the questions reach every family and every refusal.
 
 use model::Model;
-use questions::form::answered;
+use questions::form::{Speaker, Value, answered};
 use questions::generate::Questions;
 use std::collections::BTreeSet;
 
@@ -44,8 +44,9 @@ fn every_refusal_of_every_family_is_reached() {
 #[test]
 fn the_marked_examples() {
     let program = |input: &[u8]| {
-        let output = questions::form::Speaker::program(&Model, input).expect("a model of the program");
-        String::from_utf8(output).expect("text")
+        let answer = Model.answer("prg", &mut [Value::Bytes(input.to_vec())]).expect("a model of the program");
+        let [Value::Bytes(output)] = &answer.told[..] else { panic!("{answer:?}") };
+        String::from_utf8(output.clone()).expect("text")
     };
     assert_eq!(program(b">sq0\nACGT\n>sq1\nNNNN\nNNNN\nNN\n"), "sq0\t4\t5\t4\t5\nsq1\t10\t15\t4\t5\n");
     assert_eq!(program(b">s\nACGT\n\n"), "s\t4\t3\t4\t5\n");

@@ -35,11 +35,10 @@
 mod bounds;
 #[allow(unsafe_code)]
 pub mod entry;
+mod list;
 mod names;
 mod refusal;
 mod row;
-#[allow(unsafe_code)]
-mod sys;
 mod table;
 mod text;
 
