@@ -11,7 +11,7 @@ mod makers;
 use crate::family::family;
 use crate::form::{Value, question};
 pub use chance::Chance;
-use makers::{MAKERS, by_kind};
+use makers::{MAKERS, Maker, by_kind};
 
 /// Questions of one family, each by its arguments.
 type Source = Box<dyn Iterator<Item = Vec<Value>> + Send>;
@@ -19,16 +19,29 @@ type Source = Box<dyn Iterator<Item = Vec<Value>> + Send>;
 /// Questions without end: one of every short input, and one by chance, in turn.
 pub struct Questions {
     chance: Chance,
+    makers: Vec<&'static Maker>,
     /// Those of every short input that are not at their end, by family.
     sources: Vec<(&'static str, Source)>,
     turn: usize,
 }
 
 impl Questions {
-    /// The questions of a seed.
+    /// The questions of a seed, of every family.
     pub fn new(seed: u64) -> Self {
-        let sources = MAKERS.iter().flat_map(|maker| maker.every.iter().map(|every| (maker.family, every()))).collect();
-        Self { chance: Chance::new(seed), sources, turn: 0 }
+        Self::made_by(MAKERS.iter().collect(), seed)
+    }
+
+    /// Those of one family; `None` where there is no such family.
+    pub fn of(family: &str, seed: u64) -> Option<Self> {
+        let maker = MAKERS.iter().find(|maker| maker.family == family)?;
+        Some(Self::made_by(vec![maker], seed))
+    }
+
+    fn made_by(makers: Vec<&'static Maker>, seed: u64) -> Self {
+        let every =
+            |maker: &&'static Maker| maker.every.iter().map(|every| (maker.family, every())).collect::<Vec<_>>();
+        let sources = makers.iter().flat_map(every).collect();
+        Self { chance: Chance::new(seed), makers, sources, turn: 0 }
     }
 }
 
@@ -45,14 +58,14 @@ impl Iterator for Questions {
                 None => drop(self.sources.remove(turn)),
             }
         }
-        Some(by_chance(&mut self.chance))
+        Some(by_chance(&mut self.chance, &self.makers))
     }
 }
 
 /// A question as its family's maker has it, or at times one whose arguments have the right kinds and nothing else in common.
-fn by_chance(chance: &mut Chance) -> String {
-    let mut left = chance.below(MAKERS.iter().map(|maker| maker.share).sum());
-    for maker in MAKERS {
+fn by_chance(chance: &mut Chance, makers: &[&Maker]) -> String {
+    let mut left = chance.below(makers.iter().map(|maker| maker.share).sum());
+    for maker in makers {
         if left < maker.share {
             let takes = family(maker.family).map_or(&[][..], |family| family.takes);
             let arguments = if chance.once_in(24) { by_kind(chance, takes) } else { (maker.by_chance)(chance) };

@@ -7,7 +7,7 @@
 use crate::Bounds;
 
 macro_rules! structs {
-    ($($(#[$doc:meta])* $name:ident { $($field:ident),* })*) => {$(
+    ($($(#[$doc:meta])* struct $name:ident { $($field:ident),* })*) => {$(
         $(#[$doc])*
         #[repr(C)]
         #[derive(Clone, Copy, Debug, Default, Eq, PartialEq)]
@@ -52,25 +52,14 @@ impl Row {
 }
 
 /// The type of a parameter in Rust.
+#[rustfmt::skip]
 macro_rules! lent {
-    (bytes) => {
-        &[u8]
-    };
-    (maybe) => {
-        Option<&[u8]>
-    };
-    (output) => {
-        &mut [u8]
-    };
-    (table) => {
-        &mut [u8]
-    };
-    (number) => {
-        u64
-    };
-    (bounds) => {
-        Bounds
-    };
+    (bytes) => { &[u8] };
+    (maybe) => { Option<&[u8]> };
+    (output) => { &mut [u8] };
+    (table) => { &mut [u8] };
+    (number) => { u64 };
+    (bounds) => { Bounds };
 }
 
 /// The call of an entry point: its parameters, one by one, become types and values as C has them.
@@ -119,7 +108,7 @@ macro_rules! call {
 }
 
 macro_rules! calls {
-    ($($(#[$doc:meta])* $name:ident($($parameter:ident: $kind:ident),*) -> $answer:ident;)*) => {$(
+    ($($(#[$doc:meta])* fn $name:ident($($parameter:ident: $kind:ident),*) -> $answer:ident;)*) => {$(
         $(#[$doc])*
         pub fn $name($($parameter: lent!($kind)),*) -> $answer {
             call!($name $answer [] [] $($parameter $kind)*)

@@ -79,13 +79,13 @@ fn in_rust(name: &str, parameters: &[(&str, &str)], answer: &str) -> String {
 }
 
 macro_rules! calls {
-    ($($(#[$doc:meta])* $name:ident($($parameter:ident: $kind:ident),*) -> $answer:ident;)*) => {
+    ($($(#[$doc:meta])* fn $name:ident($($parameter:ident: $kind:ident),*) -> $answer:ident;)*) => {
         [$(in_rust(stringify!($name), &[$((stringify!($parameter), stringify!($kind))),*], stringify!($answer))),*]
     };
 }
 
 macro_rules! fields {
-    ($($(#[$doc:meta])* $name:ident { $($field:ident),* })*) => {
+    ($($(#[$doc:meta])* struct $name:ident { $($field:ident),* })*) => {
         [$((stringify!($name), vec!["refusal", "first", "second", $(stringify!($field)),*])),*]
     };
 }

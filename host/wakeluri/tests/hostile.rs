@@ -203,7 +203,7 @@ macro_rules! judged {
 }
 
 macro_rules! hostile {
-    ($($(#[$doc:meta])* $name:ident($($parameter:ident: $kind:ident),*) -> $answer:ident;)*) => {
+    ($($(#[$doc:meta])* fn $name:ident($($parameter:ident: $kind:ident),*) -> $answer:ident;)*) => {
         /// A hostile call of each entry point.
         #[allow(unused_mut, unused_variables)]
         const CALLS: &[fn(&mut Hostile)] = &[$(|hostile| {
