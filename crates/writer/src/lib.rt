@@ -1,7 +1,7 @@
 // A FASTA record, written: '>', the name, and where there is a description one space and it; LF; then the bases in lines of a width,
 // each with LF. Refused, in this order: 1, bytes over the limit; 27, a width of 0; 28, a name that is empty or has whitespace; 29, a
 // description that is there and is empty, has an LF, or begins or ends in whitespace; 30, a base that is LF, CR or '>'; 14, no room.
-use index_line::Written;
+use output::Written;
 use refusal::Refusal;
 ghost use mathlib.Core.Path.{_≡_};
 ghost use mathlib.Core.Bool.{_&&_};
@@ -9,7 +9,7 @@ ghost use Prim.Native.Nat.{_+_, _≤_, _<_, min};
 ghost use lib.ListN.{length};
 ghost use Rattle.definition.specs.Definition.{isSpace};
 ghost use Rattle.index_line.specs.Bytes.{is, overlaid};
-ghost use Rattle.index_line.specs.Fields.{wrote};
+ghost use Rattle.output.specs.Outcome.{leaves};
 ghost use Rattle.writer.specs.Text.{anyOf, nameUnfit, descriptionUnfit, barred, describedText, definitionText, sequenceText, tooLong, recordWritten, Put};
 
 // Is a byte no base: LF, CR or '>'.
@@ -196,7 +196,7 @@ pub fn write_record(
     width: usize,
     out: &mut [u8],
 ) -> Written
-    ensures { λ r. ⌜ wrote r (now (out .exit)) ≡ recordWritten (now (name .entry)) described (now (description .entry)) (now (bases .entry)) width (now (out .entry)) ⌝ }
+    ensures { λ r. ⌜ leaves r (now (out .exit)) ≡ recordWritten (now (name .entry)) described (now (description .entry)) (now (bases .entry)) width (now (out .entry)) ⌝ }
 {
     if too_long(name.len(), description.len(), bases.len()) {
         return Written::Refused(Refusal::TooLong);
