@@ -5,4 +5,6 @@ pub mod Laws
 pub mod Chains
 pub mod AtTheEdge
 pub mod Marked
+pub mod LookUpTells
+pub mod LookUpLaws
 pub mod LookUp

@@ -208,6 +208,19 @@ impl<'n> Table<'n> {
         Self { names, bytes, in_use, identity: Identity::fresh() }
     }
 
+    /// A table of one row: a name, and the numbers of its index line.
+    pub(crate) fn of_one(name: &'n [u8], [length, position, line_bases, line_width]: [u64; 4]) -> Self {
+        let row = entry::Row {
+            name_length: name.len() as u64,
+            length,
+            position,
+            line_bases,
+            line_width,
+            ..Default::default()
+        };
+        Self::from_bytes(name, row.row().into_iter().flat_map(u64::to_le_bytes).collect(), 1)
+    }
+
     /// How many rows are in use.
     pub fn len(&self) -> usize {
         self.in_use

@@ -68,6 +68,7 @@ fn in_header(text: &str) -> Vec<String> {
 fn in_rust(name: &str, parameters: &[(&str, &str)], answer: &str) -> String {
     let in_c = |(name, kind): &(&str, &str)| match *kind {
         "bytes" => format!("{name}: *const u8, {name}_length: usize"),
+        "maybe" => format!("has_{name}: u64, {name}: *const u8, {name}_length: usize"),
         "output" | "table" => format!("{name}: *mut u8, {name}_length: usize"),
         "number" => format!("{name}: u64"),
         "bounds" => "has_start: u64, start: u64, has_end: u64, end: u64".to_string(),
@@ -111,7 +112,7 @@ fn structs(header: &str) -> Vec<(String, Vec<&str>)> {
 fn declarations_in_rust_are_those_of_the_header() {
     let header = std::fs::read_to_string(root().join("include/wakeluri.h")).expect("the header");
     let calls = in_header(&header);
-    assert!(calls.len() >= 19, "{calls:?}");
+    assert!(calls.len() >= 21, "{calls:?}");
     assert_eq!(calls, wakeluri::entry_points!(calls));
 
     let in_c = structs(&header);
