@@ -55,6 +55,7 @@ impl Row {
 #[rustfmt::skip]
 macro_rules! lent {
     (bytes) => { &[u8] };
+    (maybe_bytes) => { Option<&[u8]> };
     (output) => { &mut [u8] };
     (table) => { &mut [u8] };
     (number) => { u64 };
@@ -74,6 +75,10 @@ macro_rules! call {
     ($name:ident $answer:ident [$($type:ty,)*] [$($value:expr,)*] $bytes:ident bytes $($rest:ident)*) => {
         call!($name $answer [$($type,)* *const u8, usize,] [$($value,)* $bytes.as_ptr(), $bytes.len(),] $($rest)*)
     };
+    ($name:ident $answer:ident [$($type:ty,)*] [$($value:expr,)*] $maybe:ident maybe_bytes $($rest:ident)*) => {{
+        let (has, bytes) = (u64::from($maybe.is_some()), $maybe.unwrap_or_default());
+        call!($name $answer [$($type,)* u64,] [$($value,)* has,] bytes bytes $($rest)*)
+    }};
     ($name:ident $answer:ident [$($type:ty,)*] [$($value:expr,)*] $out:ident output $($rest:ident)*) => {
         call!($name $answer [$($type,)* *mut u8, usize,] [$($value,)* $out.as_mut_ptr(), $out.len(),] $($rest)*)
     };

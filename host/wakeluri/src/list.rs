@@ -8,6 +8,7 @@
 /// | | in Rust | in C |
 /// |---|---|---|
 /// | bytes | `&[u8]` | `const uint8_t *p, size_t p_length` |
+/// | maybe_bytes | `Option<&[u8]>` | `uint64_t has_p, const uint8_t *p, size_t p_length` |
 /// | output | `&mut [u8]` | `uint8_t *p, size_t p_length` |
 /// | table | `&mut [u8]` | the same: rows are put in it |
 /// | number | `u64` | `uint64_t p` |

@@ -108,6 +108,10 @@ impl Refusal {
             23 => format!("base {second} of record {first} is not where its index line says"),
             24 => format!("the byte {} at place {first} has no complement", shown(second)),
             25 => format!("row {first} is not in the table, its name is not in the bytes, or its lines have no bases"),
+            27 => "the width is 0, and a line has at least one base".to_string(),
+            28 => "the name is empty or has whitespace, and would not be read back".to_string(),
+            29 => "the description is empty, has a line feed, or begins or ends in whitespace".to_string(),
+            30 => "a base is a line feed, a carriage return or '>'".to_string(),
             42 => format!(
                 "no index line can lead to base {second} of a record, which lies at offset {first}, and to those before it"
             ),
@@ -129,7 +133,7 @@ impl Refusal {
         let line = if checking { "record" } else { "line" };
         match number {
             2..=4 if checking => format!("refused {number} (record {first})"),
-            1..=4 | 15 | 16 => format!("refused {number}"),
+            1..=4 | 15 | 16 | 27..=30 => format!("refused {number}"),
             5 => format!("refused {number} (offset {first})"),
             6 | 7 => format!("refused {number} (found {first}, expected {second})"),
             8 => format!("refused {number} (rows {first})"),

@@ -68,6 +68,7 @@ fn in_header(text: &str) -> Vec<String> {
 fn in_rust(name: &str, parameters: &[(&str, &str)], answer: &str) -> String {
     let in_c = |(name, kind): &(&str, &str)| match *kind {
         "bytes" => format!("{name}: *const u8, {name}_length: usize"),
+        "maybe_bytes" => format!("has_{name}: u64, {name}: *const u8, {name}_length: usize"),
         "output" | "table" => format!("{name}: *mut u8, {name}_length: usize"),
         "number" => format!("{name}: u64"),
         "bounds" => "has_start: u64, start: u64, has_end: u64, end: u64".to_string(),

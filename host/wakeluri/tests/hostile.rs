@@ -168,6 +168,9 @@ fn stayed(written: usize, lent: &[u8]) {
 #[rustfmt::skip]
 macro_rules! made {
     (bytes $parameter:ident $hostile:ident) => { $hostile.bytes(stringify!($parameter)) };
+    (maybe_bytes $parameter:ident $hostile:ident) => {
+        if $hostile.chance.once_in(3) { None } else { Some($hostile.bytes(stringify!($parameter))) }
+    };
     (output $parameter:ident $hostile:ident) => { room(&mut $hostile.chance, 60) };
     (table $parameter:ident $hostile:ident) => { room(&mut $hostile.chance, 3 * ROW_BYTES + 6) };
     (number $parameter:ident $hostile:ident) => { $hostile.number(stringify!($parameter)) };
@@ -178,6 +181,7 @@ macro_rules! made {
 #[rustfmt::skip]
 macro_rules! lent {
     (bytes $argument:ident) => { &$argument };
+    (maybe_bytes $argument:ident) => { $argument.as_deref() };
     (output $argument:ident) => { &mut $argument };
     (table $argument:ident) => { &mut $argument };
     (number $argument:ident) => { $argument };
@@ -188,6 +192,7 @@ macro_rules! lent {
 #[rustfmt::skip]
 macro_rules! judged {
     (bytes $argument:ident $refusal:ident $count:ident $end:ident) => { $end = $end.saturating_sub($argument.len() as u64) };
+    (maybe_bytes $argument:ident $refusal:ident $count:ident $end:ident) => {};
     (output $argument:ident $refusal:ident $count:ident $end:ident) => {
         assert!($refusal == 0 || $count == 0);
         stayed($count, &$argument);
