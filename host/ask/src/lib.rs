@@ -1,6 +1,6 @@
 //! The proved library as one who answers questions: each question is one call of an entry point, told as it is.
 
-use questions::form::Value::{self, Bounds, Bytes, Number, Numbers, Output, Rows, Table};
+use questions::form::Value::{self, Bounds, Bytes, MaybeBytes, Number, Numbers, Output, Rows, Table};
 use questions::form::{Answer, Speaker, Tell};
 use questions::row::{OF_A_LINE, WORDS};
 use std::io::Write;
@@ -102,6 +102,9 @@ impl Speaker for Library {
             }
             ("cmp", [Bytes(bases), Output(out)]) => counted(entry::complement(bases, out)),
             ("rev", [Bytes(bases), Output(out)]) => counted(entry::reverse_complement(bases, out)),
+            ("wfa", [Bytes(name), MaybeBytes(description), Bytes(bases), Number(width), Output(out)]) => {
+                counted(entry::write_record(name, description.as_deref(), bases, *width, out))
+            }
             ("chk", [Bytes(fasta), Bytes(index)]) => told(entry::check(fasta, index).no(), ()),
             ("prg", [Bytes(input)]) => told(None, vec![Bytes(output(self.program.as_ref()?, input)?)]),
             _ => return None,

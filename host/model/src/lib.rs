@@ -8,6 +8,7 @@ mod complete;
 mod lines;
 mod reads;
 mod rows;
+mod writer;
 
 use checker::{check, program};
 use complete::fitted_record;
@@ -16,6 +17,7 @@ use questions::form::Value::{self, Bounds, Bytes, MaybeBytes, Number, Numbers, O
 use questions::form::{Answer, No, Speaker};
 use reads::{complemented, exact, raw, sequence};
 use rows::{file_rows, find, index_content, index_rows, is_plain, record, write_line};
+use writer::write_record;
 
 /// No byte input may be longer.
 const LIMIT: usize = 1 << 40;
@@ -86,6 +88,9 @@ impl Speaker for Model {
             }
             ("cmp", [Bytes(bases), Output(out)]) => complemented(bases, false, out).into(),
             ("rev", [Bytes(bases), Output(out)]) => complemented(bases, true, out).into(),
+            ("wfa", [Bytes(name), MaybeBytes(description), Bytes(bases), Number(width), Output(out)]) => {
+                write_record(name, description.as_deref(), bases, *width, out).into()
+            }
             ("chk", [Bytes(fasta), Bytes(index)]) => check(fasta, index).into(),
             ("prg", [Bytes(input)]) => Ok(vec![Bytes(program(input))]).into(),
             _ => return None,
