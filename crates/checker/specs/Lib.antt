@@ -7,3 +7,5 @@ pub mod Exactly
 pub mod Faults
 pub mod Sequences
 pub mod Mended
+pub mod BadDefinitionLaws
+pub mod BadDefinition

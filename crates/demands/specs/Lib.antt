@@ -6,3 +6,4 @@ pub mod Chains
 pub mod AtTheEdge
 pub mod Marked
 pub mod LookUp
+pub mod BadDefinition
