@@ -6,6 +6,8 @@ pub mod Said
 pub mod Exactly
 pub mod Faults
 pub mod Sequences
+pub mod Mend
+pub mod MendedLaws
 pub mod Mended
 pub mod BadDefinitionLaws
 pub mod BadDefinition

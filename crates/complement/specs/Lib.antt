@@ -3,5 +3,7 @@ pub mod Complement
 pub mod Kinds
 pub mod Laws
 pub mod KindLaws
+pub mod Thymine
+pub mod InverseLaws
 pub mod Inverse
 pub mod Table

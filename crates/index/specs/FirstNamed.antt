@@ -1,136 +1,43 @@
 -- The first equal name wins: looking up gives a row exactly if its name is the one looked for and every row before it is sound and has
 -- another; said without a walk through the rows.
-use Prim.Native.Nat.{ℕ, zero, suc, _+_, _≤_, _<_}
-use mathlib.Core.Path.{_≡_, refl, sym, ap, _∙_}
+use Prim.Native.Nat.{ℕ}
+use mathlib.Core.Path.{_≡_, refl}
 use mathlib.Core.List.{List}
-use mathlib.Core.Bool.{Bool, true, false, cond, true≢false}
+use mathlib.Core.Bool.{Bool, true, false, cond}
 use native.Mathlib.Omega.{arith}
 use lib.ListN.{length}
-use lib.Dec.{ltb}
-use borrow.Author.Tests.{ltb-true, ltb-false}
 use Rattle.refusal.specs.Numbers.{overLimit}
 use Rattle.refusal.specs.declared.Refusal.the-variants.{TooLong}
-use Rattle.lines.specs.Same.{sameBytes, same-refl, same-true}
-use Rattle.record.specs.declared.Record.{Record}
-use Rattle.record.specs.declared.Held.{Held}
-use Rattle.record.specs.declared.Held.the-variants as held
-use Rattle.record.specs.Row.{namedAt}
 use Rattle.record.specs.Laws.{held-known, named-known}
-use Rattle.index_line.specs.IndexLine.{nameIn}
-use Rattle.index.specs.declared.Found.{Found}
 use Rattle.index.specs.declared.Found.the-variants.{Row, Refused}
-use Rattle.index.specs.Find.{named, judged, rowFrom, rowNamed, rowRead}
-
--- row r of a table with n rows in use is sound, and its name, a span of `names`, is `name`; or is another
-pub record Has (names t : List ℕ) (n : ℕ) (name : List ℕ) (r : ℕ) : Type 0 where
-  pub row : Record
-  pub sound : namedAt t n r (length names) ≡ held.Row row
-  pub same : nameIn names row ≡ name
-
-pub record HasAnother (names t : List ℕ) (n : ℕ) (name : List ℕ) (r : ℕ) : Type 0 where
-  pub row : Record
-  pub sound : namedAt t n r (length names) ≡ held.Row row
-  pub other : nameIn names row ≡ name → ⊥
-
--- row r is the first that has the name
-pub record IsFirst (names t : List ℕ) (n : ℕ) (name : List ℕ) (r : ℕ) : Type 0 where
-  pub here : Has names t n name r
-  pub before : (k : ℕ) → k < r → HasAnother names t n name k
+use Rattle.index.specs.Find.{rowNamed, rowRead}
+use Rattle.index.specs.First.{IsFirst, Wins}
+use Rattle.index.specs.FirstLaws.{from-only-if, from-if}
 
 module _ (names t : List ℕ) (n : ℕ) (name : List ℕ) where
-  -- row q is the first of k rows from r on
-  record From (k r q : ℕ) : Type 0 where
-    low : r ≤ q
-    high : q < r + k
-    here : Has names t n name q
-    before : (j : ℕ) → r ≤ j → j < q → HasAnother names t n name j
-
-  unnamed : (x : Record) → named names x name ≡ false → nameIn names x ≡ name → ⊥
-  unfolding named
-  unnamed x e q = true≢false (sym (rw q (same-refl name)) ∙ e)
-
-  from-only-if : (k r q : ℕ) → rowFrom names t n name k r ≡ Row q → From k r q
-  unfolding rowFrom named
-  from-only-if zero r q h = let z : _≡_ {A = ℕ} 0 1 = cc in absurd (omega arith)
-  from-only-if (suc k) r q h = go (namedAt t n r (length names)) refl h (from-only-if k (suc r) q)
-    where
-      pick : (x : Record) → namedAt t n r (length names) ≡ held.Row x → (b : Bool) → sameBytes (nameIn names x) name ≡ b
-          → cond b (Row r) (rowFrom names t n name k (suc r)) ≡ Row q → (rowFrom names t n name k (suc r) ≡ Row q → From k (suc r) q) → From (suc k) r q
-      pick x s true e m ih =
-          let same : r ≡ q = cc in
-          rw (← same) (record { low = omega arith; high = omega arith; here = record { row = x; sound = s; same = same-true _ _ e }; before = λ j a b. absurd (omega arith) })
-      pick x s false e m ih =
-          let f = ih m in
-          record { low = omega (arith, f .low); high = omega (arith, f .high); here = f .here; before = before f }
-        where
-          before : From k (suc r) q → (j : ℕ) → r ≤ j → j < q → HasAnother names t n name j
-          before f j a b = at (ltb r j) refl
-            where
-              at : (u : Bool) → ltb r j ≡ u → HasAnother names t n name j
-              at true c = f .before j (ltb-true r j c) b
-              at false c = let same : j ≡ r = omega (arith, ltb-false r j c) in rw same (record { row = x; sound = s; other = unnamed x e })
-
-      go : (d : Held) → namedAt t n r (length names) ≡ d → judged names name r d (rowFrom names t n name k (suc r)) ≡ Row q
-          → (rowFrom names t n name k (suc r) ≡ Row q → From k (suc r) q) → From (suc k) r q
-      go (held.Row x) s m ih = pick x s (sameBytes (nameIn names x) name) refl m ih
-      go (held.Refused f) s m ih = let z : _≡_ {A = ℕ} 0 1 = cc in absurd (omega arith)
-
-  has-named : (x : Record) → nameIn names x ≡ name → named names x name ≡ true
-  unfolding named
-  has-named x e = rw e (same-refl name)
-
-  lacks-named : (x : Record) → (nameIn names x ≡ name → ⊥) → named names x name ≡ false
-  unfolding named
-  lacks-named x f = go (sameBytes (nameIn names x) name) refl
-    where
-      go : (b : Bool) → sameBytes (nameIn names x) name ≡ b → b ≡ false
-      go true e = absurd (f (same-true _ _ e))
-      go false e = refl
-
-  from-if : (k r q : ℕ) → From k r q → rowFrom names t n name k r ≡ Row q
-  unfolding rowFrom
-  from-if zero r q f = absurd (omega (arith, f .low, f .high))
-  from-if (suc k) r q f = go (ltb r q) refl (from-if k (suc r) q)
-    where
-      go : (b : Bool) → ltb r q ≡ b → (From k (suc r) q → rowFrom names t n name k (suc r) ≡ Row q) → judged names name r (namedAt t n r (length names)) (rowFrom names t n name k (suc r)) ≡ Row q
-      go true e ih =
-          let x = f .before r (omega arith) (ltb-true r q e) in
-          rw (x .sound, lacks-named (x .row) (x .other))
-          (ih (record { low = ltb-true r q e; high = omega (arith, f .high); here = f .here; before = λ j a b. f .before j (omega arith) b }))
-      go false e ih =
-          let x = f .here in
-          let same : r ≡ q = omega (arith, f .low, ltb-false r q e) in
-          rw (same, x .sound, has-named (x .row) (x .same))
-
   -- over the rows in use
   module _ (r : ℕ) where
     pub found-only-if : rowNamed names t n name ≡ Row r → IsFirst names t n name r
     unfolding rowNamed
-    found-only-if h = let f = from-only-if n 0 r h in record { here = f .here; before = λ k m. f .before k (omega arith) m }
+    found-only-if h = let f = from-only-if names t n name n 0 r h in record { here = f .here; before = λ k m. f .before k (omega arith) m }
 
     pub found-if : IsFirst names t n name r → rowNamed names t n name ≡ Row r
     unfolding rowNamed
     found-if f =
         let x = f .here in
         let used = held-known t n r (x .row) (named-known t n r (length names) (x .row) (x .sound) .0) .in-use in
-        from-if n 0 r (record { low = omega arith; high = omega arith; here = x; before = λ j a b. f .before j b })
+        from-if names t n name n 0 r (record { low = omega arith; high = omega arith; here = x; before = λ j a b. f .before j b })
 
-  -- over the call: the names and the name are within the limit too
-  pub record Wins (r : ℕ) : Type 0 where
-    pub small-names : overLimit (length names) ≡ false
-    pub small-name : overLimit (length name) ≡ false
-    pub is-first : IsFirst names t n name r
-
-  pub wins-only-if : (r : ℕ) → rowRead names t n name ≡ Row r → Wins r
+  pub wins-only-if : (r : ℕ) → rowRead names t n name ≡ Row r → Wins names t n name r
   unfolding rowRead
   wins-only-if r h = go (overLimit (length names)) refl (overLimit (length name)) refl h
     where
       go : (a : Bool) → overLimit (length names) ≡ a → (b : Bool) → overLimit (length name) ≡ b
-          → cond a (Refused TooLong) (cond b (Refused TooLong) (rowNamed names t n name)) ≡ Row r → Wins r
+          → cond a (Refused TooLong) (cond b (Refused TooLong) (rowNamed names t n name)) ≡ Row r → Wins names t n name r
       go true p b q k = let z : _≡_ {A = ℕ} 0 1 = cc in absurd (omega arith)
       go false p true q k = let z : _≡_ {A = ℕ} 0 1 = cc in absurd (omega arith)
       go false p false q k = record { small-names = p; small-name = q; is-first = found-only-if r k }
 
-  pub wins-if : (r : ℕ) → Wins r → rowRead names t n name ≡ Row r
+  pub wins-if : (r : ℕ) → Wins names t n name r → rowRead names t n name ≡ Row r
   unfolding rowRead
   wins-if r w = rw (w .small-names, w .small-name) (found-if r (w .is-first))

@@ -1,4 +1,6 @@
 pub mod Index
 pub mod Find
 pub mod Laws
+pub mod First
+pub mod FirstLaws
 pub mod FirstNamed

@@ -1,7 +1,7 @@
 -- What an index line says, and how one is written.
 use Prim.Native.Nat.{ℕ}
 use mathlib.Core.List.{List, [], _∷_}
-use mathlib.Core.Bool.{Bool, false, cond, not, _&&_}
+use mathlib.Core.Bool.{Bool, true, false, cond, not, _&&_}
 use lib.ListN.{length, getD, take, drop}
 use lib.Dec.{eqb}
 use Rattle.refusal.specs.declared.Refusal.the-variants.{TooLong, EmptyIndexLine}
@@ -14,6 +14,7 @@ use Rattle.record.specs.Row.{namedAt}
 use Rattle.index_line.specs.Fields.{cutAt, Numbers, numbersFrom, textOf, Wrote, wrote, textWritten}
 use Rattle.index_line.specs.Fields.Numbers.{Are, Not}
 use Rattle.index_line.specs.declared.Written.the-variants.{Refused}
+use Rattle.index_line.specs.declared.Entry.{Entry}
 use Rattle.index_line.specs.declared.LineRead.{LineRead}
 use Rattle.index_line.specs.declared.LineRead.the-variants as read
 
@@ -91,6 +92,10 @@ columnsOf x = x .length ∷ x .position .0 ∷ x .«line_bases» ∷ x .«line_w
 -- the line of a name and a record: name, tab, four decimal numbers with tabs between, LF
 unfoldable pub lineOf : List ℕ → Record → List ℕ
 lineOf name x = textOf name (columnsOf x)
+
+-- what it reads back as: the same four numbers behind a name of n bytes, in a plain line
+unfoldable pub entryOf : ℕ → Record → Entry
+entryOf n x = record { «record» = recordOf n (columnsOf x); plain = true }
 
 -- a record's name, which is a span of some bytes
 unfoldable pub nameIn : List ℕ → Record → List ℕ

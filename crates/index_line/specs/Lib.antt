@@ -11,6 +11,8 @@ pub mod OneLine
 pub mod Cut
 pub mod Numbers
 pub mod Laws
+pub mod RoundTripLaws
 pub mod RoundTrip
+pub mod PlainAgainLaws
 pub mod PlainAgain
 pub mod Quick

@@ -1,66 +1,33 @@
 -- A line that is written reads back as the same name and numbers, over the two calls too; and what a plain line says is written as the same
 -- bytes, which PlainAgain.antt makes a theorem over the two calls.
-use Prim.Native.Nat.{ℕ, zero, suc, _+_, _^_, _≤_, _<_}
+use Prim.Native.Nat.{ℕ, _^_, _≤_, _<_}
 use mathlib.Core.Path.{_≡_, refl, sym, ap, _∙_}
 use mathlib.Core.List.{List, [], _∷_, _++_, map, append-assoc}
-use mathlib.Core.Bool.{Bool, true, false, cond, and-false}
+use mathlib.Core.Bool.{true}
 use native.Mathlib.Omega.{arith}
-use lib.ListN.{length, getD, take, length-append, length-take, length-drop}
-use lib.Seq.{take-at, take-take, length-take-le}
-use lib.Dec.{eqb}
-use borrow.Author.Tests.{ne-eqb, le-ltb}
+use lib.ListN.{length, getD, take, length-take}
+use lib.Seq.{take-at}
+use borrow.Author.Tests.{le-ltb}
 use Rattle.refusal.specs.Numbers.{overLimit}
-use Rattle.refusal.specs.declared.Refusal.the-variants.{TooLong}
-use Rattle.lines.specs.Lines.{ends, contentOf}
+use Rattle.lines.specs.Lines.{contentOf}
 use Rattle.record.specs.declared.Record.{Record}
-use Rattle.record.specs.declared.Held.{Held}
 use Rattle.record.specs.declared.Held.the-variants as held
-use Rattle.record.specs.Row.{namedAt, rowAt}
-use Rattle.record.specs.Laws.{HeldRow, held-known, named-known}
+use Rattle.record.specs.Row.{namedAt}
+use Rattle.record.specs.Laws.{held-known, named-known}
 use Rattle.index_line.specs.Bytes.{is}
 use Rattle.index_line.specs.Decimal.{decimalOf}
-use Rattle.index_line.specs.Fields.{cutAt, tabbed, numbersText, textOf, wrote}
-use Rattle.index_line.specs.Writing.{TextPut, no-bytes, text-known}
-use Rattle.index_line.specs.Lacks.{Lacks, lacks-ends, text-lacks, splits-tab}
+use Rattle.index_line.specs.Fields.{tabbed, numbersText, textOf, wrote}
+use Rattle.index_line.specs.Lacks.{Lacks, splits-tab}
 use Rattle.index_line.specs.OneLine.{line-one}
-use Rattle.index_line.specs.Numbers.{Allowed, both, text-reads, reads-say, reads-text, reads-count}
-use Rattle.index_line.specs.Cut.{text-cut, cut-text, cut-most}
-use Rattle.index_line.specs.Ends.{ends-behind, content-lf, plain-lf, plain-content}
-use Rattle.index_line.specs.IndexLine.{fieldsOf, recordOf, contentSays, plainEnd, indexLineSays, readLine, columnsOf, lineOf, nameIn, rowWritten, writtenAs}
+use Rattle.index_line.specs.Numbers.{both, reads-text, reads-count}
+use Rattle.index_line.specs.Cut.{cut-text, cut-most}
+use Rattle.index_line.specs.Ends.{content-lf, plain-lf, plain-content}
+use Rattle.index_line.specs.IndexLine.{entryOf, plainEnd, indexLineSays, readLine, columnsOf, lineOf, nameIn, writtenAs}
 use Rattle.index_line.specs.Laws.{Lined, line-known, fields-cut}
 use Rattle.index_line.specs.declared.Entry.{Entry}
 use Rattle.index_line.specs.declared.LineRead.the-variants as read
 use Rattle.index_line.specs.declared.Written.the-variants as written
-
--- ---- written, then read
-
--- the same four numbers behind a name of n bytes, in a plain line
-unfoldable pub entryOf : ℕ → Record → Entry
-entryOf n x = record { «record» = recordOf n (columnsOf x); plain = true }
-
-lined-allowed : (x : Record) → Lined x → (i : ℕ) → i < 4 → Allowed (2 + i) (getD (columnsOf x) i 0)
-lined-allowed x p zero h = (p .fits-length, and-false (eqb (x .length) 0))
-lined-allowed x p (suc zero) h = (p .fits-position, and-false (eqb (x .position .0) 0))
-lined-allowed x p (suc (suc zero)) h = (p .fits-bases, rw (ne-eqb (x .«line_bases») 0 (λ e. omega (arith, p .some-bases))))
-lined-allowed x p (suc (suc (suc zero))) h = (p .fits-width, rw (ne-eqb (x .«line_width») 0 (λ e. omega (arith, p .some-width))))
-lined-allowed x p (suc (suc (suc (suc i)))) h = absurd (omega arith)
-
--- a name without a tab and numbers, as content
-fields-some : (l : List ℕ) → 0 < length l → fieldsOf l ≡ cutAt 4 l
-unfolding fieldsOf
-fields-some [] h = absurd (omega arith)
-fields-some (b ∷ l) h = refl
-
-content-written : (line : ℕ) (name : List ℕ) (x : Record) → Lacks (is 9) name → Lined x → contentSays line (name ++ numbersText (columnsOf x)) ≡ read.Row (entryOf (length name) x)
-unfolding contentSays entryOf tabbed
-content-written line name x h p =
-    rw (fields-some (name ++ numbersText (columnsOf x)) (simp length-append (omega arith)), text-cut name (columnsOf x) h, reads-say line (text-reads (columnsOf x) 2 (lined-allowed x p)))
-
-ends-digit : (name : List ℕ) (n : ℕ) (ns : List ℕ) → ends 13 (name ++ numbersText (n ∷ ns)) ≡ false
-unfolding tabbed
-ends-digit name n ns =
-    ends-behind 13 name 9 (decimalOf n ++ numbersText ns)
-    ∙ lacks-ends 13 (numbersText (n ∷ ns)) (text-lacks (is 13) (λ b l. ne-eqb b 13 (λ e. omega arith)) refl (n ∷ ns))
+use Rattle.index_line.specs.RoundTripLaws.{content-written, ends-digit, line-written, row-lined, line-front, line-text}
 
 -- a line that is written reads back as the same name bytes and the same four numbers, and is plain
 pub written-reads : (line : ℕ) (name : List ℕ) (x : Record) → Lacks (is 9) name → Lined x → indexLineSays line (lineOf name x) ≡ read.Row (entryOf (length name) x)
@@ -69,38 +36,6 @@ written-reads line name x h p =
     let e = ends-digit name (x .length) (x .position .0 ∷ x .«line_bases» ∷ x .«line_width» ∷ []) in
     rw (← append-assoc name (numbersText (columnsOf x)) (10 ∷ []), plain-lf _ e, content-lf _ e, content-written line name x h p)
 
--- ---- the two calls
-
--- a name inside the bytes has its length
-pub name-long : (names : List ℕ) (x : Record) → x .«name_start» + x .«name_length» ≤ length names → length (nameIn names x) ≡ x .«name_length»
-unfolding nameIn
-name-long names x h = length-take-le _ _ (simp length-drop (omega arith))
-
--- what is known of a line that the call wrote: the row's, in k bytes at the front of the output
-pub record LineWritten (names t : List ℕ) (n r : ℕ) (out : List ℕ) (k : ℕ) (after : List ℕ) : Type 0 where
-  pub row : Record
-  pub held : namedAt t n r (length names) ≡ held.Row row
-  pub name : length (nameIn names row) ≡ row .«name_length»
-  pub put : TextPut (nameIn names row) (columnsOf row) out k after
-
-pub line-written : (names t : List ℕ) (n r : ℕ) (out : List ℕ) (k : ℕ) (after : List ℕ) → writtenAs names t n r out ≡ wrote (written.Bytes k) after
-    → LineWritten names t n r out k after
-unfolding writtenAs
-line-written names t n r out k after h = go (overLimit (length names)) (namedAt t n r (length names)) refl h
-  where
-    go : (u : Bool) (o : Held) → namedAt t n r (length names) ≡ o → cond u (wrote (written.Refused TooLong) out) (rowWritten names out o) ≡ wrote (written.Bytes k) after
-        → LineWritten names t n r out k after
-    go true o e q = absurd (no-bytes _ out k after q)
-    go false (held.Refused f) e q = absurd (no-bytes _ out k after q)
-    go false (held.Row x) e q =
-        record { row = x; held = e; name = name-long names x (named-known t n r (length names) x e .1); put = text-known (nameIn names x) (columnsOf x) out k after q }
-
--- the numbers of a table, which is one of 64-bit numbers
-row-lined : (t : List ℕ) (n r : ℕ) (x : Record) → ((i : ℕ) → getD t i 0 < 2 ^ 64) → HeldRow t n r x → Lined x
-unfolding rowAt
-row-lined t n r x f h = let e = h .numbers in
-    record { some-bases = h .some-bases; some-width = h .some-width; fits-length = rw e (f _); fits-position = rw e (f _); fits-bases = rw e (f _); fits-width = rw e (f _) }
-
 -- the line that the one call writes reads back by the other, if it is within the limit: the row's name bytes at its front, and the row's four
 -- numbers
 pub record ReadBack (names t : List ℕ) (n r k : ℕ) (after : List ℕ) : Type 0 where
@@ -108,14 +43,6 @@ pub record ReadBack (names t : List ℕ) (n r k : ℕ) (after : List ℕ) : Type
   pub held : namedAt t n r (length names) ≡ held.Row row
   pub read : readLine (take k after) ≡ read.Row (entryOf (row .«name_length») row)
   pub name : take (row .«name_length») after ≡ nameIn names row
-
--- the front of a line's bytes is its name
-line-front : (name : List ℕ) (x : Record) (k : ℕ) (after : List ℕ) → take k after ≡ textOf name (columnsOf x) → take (length name) after ≡ name
-unfolding textOf
-line-front name x k after e =
-    let rest : List ℕ = numbersText (columnsOf x) ++ (10 ∷ []) in
-    let n : length name ≤ k = omega (arith, ap length e, length-append name rest, length-take k after) in
-    sym (take-take (length name) k after n) ∙ (ap (take (length name)) e ∙ take-at name rest (length name) refl)
 
 pub reads-back : (names t : List ℕ) (n r : ℕ) (out : List ℕ) (k : ℕ) (after : List ℕ) → ((i : ℕ) → getD t i 0 < 2 ^ 64)
     → writtenAs names t n r out ≡ wrote (written.Bytes k) after → k ≤ 1099511627776 → ReadBack names t n r k after
@@ -132,20 +59,6 @@ reads-back names t n r out k after f h m =
       read = rw (le-ltb _ _ small, w .put .front, ← w .name, line-one (nameIn names x) x (w .put .whole), written-reads 1 (nameIn names x) x untabbed lined);
       name = rw (← w .name) (line-front (nameIn names x) x k after (w .put .front));
     }
-
--- ---- read, then written
-
-four : (vs : List ℕ) (n : ℕ) → length vs ≡ 4 → columnsOf (recordOf n vs) ≡ vs
-four [] n h = absurd (omega arith)
-four (a ∷ []) n h = absurd (omega arith)
-four (a ∷ b ∷ []) n h = absurd (omega arith)
-four (a ∷ b ∷ c ∷ []) n h = absurd (omega arith)
-four (a ∷ b ∷ c ∷ d ∷ []) n h = refl
-four (a ∷ b ∷ c ∷ d ∷ e ∷ r) n h = absurd (omega arith)
-
-line-text : (name vs : List ℕ) (n : ℕ) (fs : List (List ℕ)) → length vs ≡ 4 → map decimalOf vs ≡ fs → lineOf name (recordOf n vs) ≡ name ++ (tabbed fs ++ (10 ∷ []))
-unfolding lineOf textOf
-line-text name vs n fs h e = ap (textOf name) (four vs n h) ∙ rw e
 
 -- the line of what a plain line says has the same bytes
 pub plain-writes : (line : ℕ) (l : List ℕ) (e : Entry) → indexLineSays line l ≡ read.Row e → e .plain ≡ true

@@ -39,11 +39,11 @@ use Rattle.index_line.specs.Bytes.{is, firstWhere}
 use Rattle.index_line.specs.Fields.{numbersText, textOf, splits, wrote, frontWritten, textWritten}
 use Rattle.index_line.specs.declared.Written.the-variants.{Bytes}
 use Rattle.index_line.specs.Lacks.{Lacks, lacks-head, lacks-tail, lacks-cons, lacks-less, text-lacks}
-use Rattle.index_line.specs.IndexLine.{columnsOf, nameOf, nameIn}
+use Rattle.index_line.specs.IndexLine.{entryOf, columnsOf, nameOf, nameIn}
 use Rattle.index_line.specs.IndexLine as index
 use Rattle.index_line.specs.Numbers.{both}
 use Rattle.index_line.specs.Laws.{Lined, line-sound}
-use Rattle.index_line.specs.RoundTrip.{entryOf, written-reads}
+use Rattle.index_line.specs.RoundTrip.{written-reads}
 use Rattle.indexer.specs.Rule.{Verdict, good, bad, SequenceRule, judgedBy, sequenceBy, definedBy, stepped, groupBy, groupsBy, fileBy, callBy}
 use Rattle.indexer.specs.Index.{lineOf, fitsLast, restOf, judge, rowOf}
 use Rattle.index.specs.Index.{indexAt, indexIn}

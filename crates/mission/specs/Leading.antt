@@ -25,11 +25,11 @@ use Rattle.index_line.specs.Bytes.{is}
 use Rattle.index_line.specs.Lacks.{Lacks}
 use Rattle.index_line.specs.Fields.{wrote}
 use Rattle.index_line.specs.declared.Written.the-variants.{Bytes}
-use Rattle.index_line.specs.IndexLine.{columnsOf, lineOf, nameIn, writtenAs}
+use Rattle.index_line.specs.IndexLine.{entryOf, columnsOf, lineOf, nameIn, writtenAs}
 use Rattle.index_line.specs.IndexLine as index
 use Rattle.index_line.specs.declared.LineRead.the-variants.{Row}
 use Rattle.index_line.specs.Laws.{Lined}
-use Rattle.index_line.specs.RoundTrip.{entryOf, written-reads}
+use Rattle.index_line.specs.RoundTrip.{written-reads}
 use Rattle.index.specs.Index.{linesSay, indexAt}
 use Rattle.checker.specs.Check.{spanOf}
 use Rattle.checker.specs.Accepts.{recordAt, sequenceAt, Matches, limit, Accepts}

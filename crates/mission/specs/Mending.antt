@@ -17,7 +17,7 @@ use Rattle.region.specs.Region.{startOf}
 use Rattle.region.specs.Exact.{exactRead}
 use Rattle.region.specs.Changed.{changedAt}
 use Rattle.checker.specs.Accepts.{Accepts}
-use Rattle.checker.specs.Mended.{BaseAt, Plain}
+use Rattle.checker.specs.Mend.{BaseAt, Plain}
 use Rattle.mission.specs.TableOf.{recordCount, TableOf}
 use Rattle.mission.specs.Tables.{accepted-table}
 use Rattle.mission.specs.Covers.{Covers}

@@ -19,7 +19,8 @@ use Rattle.region.specs.Region.{Outcome, refuses, startOf, endOf}
 use Rattle.region.specs.Exact.{exactOf, exactRead}
 use Rattle.region.specs.Dependence.{InRegion, exact-same}
 use Rattle.region.specs.Changed.{changedAt, changed-refused, exact-changed}
-use Rattle.checker.specs.Mended.{BaseAt, Plain, records-count, record-same, place-same, byte-here, byte-other}
+use Rattle.checker.specs.Mend.{BaseAt, Plain}
+use Rattle.checker.specs.MendedLaws.{records-count, record-same, place-same, byte-here, byte-other}
 use Rattle.mission.specs.TableOf.{baseCount, RowOf, TableOf}
 use Rattle.mission.specs.Covers.{Covers}
 

@@ -8,4 +8,6 @@ pub mod Judge
 pub mod Dependence
 pub mod Changed
 pub mod Refusals
+pub mod ByName
+pub mod SplitLaws
 pub mod Split

@@ -1,4 +1,5 @@
 pub mod Answer
 pub mod Told
 pub mod Laws
+pub mod PlainAgainLaws
 pub mod PlainAgain

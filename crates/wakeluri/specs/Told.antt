@@ -6,6 +6,7 @@ use lib.ListN.{length}
 use Rattle.refusal.specs.declared.Refusal.the-variants.{TooLong}
 use Rattle.refusal.specs.Numbers.{numbersOf, overLimit}
 use Rattle.lines.specs.Lines.{readLine}
+use Rattle.record.specs.declared.Record.{Record}
 use Rattle.record.specs.Row.{withRows}
 use Rattle.sequence.specs.Read.{Left}
 use Rattle.table.specs.Fill.{Found}
@@ -14,6 +15,7 @@ use Rattle.region.specs.Region.{Outcome}
 use Rattle.complement.specs.Complement as complement
 use Rattle.byte_table.specs.Numbers.{numbersIn, withNumbers}
 use Rattle.wakeluri.specs.declared.answer.Answer.{Answer}
+use Rattle.wakeluri.specs.declared.answer.RowAnswer.{RowAnswer}
 use Rattle.wakeluri.specs.declared.answer.SpanAnswer.{SpanAnswer}
 use Rattle.wakeluri.specs.Answer.{noSpan, spanOf, regionAnswer, writtenAnswer, complementAnswer, sequenceAnswer, filledAnswer, lineAnswer}
 
@@ -48,3 +50,14 @@ filledTold f t = tells (filledAnswer (length (f .rows)) (f .stop)) (withNumbers 
 -- a line read: the size limit first
 unfoldable pub lineTold : List ℕ → ℕ → SpanAnswer
 lineTold s at = cond (overLimit (length s)) (spanOf (numbersOf TooLong) 0 noSpan 0) (lineAnswer (readLine s (record { at = at })))
+
+-- the six numbers of a row, as they are told
+abbrev pub toldRow : RowAnswer → Record
+toldRow a = record {
+  «name_start» = a .«name_start»;
+  «name_length» = a .«name_length»;
+  length = a .length;
+  position = record { 0 = a .position };
+  «line_bases» = a .«line_bases»;
+  «line_width» = a .«line_width»;
+}

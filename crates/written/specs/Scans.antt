@@ -8,7 +8,8 @@ use lib.Dec.{eqb}
 use native.Mathlib.Omega.{arith}
 use Rattle.lines.specs.Lines.{lines, seqOf, seqAt, sumWidths}
 use Rattle.sequence.specs.Scan.{scanAll}
-use Rattle.sequence.specs.Agree.{has, Clean, rules-agree}
+use Rattle.sequence.specs.Clean.{has, Clean}
+use Rattle.sequence.specs.Agree.{rules-agree}
 use Rattle.index_line.specs.Bytes.{is}
 use Rattle.writer.specs.Text.{definitionText, rowsOf, lineOf, rowsText, recordText, anyOf, barred}
 use Rattle.writer.specs.Rows.{none-both, none-less, base-no-cr, base-no-prefix, bases-line, Good, row, good-rows, good-lines, good-seq}

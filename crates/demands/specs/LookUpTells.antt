@@ -1,0 +1,25 @@
+-- What looking up and then reading tell at the entry points, as numbers.
+use Prim.Native.Nat.{ℕ}
+use mathlib.Core.Path.{_≡_}
+use mathlib.Core.List.{List}
+use Rattle.wakeluri.specs.declared.answer.Answer.{Answer}
+use Rattle.wakeluri.specs.Told.{Told, tells}
+
+-- the numbers of the refusals that come from looking up
+pub data FirstTells : ℕ → Type 0 where
+  told-25 : FirstTells 25
+  told-15 : FirstTells 15
+
+-- and what comes from the read: no refusal, or one of four
+pub data SecondTells : ℕ → Type 0 where
+  told-0 : SecondTells 0
+  told-16 : SecondTells 16
+  told-17 : SecondTells 17
+  told-14 : SecondTells 14
+  told-18 : SecondTells 18
+
+-- what one call told and left is what two calls tell and leave; the second is made of the row that the first tells, and only if that tells no
+-- refusal
+pub record Split (one : Told) (first : Answer) (Second : ℕ → Answer → List ℕ → Type 0) (out : List ℕ) : Type 0 where
+  pub refused : (first .refusal ≡ 0 → ⊥) → FirstTells (first .refusal) × (one ≡ tells first out)
+  pub read : first .refusal ≡ 0 → (second : Answer) (out′ : List ℕ) → Second (first .count) second out′ → (one ≡ tells second out′) × SecondTells (second .refusal)
