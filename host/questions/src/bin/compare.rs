@@ -129,7 +129,7 @@ fn run(asked: &Asked) -> io::Result<bool> {
     };
     // the original has to be told how many numbers a row has
     let words = WORDS.to_string();
-    let told: &[&str] = if asked.rules == Rules::Original { &["--words", &words] } else { &[] };
+    let told: &[&str] = if asked.rules == Rules::Original { &["--words", &words, "--places"] } else { &[] };
     let mut counts = Counts::default();
     loop {
         let mut batch = String::new();
