@@ -105,6 +105,7 @@ impl Speaker for Library {
             ("wfa", [Bytes(name), MaybeBytes(description), Bytes(bases), Number(width), Output(out)]) => {
                 counted(entry::write_record(name, description.as_deref(), bases, *width, out))
             }
+            ("wsq", [Bytes(bases), Number(width), Output(out)]) => counted(entry::write_sequence(bases, *width, out)),
             ("chk", [Bytes(fasta), Bytes(index)]) => told(entry::check(fasta, index).no(), ()),
             ("prg", [Bytes(input)]) => told(None, vec![Bytes(output(self.program.as_ref()?, input)?)]),
             _ => return None,

@@ -17,7 +17,7 @@ use questions::form::Value::{self, Bounds, Bytes, MaybeBytes, Number, Numbers, O
 use questions::form::{Answer, No, Speaker};
 use reads::{complemented, exact, raw, sequence};
 use rows::{file_rows, find, index_content, index_rows, is_plain, record, write_line};
-use writer::write_record;
+use writer::{write_record, write_sequence};
 
 /// No byte input may be longer.
 const LIMIT: usize = 1 << 40;
@@ -91,6 +91,7 @@ impl Speaker for Model {
             ("wfa", [Bytes(name), MaybeBytes(description), Bytes(bases), Number(width), Output(out)]) => {
                 write_record(name, description.as_deref(), bases, *width, out).into()
             }
+            ("wsq", [Bytes(bases), Number(width), Output(out)]) => write_sequence(bases, *width, out).into(),
             ("chk", [Bytes(fasta), Bytes(index)]) => check(fasta, index).into(),
             ("prg", [Bytes(input)]) => Ok(vec![Bytes(program(input))]).into(),
             _ => return None,

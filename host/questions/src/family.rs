@@ -113,8 +113,9 @@ pub const FAMILIES: &[Family] = &[
     // bases: the bytes of a complement
     asks("cmp", &[Bytes, Output], Always(&[Number]), &[14, 24], Memory),
     asks("rev", &[Bytes, Output], Always(&[Number]), &[14, 24], Memory),
-    // a record that is written: its bytes
+    // a record that is written, and bases alone: its bytes
     asks("wfa", &[Bytes, MaybeBytes, Bytes, Number, Output], Always(&[Number]), &[14, 27, 28, 29, 30], Refusals),
+    asks("wsq", &[Bytes, Number, Output], Always(&[Number]), &[14, 27, 30], Lacks),
     // the checker; the program's output
     asks("chk", &[Bytes, Bytes], IfOk(&[]), &[2, 3, 4, 9, 10, 11, 12, 19, 20, 21, 22, 23], Lacks),
     asks("prg", &[Bytes], Bare(&[Bytes]), &[], Refusals),
@@ -170,6 +171,11 @@ wfa x x x0a 0 x => no 27 0 0 0 x
 wfa x730c x x0a 1 x => no 28 0 0 0 x
 wfa x730b x x0a 1 x => no 29 0 0 0 x
 wfa x730b x0b x413e 1 x => no 30 0 0 0 x
+wsq x4143475441 3 x2e2e2e2e2e2e2e2e => ok 7 x4143470a54410a2e
+wsq x 3 x => ok 0 x
+wsq x 0 x => no 27 0 0 0 x
+wsq x410d 1 x => no 30 0 0 0 x
+wsq x41 1 x2e => no 14 2 0 0 x2e
 chk x3e730a414347540a41430a x730936093309340936 => no 23 1 5
 chk x x => ok
 prg x3e730a41 => x7309310933093109310a

@@ -59,12 +59,15 @@ fn answer(family: &Family, lends: bool, told: &[&str]) -> Option<(Vec<u8>, Vec<u
             &told[1..]
         }
     };
-    for word in words.iter().take_while(|word| **word != "?") {
-        if let Some(table) = form::table(word) {
+    let mut all_told = true;
+    for word in words {
+        if *word == "?" {
+            all_told = false;
+        } else if let Some(table) = form::table(word) {
             put(if lends { &mut memory } else { &mut numbers }, &table);
         } else if let Some(bytes) = form::bytes(word) {
             memory = bytes;
-        } else {
+        } else if all_told {
             put(&mut numbers, &[word.parse().ok()?]);
         }
     }

@@ -196,6 +196,19 @@ pub(super) fn written_bases() -> Source {
     Box::new(bases.flat_map(|bases| WIDTHS.map(|width| written(b"s", None, &bases, width)).into_iter().flatten()))
 }
 
+pub(super) fn written_sequence() -> Source {
+    Box::new(written_bases().map(without_definition))
+}
+
+/// The bases, the width and the room of a record that is to be written; the room is shorter by a definition line `>s`.
+pub(super) fn without_definition(mut record: Vec<Value>) -> Vec<Value> {
+    let mut sequence = record.split_off(2);
+    if let Some(Output(out)) = sequence.last_mut() {
+        out.truncate(out.len().saturating_sub(3));
+    }
+    sequence
+}
+
 /// The program at its limits: bytes and rows, one below, at, and above.
 pub(super) fn program_limits() -> Source {
     let long = [65_535, 65_536, 65_537].map(|length: usize| [&b">s\n"[..], &vec![b'A'; length - 3]].concat());

@@ -5,6 +5,7 @@ use super::by_chance::{
     some_room, some_rows, some_table, spaced_file, wanted, written_length,
 };
 use super::chance::Chance;
+use super::every::without_definition;
 use super::{Source, every};
 use crate::family::Kind;
 use crate::form::Value::{self, Bounds, Bytes, Number, Output, Rows, Table};
@@ -50,6 +51,7 @@ pub(super) const MAKERS: &[Maker] = &[
     maker("cmp", 16, bases, &[every::complement]),
     maker("rev", 16, bases, &[every::complement]),
     maker("wfa", 32, written_record, &[every::written_name, every::written_description, every::written_bases]),
+    maker("wsq", 16, written_sequence, &[every::written_sequence]),
     maker("chk", 32, pair, &[every::check]),
     maker("prg", 1, program, &[every::program_limits]),
 ];
@@ -244,6 +246,11 @@ fn written_record(chance: &mut Chance) -> Vec<Value> {
     let width = about(chance, near as u64);
     let room = some_room(chance, written_length(&name, description.as_deref(), &bases, width));
     vec![Bytes(name), Value::MaybeBytes(description), Bytes(bases), Number(width), Output(room)]
+}
+
+/// The bases and the width of a record that is written, alone.
+fn written_sequence(chance: &mut Chance) -> Vec<Value> {
+    without_definition(written_record(chance))
 }
 
 fn pair(chance: &mut Chance) -> Vec<Value> {
