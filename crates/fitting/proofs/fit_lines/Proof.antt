@@ -27,15 +27,21 @@ add-named c = search needs
 named-requires : tie.Need-named-requires
 named-requires c κs = search needs
 
+add-described : tie.Need-add-described
+add-described c = search needs
+
+described-requires : tie.Need-described-requires
+described-requires c κs = search needs
+
 enum-known-placed : tie.Need-enum-known-placed
 enum-known-placed c = search needs
 
 returns : tie.Need-returns
 returns c =
-    let w = c .before .before .before .before .before in
+    let w = c .before .before .before .before .before .before .before .before .before in
     let n = w .before .before in
-    rw (c .named .ensures, c .before .before .unnamed2 .ensures)
-    (fit-there _ _ _ _ (omega arith) _ (n .numbers-at .ensures) _ (rw (w .before .unnamed .ensures) at (w .walk-sequence .ensures)) (c .before .before .before .enum-told .given .1))
+    rw (c .described .ensures, c .before .before .named .ensures, c .before .before .before .before .unnamed2 .ensures)
+    (fit-there _ _ _ _ (omega arith) _ (n .numbers-at .ensures) _ (rw (w .before .unnamed .ensures) at (w .walk-sequence .ensures)) (c .before .before .before .before .before .before .before .enum-told .given .1))
 
 returns-2 : tie.Need-returns-2
 returns-2 c =
@@ -54,6 +60,8 @@ fit-lines-spec =
     unnamed-requires-2
     add-named
     named-requires
+    add-described
+    described-requires
     enum-known-placed
     returns
     returns-2)

@@ -24,6 +24,12 @@ add-named c = search needs
 named-requires : tie.Need-named-requires
 named-requires c κs = search needs
 
+add-described : tie.Need-add-described
+add-described c = search needs
+
+described-requires : tie.Need-described-requires
+described-requires c κs = search needs
+
 enum-told : tie.Need-enum-told
 enum-told c = search needs
 
@@ -32,9 +38,9 @@ fit-lines-requires c κs = search needs
 
 returns : tie.Need-returns
 returns c =
-    let f = c .before .before .before .before in
+    let f = c .before .before .before .before .before .before .before .before in
     let n = f .before .before in
-    rw (c .named .ensures, c .before .before .unnamed .ensures)
+    rw (c .described .ensures, c .before .before .named .ensures, c .before .before .before .before .unnamed .ensures)
     (even-record _ _ _ _ (omega arith) _ (n .before .sequence-line .ensures) _ _ (rw (f .found .given .1) at (n .even-lines .ensures)))
 
 returns-2 : tie.Need-returns-2
@@ -50,6 +56,8 @@ fit-sequence-spec =
     unnamed-requires
     add-named
     named-requires
+    add-described
+    described-requires
     enum-told
     fit-lines-requires
     returns
