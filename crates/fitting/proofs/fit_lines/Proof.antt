@@ -1,6 +1,7 @@
 -- `fitting::fit_lines` meets its contract: the walk from the numbers' position on says whether they lead to every base.
 -- Assumes nothing.
 use borrow.Author.Needs.{needs}
+use Prim.Native.Nat.{_<_, _+_, _^_}
 use native.Mathlib.Omega.{arith}
 use Rattle.fitting.specs.Laws.{fit-there, fit-elsewhere}
 use Rattle.fitting.proofs.fit_lines.Statement.{statement}
@@ -8,6 +9,10 @@ use Rattle.fitting.proofs.fit_lines.Tie as tie
 
 numbers-at-requires : tie.Need-numbers-at-requires
 numbers-at-requires c κs = search needs
+
+-- the description begins in the file
+fits : (c : tie.After-numbers-at) → c .before .before .args .at + c .before .before .args .d .description .start < 2 ^ 64
+fits c = omega (arith, c .before .before .pre)
 
 unnamed-requires : tie.Need-unnamed-requires
 unnamed-requires c κs = search needs
@@ -28,7 +33,7 @@ named-requires : tie.Need-named-requires
 named-requires c κs = search needs
 
 add-described : tie.Need-add-described
-add-described c = search needs
+add-described c = omega (arith, fits (c .before .before .before .before .before .before .before .before .before .before))
 
 described-requires : tie.Need-described-requires
 described-requires c κs = search needs

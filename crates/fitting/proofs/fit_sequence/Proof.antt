@@ -1,6 +1,7 @@
 -- `fitting::fit_sequence` meets its contract: even lines are the record's row, and any others are judged one by one.
 -- Assumes nothing.
 use borrow.Author.Needs.{needs}
+use Prim.Native.Nat.{_<_, _+_, _^_}
 use native.Mathlib.Omega.{arith}
 use Rattle.fitting.specs.EvenLaws.{even-record}
 use Rattle.fitting.proofs.fit_sequence.Statement.{statement}
@@ -8,6 +9,10 @@ use Rattle.fitting.proofs.fit_sequence.Tie as tie
 
 sequence-line-requires : tie.Need-sequence-line-requires
 sequence-line-requires c κs = search needs
+
+-- the description begins in the file
+fits : (c : tie.After-sequence-line) → c .before .before .args .at + c .before .before .args .d .description .start < 2 ^ 64
+fits c = omega (arith, c .before .before .pre)
 
 even-lines-requires : tie.Need-even-lines-requires
 even-lines-requires c κs = (c .before .before .pre .1, c .sequence-line .ensures)
@@ -25,7 +30,7 @@ named-requires : tie.Need-named-requires
 named-requires c κs = search needs
 
 add-described : tie.Need-add-described
-add-described c = search needs
+add-described c = omega (arith, fits (c .before .before .before .before .before .before .before .before .before .before))
 
 described-requires : tie.Need-described-requires
 described-requires c κs = search needs
