@@ -7,3 +7,4 @@ pub mod files;
 pub mod rows;
 pub mod scan;
 pub mod text;
+pub mod writing;
