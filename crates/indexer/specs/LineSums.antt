@@ -99,7 +99,6 @@ kept-less true zero k = omega arith
 kept-less false zero k = omega arith
 kept-less t (suc n) k = omega arith
 
-
 -- a final whitespace is no byte of a name
 run-chop : (b : ℕ) (s : List ℕ) → isSpace b ≡ true → run (spaced false) (chop b s) ≡ run (spaced false) s
 unfolding run chop

@@ -38,7 +38,7 @@ pub record DescribedAs (f : List ℕ) (at : ℕ) (g : Group) (x : Record) : Type
 record DescribedBefore (f : List ℕ) (start : ℕ) (g : Group) (x : Record) : Type 0 where
   at : ℕ
   begins : at + length (g .def) ≡ start
-  as : DescribedAs f at g x
+  row : DescribedAs f at g x
 
 described : (f : List ℕ) (at : ℕ) (g : Group) (gs : List Group) (d : Definition) → FirstGroup f at g gs → definitionSays (g .def) ≡ Named d → (n p b w : ℕ)
     → DescribedBefore f (at + length (g .def)) g (rowFor at d n p b w)
@@ -46,7 +46,7 @@ described f at g gs d h e n p b w =
     record {
       at = at;
       begins = refl;
-      as = record { said = d; defined = e; start = refl; count = refl; bytes = go (d .description .length) refl };
+      row = record { said = d; defined = e; start = refl; count = refl; bytes = go (d .description .length) refl };
     }
   where
     go : (k : ℕ) → d .description .length ≡ k → take k (drop (describedAt (at + d .description .start) k) f) ≡ spanOf (g .def) (d .description)
@@ -64,4 +64,4 @@ pub rows-described : (rule : Rule) (f : List ℕ) (k : ℕ) → k < length (rows
 rows-described rule f k h =
     let b = along-at (along-file (ruleOf rule) (DescribedBefore f) f (row-described rule f)) noRow k h in
     let e : b .at ≡ definitionAt (groups (lines f)) k = omega (arith, b .begins) in
-    rw e at (b .as)
+    rw e at (b .row)

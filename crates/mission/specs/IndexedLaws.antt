@@ -129,7 +129,7 @@ span-bytes f at l ls p h w =
 pub name-bytes : (f : List ℕ) (at : ℕ) (l : List ℕ) (ls : List (List ℕ)) (d : Definition) (q : List (List ℕ)) → lines (drop at f) ≡ l ∷ ls → definitionSays l ≡ Named d
     → nameIn f (rowOf at (length l) d q) ≡ spanOf l (d .name)
 unfolding nameIn
-name-bytes f at l ls d q h e = span-bytes f at l ls (d .name) h (name-within l d e .1 .1)
+name-bytes f at l ls d q h e = span-bytes f at l ls (d .name) h (name-within l d e .2)
 
 -- a description that lies in its line, which begins at an offset and lies in the file, lies in the file
 pub description-inside : (f l : List ℕ) (at : ℕ) (d : Definition) → definitionSays l ≡ Named d → at + length l ≤ length f
