@@ -68,11 +68,12 @@ told-sound r x = go (eqb (x .«line_bases») 0) (eqb (x .«line_width») 0)
 told-named : (bytes r : ℕ) (h : Held) → namedIn bytes r (toldAs r h) ≡ toldAs r (namedIn bytes 0 h)
 unfolding namedIn toldAs
 told-named bytes r (held.Refused f) = refl
-told-named bytes r (held.Row x) = go (ltb bytes (x .«name_start» + x .«name_length»))
+told-named bytes r (held.Row x) = go (ltb bytes (x .«name_start» + x .«name_length»)) (ltb bytes (x .«description_start» + x .«description_length»))
   where
-    go : (b : Bool) → cond b (badRow r) (held.Row x) ≡ toldAs r (cond b (badRow 0) (held.Row x))
-    go true = refl
-    go false = refl
+    go : (b d : Bool) → cond b (badRow r) (cond d (badRow r) (held.Row x)) ≡ toldAs r (cond b (badRow 0) (cond d (badRow 0) (held.Row x)))
+    go true d = refl
+    go false true = refl
+    go false false = refl
 
 -- a table of one row, which has the numbers of row r
 module _ (one t : List ℕ) (n r : ℕ) (h : n ≤ rowCount t) (k : r < n) (e : one ≡ take rowWords (drop (r * rowWords) t)) where
@@ -87,7 +88,7 @@ module _ (one t : List ℕ) (n r : ℕ) (h : n ≤ rowCount t) (k : r < n) (e : 
   unfolding rowAt
   one-row =
       let z : getD one 0 0 ≡ getD t (r * rowWords) 0 = simp add-zero at (one-number 0 (lit< tt)) in
-      rw (z, one-number 1 (lit< tt), one-number 2 (lit< tt), one-number 3 (lit< tt), one-number 4 (lit< tt), one-number 5 (lit< tt))
+      rw (z, one-number 1 (lit< tt), one-number 2 (lit< tt), one-number 3 (lit< tt), one-number 4 (lit< tt), one-number 5 (lit< tt), one-number 6 (lit< tt), one-number 7 (lit< tt))
 
   alone-held : heldAt t n r ≡ toldAs r (heldAt one 1 0)
   alone-held =
@@ -117,7 +118,7 @@ one-words : (z : List ℕ) (x : Record) → length z ≡ rowWords → withRow z 
 unfolding withRow rowCount wordsOf
 one-words z x e =
     rw e
-    (sets-eq (wordsOf x) z 0 (omega arith) ∙ ap (λ (w : List ℕ). wordsOf x ++ w) (drop-of-length-le z {i = 6} (omega arith)) ∙ append-nil (wordsOf x))
+    (sets-eq (wordsOf x) z 0 (omega arith) ∙ ap (λ (w : List ℕ). wordsOf x ++ w) (drop-of-length-le z {i = rowWords} (omega arith)) ∙ append-nil (wordsOf x))
 
 -- by how many rows the table has
 module _ (t : List ℕ) (r : ℕ) (x : Record) (m : ℕ) (e : m ≡ rowCount (numbersIn t)) where

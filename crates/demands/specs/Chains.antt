@@ -23,7 +23,7 @@ use Rattle.mission.specs.TableOf.{recordCount, Gives, TableOf}
 use Rattle.mission.specs.TableLaws.{accepted-gives}
 use Rattle.mission.specs.Tables.{indexed-gives, indexed-leads}
 use Rattle.demands.specs.Calls.{ReadIndex, IndexFile, WriteIndexLine}
-use Rattle.demands.specs.Host.{AreBytes, Filled, LineNeeds, joined}
+use Rattle.demands.specs.Host.{AreBytes, rowBytes, Filled, LineNeeds, joined}
 use Rattle.demands.specs.TableBytes.{rows-room}
 use Rattle.demands.specs.Laws.{found-ended, left-answer, left-numbers, left-table, joined-lines, front-is, front-needs, row-fronted}
 
@@ -44,7 +44,7 @@ pub record Ready (file table′ : List ℕ) (filled : Answer) : Type 0 where
   pub table : TableOf file (numbersIn table′) (filled .count)
 
 -- an accepted index is read
-pub index-ready : (file index table table′ : List ℕ) (filled : Answer) → AreBytes table → Accepts file index → recordCount file * 48 ≤ length table → ReadIndex index table filled table′
+pub index-ready : (file index table table′ : List ℕ) (filled : Answer) → AreBytes table → Accepts file index → recordCount file * rowBytes ≤ length table → ReadIndex index table filled table′
     → Ready file table′ filled
 index-ready file index table table′ filled bytes accepted room read =
     let g : Gives file (indexRows index table) (size table) = accepted-gives file index accepted (size table) (rows-room table (recordCount file) room) in

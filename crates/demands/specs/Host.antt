@@ -1,8 +1,9 @@
 -- What a host sees: the bytes that it lends, the lines that it joins, and what an answer tells it.
-use Prim.Native.Nat.{ℕ, zero, suc, _≤_, _<_}
+use Prim.Native.Nat.{ℕ, zero, suc, _*_, _≤_, _<_}
 use mathlib.Core.Path.{_≡_}
 use mathlib.Core.List.{List, [], _++_}
 use lib.ListN.{length, getD, take, drop}
+use Rattle.record.specs.Row.{rowWords}
 use Rattle.region.specs.declared.Bound.{Bound}
 use Rattle.checker.specs.Accepts.{Accepts}
 use Rattle.wakeluri.specs.declared.answer.Answer.{Answer}
@@ -13,6 +14,10 @@ use Rattle.demands.specs.Calls.{WriteIndexLine}
 -- what is lent are bytes
 abbrev pub AreBytes : List ℕ → Type 0
 AreBytes t = (i : ℕ) → getD t i 0 < 256
+
+-- the bytes of a row of a table
+abbrev pub rowBytes : ℕ
+rowBytes = rowWords * 8
 
 -- the checker's answer is 0 exactly if the index is accepted
 pub record Exactly (file index : List ℕ) (a : Answer) : Type 0 where

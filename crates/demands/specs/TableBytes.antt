@@ -11,7 +11,7 @@ use Rattle.byte_table.specs.Numbers.{fromBytes, toBytes, firstNumbers, numbersI
 use Rattle.byte_table.specs.Laws.{length-toBytes, from-to, from-fits, length-numbers}
 use Rattle.mission.specs.Leading.{rowIn}
 use Rattle.mission.specs.TableOf.{Fits}
-use Rattle.demands.specs.Host.{AreBytes}
+use Rattle.demands.specs.Host.{AreBytes, rowBytes}
 
 -- every number fits 64 bits
 abbrev AreNumbers : List ℕ → Type 0
@@ -19,7 +19,7 @@ AreNumbers vs = (i : ℕ) → getD vs i 0 < 2 ^ 64
 
 -- ---- how many rows a table of bytes has
 
-pub rows-room : (t : List ℕ) (n : ℕ) → n * 48 ≤ length t → n ≤ rowCount (numbersIn t)
+pub rows-room : (t : List ℕ) (n : ℕ) → n * rowBytes ≤ length t → n ≤ rowCount (numbersIn t)
 unfolding rowCount
 rows-room t n h = rw (length-numbers t) (omega arith)
 
@@ -78,7 +78,9 @@ words-fit (x ∷ xs) h (suc (suc zero)) = h 0 (omega arith) .lined .fits-length
 words-fit (x ∷ xs) h (suc (suc (suc zero))) = h 0 (omega arith) .lined .fits-position
 words-fit (x ∷ xs) h (suc (suc (suc (suc zero)))) = h 0 (omega arith) .lined .fits-bases
 words-fit (x ∷ xs) h (suc (suc (suc (suc (suc zero))))) = h 0 (omega arith) .lined .fits-width
-words-fit (x ∷ xs) h (suc (suc (suc (suc (suc (suc i)))))) = words-fit xs (λ r m. h (suc r) (omega arith)) i
+words-fit (x ∷ xs) h (suc (suc (suc (suc (suc (suc zero)))))) = h 0 (omega arith) .description-start
+words-fit (x ∷ xs) h (suc (suc (suc (suc (suc (suc (suc zero))))))) = h 0 (omega arith) .description-length
+words-fit (x ∷ xs) h (suc (suc (suc (suc (suc (suc (suc (suc i)))))))) = words-fit xs (λ r m. h (suc r) (omega arith)) i
 
 -- so rows that are put in a table are what it then holds
 pub rows-back : (t : List ℕ) (xs : List Record) → AreBytes t → ((r : ℕ) → r < length xs → Fits (rowIn xs r))

@@ -70,7 +70,7 @@ fn list_input(input: &[u8], n: usize, table: &mut [u64], line: &mut [u8]) {
 // Reads some FASTA from a descriptor, and writes its index. A line is at most all of the input for its name, and 85 bytes more.
 fn list(fd: i32) {
     let mut input = [0u8; 65537];
-    let mut table = [0u64; 6144];
+    let mut table = [0u64; 8192];
     let mut line = [0u8; 65664];
     let n = io::read_full(fd, &mut input);
     list_input(&input, n, &mut table, &mut line);

@@ -15,7 +15,7 @@ use native.Mathlib.Nat.{div-add-mod', zero-add, add-assoc, add-mul, one-mul, add
 use Rattle.refusal.specs.declared.Refusal.{Refusal}
 use Rattle.refusal.specs.declared.Refusal.the-variants.{BadRow, TableFull}
 use Rattle.record.specs.Place.{placeOf, placesFrom, placeIn, offsetOf, hasPlace, addressOf}
-use Rattle.record.specs.Row.{rowWords, wordsOf, words, numbersAt, rowCount, rowAt, withRows, badRow, soundRow, heldAt, namedIn, namedAt, storedOf, withRow, StoredAt}
+use Rattle.record.specs.Row.{rowWords, describedAt, wordsOf, words, numbersAt, rowCount, rowAt, withRows, badRow, soundRow, heldAt, namedIn, namedAt, storedOf, withRow, StoredAt}
 use Rattle.record.specs.declared.Position.{Position}
 use Rattle.record.specs.declared.Offset.{Offset}
 use Rattle.record.specs.declared.Record.{Record}
@@ -239,7 +239,7 @@ row-same : (t u : List ℕ) (r : ℕ) → ((j : ℕ) → j < rowWords → getD t
 unfolding rowAt
 row-same t u r h =
     let z : getD t (r * rowWords) 0 ≡ getD u (r * rowWords) 0 = simp add-zero at (h 0 (lit< tt)) in
-    rw (z, h 1 (lit< tt), h 2 (lit< tt), h 3 (lit< tt), h 4 (lit< tt), h 5 (lit< tt))
+    rw (z, h 1 (lit< tt), h 2 (lit< tt), h 3 (lit< tt), h 4 (lit< tt), h 5 (lit< tt), h 6 (lit< tt), h 7 (lit< tt))
 
 -- a row is inside its table
 pub row-within : (t : List ℕ) (r : ℕ) → r < rowCount t → r * rowWords + rowWords ≤ length t
@@ -348,6 +348,25 @@ module _ (t : List ℕ) (r : ℕ) where
       go true h q = let z : _≡_ {A = ℕ} 0 1 = cc in absurd (omega arith)
       go false h q = (ltb-false _ _ h, cc)
 
+-- ---- spans
+
+-- a description that has bytes begins at its start
+pub described-some : (start n : ℕ) → (n ≡ 0 → ⊥) → start ≡ describedAt start n
+described-some start zero h = absurd (h refl)
+described-some start (suc n) h = refl
+
+-- a span ends past some bytes: by its start, and by what is left behind its start
+module _ (bytes start n : ℕ) where
+  pub past-start : bytes < start → true ≡ ltb bytes (start + n)
+  past-start h = sym (lt-ltb bytes (start + n) (omega arith))
+
+  pub past-end : start ≤ bytes → ltb (bytes - start) n ≡ ltb bytes (start + n)
+  past-end h = go (ltb (bytes - start) n) refl
+    where
+      go : (t : Bool) → ltb (bytes - start) n ≡ t → t ≡ ltb bytes (start + n)
+      go true e = sym (lt-ltb bytes (start + n) (omega (arith, ltb-true (bytes - start) n e)))
+      go false e = sym (le-ltb bytes (start + n) (omega (arith, ltb-false (bytes - start) n e)))
+
 -- ---- reading a row
 
 module _ (r : ℕ) (x : Record) where
@@ -364,14 +383,24 @@ module _ (r : ℕ) (x : Record) where
   unfolding soundRow
   sound-row b w = rw (ne-eqb _ _ b, ne-eqb _ _ w)
 
-  -- by its name
-  pub name-outside : (bytes : ℕ) → bytes < x .«name_start» + x .«name_length» → badRow r ≡ namedIn bytes r (held.Row x)
-  unfolding namedIn
-  name-outside bytes h = rw (lt-ltb _ _ h)
+  -- by its name and its description
+  module _ (bytes : ℕ) where
+    pub name-outside : ltb bytes (x .«name_start» + x .«name_length») ≡ true → badRow r ≡ namedIn bytes r (held.Row x)
+    unfolding namedIn
+    name-outside h = rw h
 
-  pub name-inside : (bytes : ℕ) → x .«name_start» + x .«name_length» ≤ bytes → held.Row x ≡ namedIn bytes r (held.Row x)
-  unfolding namedIn
-  name-inside bytes h = rw (le-ltb _ _ h)
+    pub description-outside : ltb bytes (x .«name_start» + x .«name_length») ≡ false → ltb bytes (x .«description_start» + x .«description_length») ≡ true
+        → badRow r ≡ namedIn bytes r (held.Row x)
+    unfolding namedIn
+    description-outside h k = rw (h, k)
+
+    pub spans-inside : ltb bytes (x .«name_start» + x .«name_length») ≡ false → ltb bytes (x .«description_start» + x .«description_length») ≡ false
+        → held.Row x ≡ namedIn bytes r (held.Row x)
+    unfolding namedIn
+    spans-inside h k = rw (h, k)
+
+    pub name-inside : x .«name_start» + x .«name_length» ≤ bytes → x .«description_start» + x .«description_length» ≤ bytes → held.Row x ≡ namedIn bytes r (held.Row x)
+    name-inside h k = spans-inside (le-ltb _ _ h) (le-ltb _ _ k)
 
 -- what is known of a row that holds a record
 pub record HeldRow (t : List ℕ) (n r : ℕ) (x : Record) : Type 0 where
@@ -430,15 +459,17 @@ module _ (t : List ℕ) (n r : ℕ) where
     unfolding namedAt namedIn
     named-known x e = go (heldAt t n r) refl e
       where
-        row : (y : Record) (b : Bool) → ltb bytes (y .«name_start» + y .«name_length») ≡ b → cond b (badRow r) (held.Row y) ≡ held.Row x → (held.Row y ≡ held.Row x) × (x .«name_start» + x .«name_length» ≤ bytes)
-        row y true h q = let z : _≡_ {A = ℕ} 0 1 = cc in absurd (omega arith)
-        row y false h q =
+        row : (y : Record) (b : Bool) → ltb bytes (y .«name_start» + y .«name_length») ≡ b → (d : Bool) → cond b (badRow r) (cond d (badRow r) (held.Row y)) ≡ held.Row x
+            → (held.Row y ≡ held.Row x) × (x .«name_start» + x .«name_length» ≤ bytes)
+        row y true h d q = let z : _≡_ {A = ℕ} 0 1 = cc in absurd (omega arith)
+        row y false h true q = let z : _≡_ {A = ℕ} 0 1 = cc in absurd (omega arith)
+        row y false h false q =
             let m : y .«name_start» + y .«name_length» ≤ bytes = ltb-false _ _ h in
             let e : y ≡ x = cc in
             (q, rw e at m)
 
         go : (o : Held) → heldAt t n r ≡ o → namedIn bytes r o ≡ held.Row x → (heldAt t n r ≡ held.Row x) × (x .«name_start» + x .«name_length» ≤ bytes)
-        go (held.Row y) h q = let k = row y (ltb bytes (y .«name_start» + y .«name_length»)) refl q in (h ∙ k .0, k .1)
+        go (held.Row y) h q = let k = row y (ltb bytes (y .«name_start» + y .«name_length»)) refl (ltb bytes (y .«description_start» + y .«description_length»)) q in (h ∙ k .0, k .1)
         go (held.Refused f) h q = let z : _≡_ {A = ℕ} 0 1 = cc in absurd (omega arith)
 
 -- rows that were stored from row 0 on are read as they were

@@ -1,5 +1,5 @@
 -- A record's row in a table of numbers: its words, reading it, and the table with it stored.
-use Prim.Native.Nat.{ℕ, _+_, _*_, _/_}
+use Prim.Native.Nat.{ℕ, zero, suc, _+_, _*_, _/_}
 use mathlib.Core.Path.{_≡_}
 use mathlib.Core.List.{List, [], _∷_, _++_}
 use mathlib.Core.Bool.{Bool, true, false, cond}
@@ -18,11 +18,17 @@ use Rattle.record.specs.declared.Stored.the-variants as stored
 
 -- how many numbers a row has
 abbrev pub rowWords : ℕ
-rowWords = 6
+rowWords = 8
+
+-- where a description of some bytes begins; 0 where it has none
+abbrev pub describedAt : ℕ → ℕ → ℕ
+describedAt start zero = 0
+describedAt start (suc n) = start
 
 -- a record's numbers
 unfoldable pub wordsOf : Record → List ℕ
-wordsOf x = x .«name_start» ∷ x .«name_length» ∷ x .length ∷ x .position .0 ∷ x .«line_bases» ∷ x .«line_width» ∷ []
+wordsOf x =
+    x .«name_start» ∷ x .«name_length» ∷ x .length ∷ x .position .0 ∷ x .«line_bases» ∷ x .«line_width» ∷ x .«description_start» ∷ x .«description_length» ∷ []
 
 -- the numbers of some records, one after another
 unfoldable pub words : List Record → List ℕ
@@ -38,6 +44,8 @@ numbersAt t i = record {
   position = record { 0 = getD t (i + 3) 0 };
   «line_bases» = getD t (i + 4) 0;
   «line_width» = getD t (i + 5) 0;
+  «description_start» = getD t (i + 6) 0;
+  «description_length» = getD t (i + 7) 0;
 }
 
 -- how many whole rows a table has
@@ -66,9 +74,10 @@ soundRow r x = cond (eqb (x .«line_bases») 0) (badRow r) (cond (eqb (x .«line
 unfoldable pub heldAt : List ℕ → ℕ → ℕ → Held
 heldAt t n r = cond (ltb (rowCount t) n) (badRow (rowCount t)) (cond (ltb r n) (soundRow r (rowAt t r)) (badRow r))
 
--- row r, if it holds a record, whose name has to lie inside so many bytes
+-- row r, if it holds a record, whose name and description have to lie inside so many bytes
 unfoldable pub namedIn : ℕ → ℕ → Held → Held
-namedIn bytes r (held.Row x) = cond (ltb bytes (x .«name_start» + x .«name_length»)) (badRow r) (held.Row x)
+namedIn bytes r (held.Row x) =
+    cond (ltb bytes (x .«name_start» + x .«name_length»)) (badRow r) (cond (ltb bytes (x .«description_start» + x .«description_length»)) (badRow r) (held.Row x))
 namedIn bytes r (held.Refused f) = held.Refused f
 
 -- row r of a table with n rows in use, where its name is looked at

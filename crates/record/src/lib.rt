@@ -1,14 +1,16 @@
 // A record of an index, its row in a lent table of 64-bit numbers, and the addressing rule: where each of its bases lies in the
 // file. How many numbers a row has stands here alone, and nothing else turns a base position into a byte offset.
 // Refused: 8, a record for which the table has no row; 25, a row that is not in use or not in the table, a row with line bases or
-// line width 0, and, where names are looked at, a name outside their bytes. An offset over 64 bits is no refusal: it is `Nowhere`.
+// line width 0, and, where names are looked at, a name or a description outside their bytes. An offset over 64 bits is no refusal: it is
+// `Nowhere`.
 use refusal::Refusal;
 ghost use mathlib.Core.Path.{_≡_};
 ghost use Prim.Native.Nat.{_+_, _*_, _≤_, _<_};
 ghost use lib.ListN.{length};
 ghost use lib.Seq.{sets};
+ghost use lib.Dec.{ltb};
 ghost use Rattle.record.specs.Place.{offsetOf, addressOf};
-ghost use Rattle.record.specs.Row.{rowWords, wordsOf, numbersAt, rowCount, soundRow, heldAt, namedIn, namedAt, StoredAt};
+ghost use Rattle.record.specs.Row.{rowWords, describedAt, wordsOf, numbersAt, rowCount, soundRow, heldAt, namedIn, namedAt, StoredAt};
 
 // A base position, from 1.
 pub struct Position(pub u64);
@@ -16,7 +18,7 @@ pub struct Position(pub u64);
 // A byte offset, from 0.
 pub struct Offset(pub u64);
 
-// A record: its name's span, and the four numbers of its index line.
+// A record: its name's span, the four numbers of its index line, and its description's span, which is 0 and 0 where there is none.
 pub struct Record {
     pub name_start: u64,
     pub name_length: u64,
@@ -24,6 +26,8 @@ pub struct Record {
     pub position: Offset,
     pub line_bases: u64,
     pub line_width: u64,
+    pub description_start: u64,
+    pub description_length: u64,
 }
 
 // Where a base lies; or nowhere, where no 64-bit offset is its own.
@@ -67,6 +71,8 @@ fn read(table: &[u64], row: usize) -> Record
         position: Offset(table[b + 3]),
         line_bases: table[b + 4],
         line_width: table[b + 5],
+        description_start: table[b + 6],
+        description_length: table[b + 7],
     }
 }
 
@@ -82,6 +88,8 @@ fn write(table: &mut [u64], row: usize, x: Record)
     table[b + 3] = x.position.0;
     table[b + 4] = x.line_bases;
     table[b + 5] = x.line_width;
+    table[b + 6] = x.description_start;
+    table[b + 7] = x.description_length;
 }
 
 // Row `row` with its numbers, of which line bases and line width may not be 0.
@@ -97,18 +105,38 @@ fn sound(row: usize, x: Record) -> Held
     Held::Row(x)
 }
 
-// Row `row` with its record, whose name has to lie inside `bytes` bytes.
+// Does a span end past `bytes` bytes. No sum is made: it may not fit.
+fn outside(bytes: usize, start: u64, length: u64) -> bool
+    ensures { λ r. ⌜ r ≡ ltb bytes (start + length) ⌝ }
+{
+    let all = bytes as u64;
+    if all < start {
+        return true;
+    }
+    all - start < length
+}
+
+// Row `row` with its record, whose name and description have to lie inside `bytes` bytes.
 fn named_in(bytes: usize, row: usize, x: Record) -> Held
     ensures { λ r. ⌜ r ≡ namedIn bytes row (Held.Row x) ⌝ }
 {
-    let all = bytes as u64;
-    if all < x.name_start {
+    if outside(bytes, x.name_start, x.name_length) {
         return bad(row);
     }
-    if all - x.name_start < x.name_length {
+    if outside(bytes, x.description_start, x.description_length) {
         return bad(row);
     }
     Held::Row(x)
+}
+
+// Where a description begins; 0 where it has no bytes.
+fn described_at(start: u64, length: u64) -> u64
+    ensures { λ r. ⌜ r ≡ describedAt start length ⌝ }
+{
+    if length == 0 {
+        return 0;
+    }
+    start
 }
 
 // The offset of column `column` in line `line` of a sequence, if it fits. No sum and no product is made before it is compared.
@@ -132,14 +160,14 @@ fn fitting(position: u64, line: u64, width: u64, column: u64) -> Address
 
 impl Record {
     // The numbers of a row.
-    pub const WORDS: usize = 6;
+    pub const WORDS: usize = 8;
 
     // The first base position.
     pub const FIRST: u64 = 1;
 
-    // A record without a name.
+    // A record without a name and a description.
     pub fn unnamed(length: u64, position: Offset, line_bases: u64, line_width: u64) -> Self
-        ensures { λ r. ⌜ r ≡ record { «name_start» = 0; «name_length» = 0; length = length; position = position; «line_bases» = «line_bases»; «line_width» = «line_width» } ⌝ }
+        ensures { λ r. ⌜ r ≡ record { «name_start» = 0; «name_length» = 0; length = length; position = position; «line_bases» = «line_bases»; «line_width» = «line_width»; «description_start» = 0; «description_length» = 0 } ⌝ }
     {
         Record {
             name_start: 0,
@@ -148,12 +176,14 @@ impl Record {
             position,
             line_bases,
             line_width,
+            description_start: 0,
+            description_length: 0,
         }
     }
 
     // The same record, with its name's span.
     pub fn named(self, start: u64, length: u64) -> Self
-        ensures { λ r. ⌜ r ≡ record { «name_start» = start; «name_length» = length; length = self .length; position = self .position; «line_bases» = self .«line_bases»; «line_width» = self .«line_width» } ⌝ }
+        ensures { λ r. ⌜ r ≡ record { «name_start» = start; «name_length» = length; length = self .length; position = self .position; «line_bases» = self .«line_bases»; «line_width» = self .«line_width»; «description_start» = self .«description_start»; «description_length» = self .«description_length» } ⌝ }
     {
         let position = self.position;
         Record {
@@ -163,6 +193,25 @@ impl Record {
             position,
             line_bases: self.line_bases,
             line_width: self.line_width,
+            description_start: self.description_start,
+            description_length: self.description_length,
+        }
+    }
+
+    // The same record, with its description's span; it is 0 and 0 where it has no bytes.
+    pub fn described(self, start: u64, length: u64) -> Self
+        ensures { λ r. ⌜ r ≡ record { «name_start» = self .«name_start»; «name_length» = self .«name_length»; length = self .length; position = self .position; «line_bases» = self .«line_bases»; «line_width» = self .«line_width»; «description_start» = describedAt start length; «description_length» = length } ⌝ }
+    {
+        let position = self.position;
+        Record {
+            name_start: self.name_start,
+            name_length: self.name_length,
+            length: self.length,
+            position,
+            line_bases: self.line_bases,
+            line_width: self.line_width,
+            description_start: described_at(start, length),
+            description_length: length,
         }
     }
 
@@ -194,7 +243,7 @@ impl Record {
         sound(row, read(table, row))
     }
 
-    // The same where its name is looked at, which is a span of `bytes` bytes.
+    // The same where its name is looked at: it and the description are spans of `bytes` bytes.
     pub fn named_row(table: &[u64], in_use: usize, row: usize, bytes: usize) -> Held
         ensures { λ r. ⌜ r ≡ namedAt (now (table .entry)) in_use row bytes ⌝ }
     {

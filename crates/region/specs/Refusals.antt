@@ -65,12 +65,13 @@ module _ (t : List ℕ) (n r : ℕ) where
   unfolding namedAt namedIn
   named-refused bytes f h = go (heldAt t n r) refl h
     where
-      row : (b : Bool) (x : Record) → cond b (badRow r) (held.Row x) ≡ held.Refused f → OfLookUp f
-      row true x q = let e : BadRow r ≡ f = cc in rw (← e) (bad-row r)
-      row false x q = let z : _≡_ {A = ℕ} 0 1 = cc in absurd (omega arith)
+      row : (b d : Bool) (x : Record) → cond b (badRow r) (cond d (badRow r) (held.Row x)) ≡ held.Refused f → OfLookUp f
+      row true d x q = let e : BadRow r ≡ f = cc in rw (← e) (bad-row r)
+      row false true x q = let e : BadRow r ≡ f = cc in rw (← e) (bad-row r)
+      row false false x q = let z : _≡_ {A = ℕ} 0 1 = cc in absurd (omega arith)
 
       go : (o : Held) → heldAt t n r ≡ o → namedIn bytes r o ≡ held.Refused f → OfLookUp f
-      go (held.Row x) k q = row (ltb bytes (x .«name_start» + x .«name_length»)) x q
+      go (held.Row x) k q = row (ltb bytes (x .«name_start» + x .«name_length»)) (ltb bytes (x .«description_start» + x .«description_length»)) x q
       go (held.Refused g) k q = let e : g ≡ f = cc in held-refused f (rw e at k)
 
 module _ (names t : List ℕ) (n : ℕ) (name : List ℕ) (f : Refusal) where
