@@ -115,14 +115,8 @@ fn no_index_fits(file: &[u8], definition: Line, record: &str, refusal: Refusal) 
     let (first, second) = (with_bases().next()?, with_bases().nth(1)?);
     let line = with_bases().find(|line| byte < line.start + line.width)?;
     let before = with_bases().take_while(|other| other.start < line.start).last()?;
-    let by_first = Record {
-        name: b"",
-        length: base,
-        position: first.start as u64,
-        line_bases: first.bases as u64,
-        line_width: (second.start - first.start) as u64,
-    };
-    let expected = place::said(&by_first, base)?;
+    let by_first = [first.start as u64, first.bases as u64, (second.start - first.start) as u64];
+    let expected = place::said(by_first, base)?;
     let why = if byte > line.start {
         let (bases, first) = (count(line.bases as u64, "base"), commas(first.bases as u64));
         format!("this line has {bases}, and the first has {first}")
@@ -240,7 +234,8 @@ impl<'p> Pair<'p> {
 
     /// A base is not where the line says.
     fn other_place(&self, base: u64) -> String {
-        let said = match self.said.and_then(|said| place::said(&said, base)) {
+        let said = match self.said.and_then(|said| place::said([said.position, said.line_bases, said.line_width], base))
+        {
             Some(byte) => format!("at byte {}", commas(byte)),
             None => "farther than a file can be long".to_string(),
         };

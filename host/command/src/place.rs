@@ -103,10 +103,10 @@ pub fn about(file: &[u8], line: Line, byte: usize) -> String {
 }
 
 /// The offset at which an index line says that a base lies, if 64 bits hold it.
-pub fn said(record: &Record<'_>, base: u64) -> Option<u64> {
+pub fn said([position, line_bases, line_width]: [u64; 3], base: u64) -> Option<u64> {
     let before = base.checked_sub(1)?;
-    let lines = before.checked_div(record.line_bases)?.checked_mul(record.line_width)?;
-    record.position.checked_add(lines)?.checked_add(before.checked_rem(record.line_bases)?)
+    let lines = before.checked_div(line_bases)?.checked_mul(line_width)?;
+    position.checked_add(lines)?.checked_add(before.checked_rem(line_bases)?)
 }
 
 /// A name or some bytes in a message: letters as they are, all else escaped.
