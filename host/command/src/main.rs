@@ -121,6 +121,7 @@ fn index(words: &ArgMatches, common: Common) -> Result<(), Failure> {
         let words = format!("{}: {}", fasta.shown, refusal.words());
         Failure::Refused(Box::new(Refused {
             words,
+            shown: String::new(),
             next: String::new(),
             refusal,
             file: fasta.shown.clone(),
@@ -350,6 +351,7 @@ fn complement(words: &ArgMatches, turn: Turn, common: Common) -> Result<(), Fail
             let place = None;
             Failure::Refused(Box::new(Refused {
                 words,
+                shown: String::new(),
                 next,
                 refusal,
                 file: fasta.shown.clone(),
