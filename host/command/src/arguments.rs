@@ -13,6 +13,7 @@ Examples:
   wakeluri read ref.fa --regions sheet.txt  all regions of a sheet, or none
   wakeluri revcomp ref.fa chr1:101-200      their reverse complement
   wakeluri wrap ref.fa -w 60 -o new.fa      the file in lines of 60 bases
+  wakeluri list ref.fa                      its records, with their descriptions
 
 Status: 0 answered, 1 refused, 2 the command makes no sense, 3 a file can't be read or written.
 After a refusal the last line on standard error is for a program: refused 17 (length 6)";
@@ -50,6 +51,14 @@ Examples:
 
 With an index (ref.fa.fai, or --index) it is first checked with the whole file; without one, one is made in memory.
 Nothing is written before all regions are known to be good.";
+
+const LIST_EXAMPLES: &str = "\
+Examples:
+  wakeluri list ref.fa                name, length and description of each record
+  wakeluri list ref.fa mitochondrion  those whose name or description holds this, in either case
+  wakeluri list ref.fa --json         a JSON object for each
+
+It needs no index. A record without a description has nothing behind its last tab.";
 
 const WRAP_EXAMPLES: &str = "\
 Examples:
@@ -190,6 +199,19 @@ pub fn command() -> Command {
                 .arg(file().required(true))
                 .arg(regions().required_unless_present("regions")),
         ))
+        .subcommand(
+            Command::new("list")
+                .about("List the records of a file: name, length and description")
+                .after_help(LIST_EXAMPLES)
+                .arg(file().required(true))
+                .arg(
+                    Arg::new("pattern")
+                        .value_name("TEXT")
+                        .help("only records whose name or description holds this, letters of either case alike")
+                        .value_parser(value_parser!(OsString)),
+                )
+                .arg(strict()),
+        )
         .subcommand(
             Command::new("wrap")
                 .about("Write a file anew, in lines of one width")

@@ -7,6 +7,7 @@ mod failure;
 mod faults;
 mod input;
 mod json;
+mod list;
 mod names;
 mod narrow;
 mod nearest;
@@ -70,6 +71,7 @@ fn main() -> ExitCode {
         Some(("read", words)) => read(words, Turn::AsIs, common),
         Some(("complement", words)) => complement(words, Turn::Complement, common),
         Some(("revcomp", words)) => complement(words, Turn::Reverse, common),
+        Some(("list", words)) => list(words, common),
         Some(("wrap", words)) => wrap(words, common),
         Some(("completions", words)) => completions(words),
         _ => Err(Failure::Usage("there is no such command".to_string())),
@@ -119,6 +121,7 @@ fn index(words: &ArgMatches, common: Common) -> Result<(), Failure> {
         let words = format!("{}: {}", fasta.shown, refusal.words());
         Failure::Refused(Box::new(Refused {
             words,
+            shown: String::new(),
             next: String::new(),
             refusal,
             file: fasta.shown.clone(),
@@ -145,6 +148,14 @@ fn index(words: &ArgMatches, common: Common) -> Result<(), Failure> {
     }
     let records = format!("{}{}", count(records, "record"), unusual.told());
     write(format!("{shown}: {records}, {}\n", count(bases, "base")).as_bytes())
+}
+
+fn list(words: &ArgMatches, common: Common) -> Result<(), Failure> {
+    let file = path(words, "file").unwrap_or(Path::new("-"));
+    let fasta = common.open(file, common.how)?;
+    let rows = work::index(&fasta, rule(words))?;
+    let pattern = words.get_one::<OsString>("pattern").map(|pattern| pattern.as_bytes());
+    list::list(&fasta, &rows, list::Form { pattern, json: common.json })
 }
 
 fn wrap(words: &ArgMatches, common: Common) -> Result<(), Failure> {
@@ -340,6 +351,7 @@ fn complement(words: &ArgMatches, turn: Turn, common: Common) -> Result<(), Fail
             let place = None;
             Failure::Refused(Box::new(Refused {
                 words,
+                shown: String::new(),
                 next,
                 refusal,
                 file: fasta.shown.clone(),

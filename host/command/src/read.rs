@@ -110,7 +110,16 @@ impl Source<'_> {
         let file = self.fasta.shown.clone();
         let region = Some(quoted(asked.text));
         let sheet = asked.sheet.map(|(sheet, line)| (sheet.to_string(), line));
-        Failure::Refused(Box::new(Refused { words, next, refusal, file, place: None, region, sheet }))
+        Failure::Refused(Box::new(Refused {
+            words,
+            shown: String::new(),
+            next,
+            refusal,
+            file,
+            place: None,
+            region,
+            sheet,
+        }))
     }
 
     /// A region's row and bounds, or why it isn't good.

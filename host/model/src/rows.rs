@@ -4,7 +4,7 @@ use crate::lines::{bases, content, definition_at, first_line, from};
 use crate::reads::put;
 use crate::{n, no};
 use questions::form::{Answer, No, Value};
-use questions::row::{OF_A_LINE, Row, Rows, WORDS, row};
+use questions::row::{OF_A_LINE, Row, Rows, WORDS, described, row};
 
 // ---- the indexer ----
 
@@ -17,7 +17,7 @@ pub(crate) fn sequence_lines(text: &[u8]) -> Vec<&[u8]> {
 pub(crate) fn record(file: &[u8], at: u64) -> Result<Option<(Row, u64)>, No> {
     let rest = from(file, at);
     let Some(line) = first_line(rest) else { return Ok(None) };
-    let [name_start, name_length, ..] = definition_at(line, at)?;
+    let [name_start, name_length, start, described_length] = definition_at(line, at)?;
     let lines = sequence_lines(&rest[line.len()..]);
     let position = at + n(line.len());
 
@@ -38,7 +38,8 @@ pub(crate) fn record(file: &[u8], at: u64) -> Result<Option<(Row, u64)>, No> {
     }
     let length = lines.iter().map(|line| bases(line).len()).sum();
     let next = position + lines.iter().map(|line| n(line.len())).sum::<u64>();
-    Ok(Some((row([at + name_start, name_length, n(length), position, n(count), n(width)]), next)))
+    let numbers = [at + name_start, name_length, n(length), position, n(count), n(width)];
+    Ok(Some((described(numbers, [at + start, described_length]), next)))
 }
 
 // ---- whole files and indexes ----
@@ -179,11 +180,15 @@ pub(crate) fn held_row(rows: &Rows, r: u64) -> Result<Row, No> {
     }
 }
 
-/// A row with its name; 25 also where the name lies outside the bytes.
+/// A row with its name; 25 also where the name or the description lies outside the bytes.
 pub(crate) fn named_row<'n>(names: &'n [u8], rows: &Rows, r: u64) -> Result<(&'n [u8], Row), No> {
     let row = held_row(rows, r)?;
-    let (start, end) = (u128::from(row[0]), u128::from(row[0]) + u128::from(row[1]));
-    if end > names.len() as u128 { no(25, r, 0) } else { Ok((&names[start as usize..end as usize], row)) }
+    let end = |start: u64, length: u64| u128::from(start) + u128::from(length);
+    let (name, description) = (end(row[0], row[1]), end(row[6], row[7]));
+    if name.max(description) > names.len() as u128 {
+        return no(25, r, 0);
+    }
+    Ok((&names[row[0] as usize..name as usize], row))
 }
 
 pub(crate) fn find(names: &[u8], rows: &Rows, wanted: &[u8]) -> Result<u64, No> {

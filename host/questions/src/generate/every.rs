@@ -143,6 +143,28 @@ pub(super) fn far_read() -> Source {
     }))
 }
 
+/// Descriptions at the ends of the bytes and past them, of a row whose name is good.
+fn descriptions() -> impl Iterator<Item = row::Rows> {
+    const FAR: [u64; 8] = [0, 1, 2, 3, 4, u64::MAX / 2 + 1, u64::MAX - 1, u64::MAX];
+    let spans = FAR.into_iter().flat_map(|start| FAR.into_iter().map(move |length| [start, length]));
+    spans.map(|[start, length]| {
+        let mut rows = rows(&[[0, 1, 2, 3, 4, 5]], 1);
+        let last = rows.numbers.len() - 2;
+        rows.numbers[last..].copy_from_slice(&[start, length]);
+        rows
+    })
+}
+
+/// Names looked up among rows with descriptions everywhere.
+pub(super) fn described_look_up() -> Source {
+    Box::new(descriptions().map(|rows| vec![Bytes(b"abc".to_vec()), Rows(rows), Bytes(b"a".to_vec())]))
+}
+
+/// Lines written of rows with descriptions everywhere.
+pub(super) fn described_line() -> Source {
+    Box::new(descriptions().map(|rows| vec![Bytes(b"abc".to_vec()), Rows(rows), Number(0), Output(room(20))]))
+}
+
 pub(super) fn look_up() -> Source {
     const NAMES: [&[u8]; 4] = [b"a", b"", b"b", b"ab"];
     let row = |k: u64| [k % 4, k / 4 % 4, 2, 3, k / 16 % 2, 1];
