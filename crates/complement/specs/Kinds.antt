@@ -5,7 +5,7 @@ use Prim.Native.String.{String, [] as empty, _∷_ as _◂_}
 use mathlib.Core.Bool.{Bool, true, false, cond, not}
 use mathlib.Core.List.{List, [], _∷_}
 use lib.Dec.{eqb}
-use Rattle.complement.specs.Pairing.{partner}
+use Rattle.letters.specs.Letters.{partner}
 use Rattle.complement.specs.Complement.{Outcome, complementOf, reverseComplementOf}
 
 -- is a byte a letter of a text

@@ -1,5 +1,8 @@
-pub mod Codes
 pub mod Search
+pub mod Sequences
+pub mod Primer
 pub mod Bits
+pub mod Filled
 pub mod Live
-pub mod Table
+pub mod SequenceLaws
+pub mod Laws
