@@ -6,3 +6,9 @@ pub mod Filled
 pub mod Live
 pub mod SequenceLaws
 pub mod Laws
+pub mod Places
+pub mod PlaceLaws
+pub mod AnswerLaws
+pub mod PlaceTheorems
+pub mod StrandLaws
+pub mod Strands
