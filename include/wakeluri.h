@@ -100,6 +100,13 @@ struct wakeluri_answer wakeluri_complement(const uint8_t *bases, size_t bases_le
 /* The reverse complement, at the front of `out`. Refuses 1, 14, and 24 with the last bad byte. */
 struct wakeluri_answer wakeluri_reverse_complement(const uint8_t *bases, size_t bases_length, uint8_t *out, size_t out_length);
 
+/* A FASTA record at the front of `out`: '>', the name, and where there is a description (its flag is not 0) one space and it, LF; then the
+ * bases in lines of `width`, each with LF; tells how many bytes. Refuses 1, 27 to 30, 14. */
+struct wakeluri_answer wakeluri_write_record(const uint8_t *name, size_t name_length, uint64_t has_description, const uint8_t *description, size_t description_length, const uint8_t *bases, size_t bases_length, uint64_t width, uint8_t *out, size_t out_length);
+
+/* Bases alone, in lines of `width`, each with LF: the next piece of a record whose pieces so far were whole lines. Refuses 1, 27, 30, 14. */
+struct wakeluri_answer wakeluri_write_sequence(const uint8_t *bases, size_t bases_length, uint64_t width, uint8_t *out, size_t out_length);
+
 /* Accepts a FASTA file and an index of any program exactly if the index leads to every base. Refuses 1, 2 to 4, 19, 9 to 12, 21 to 23, 20. */
 struct wakeluri_answer wakeluri_check(const uint8_t *fasta, size_t fasta_length, const uint8_t *index, size_t index_length);
 

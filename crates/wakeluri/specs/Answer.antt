@@ -1,7 +1,7 @@
 -- Each call's answer as a host is told it: the refusal's number and its two numbers, 0 where there is none, and what was found. What
 -- was not found is 0.
 use Prim.Native.Nat.{ℕ, _+_}
-use mathlib.Core.Bool.{Bool, cond}
+use mathlib.Core.Bool.{Bool, cond, not}
 use lib.Dec.{eqb}
 use Rattle.refusal.specs.declared.Numbers.{Numbers}
 use Rattle.refusal.specs.Numbers.{numbersOf}
@@ -40,6 +40,10 @@ use Rattle.wakeluri.specs.declared.answer.SpanAnswer.{SpanAnswer}
 use Rattle.wakeluri.specs.declared.answer.RowAnswer.{RowAnswer}
 
 -- ---- what a host gives
+
+-- what has a flag is absent where it is 0, and given otherwise
+unfoldable pub givenBy : ℕ → Bool
+givenBy flag = not (eqb flag 0)
 
 -- a bound is absent where its flag is 0, and given otherwise, whatever its number
 unfoldable pub boundOf : ℕ → ℕ → Bound

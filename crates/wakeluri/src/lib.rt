@@ -8,3 +8,4 @@ pub mod primers;
 pub mod rows;
 pub mod scan;
 pub mod text;
+pub mod writing;

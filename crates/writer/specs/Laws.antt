@@ -249,6 +249,17 @@ module _ (name : List ℕ) (t : Bool) (d bases : List ℕ) (w : ℕ) (out first 
       e ∙ ap (λ (o : List ℕ). overlaid o end y) (p .holds) ∙ overlaid-more out 0 end x y (omega arith) (p .place) ∙ overlaid-zero out (x ++ y) in
       rw (a, m, le-ltb (length out) (length (x ++ y)) (omega arith))
 
+-- bases alone put at the front
+pub sequence-put : (w : ℕ) (bases out after : List ℕ) (n : ℕ) → n ≡ length (sequenceText w bases) → n ≤ length out → after ≡ overlaid out 0 (sequenceText w bases)
+    → wrote (Bytes n) after ≡ frontWritten (sequenceText w bases) out
+unfolding frontWritten
+sequence-put w bases out after n m h e = rw (e, overlaid-zero out (sequenceText w bases), m, le-ltb (length out) (length (sequenceText w bases)) (omega arith))
+
+-- what is not over the limit is within it
+pub not-over : (n : ℕ) → overLimit n ≡ false → n ≤ 1099511627776
+unfolding overLimit
+not-over n e = ltb-false 1099511627776 n e
+
 -- what is not too long is within the limit
 pub short-enough : (name d bases : ℕ) → tooLong name d bases ≡ false → (name ≤ 1099511627776) × ((d ≤ 1099511627776) × (bases ≤ 1099511627776))
 unfolding tooLong overLimit

@@ -4,3 +4,4 @@ pub mod Rows
 pub mod Reads
 pub mod Answers
 pub mod Examples
+pub mod Pieces

@@ -84,6 +84,13 @@ recordWritten name described d bases w out =
     (cond (described && descriptionUnfit d) (wrote (Refused DescriptionUnfit) out)
     (cond (anyOf barred bases) (wrote (Refused BaseUnfit) out) (frontWritten (recordText name described d bases w) out)))))
 
+-- the bases alone: 1, 27, 30, 14
+unfoldable pub sequenceWritten : List ℕ → ℕ → List ℕ → Wrote
+sequenceWritten bases w out =
+    cond (overLimit (length bases)) (wrote (Refused TooLong) out)
+    (cond (eqb w 0) (wrote (Refused ZeroWidth) out)
+    (cond (anyOf barred bases) (wrote (Refused BaseUnfit) out) (frontWritten (sequenceText w bases) out)))
+
 -- some bytes put at a place of an output: the place behind them, and the output afterwards
 pub record Put (out : List ℕ) (at : ℕ) (s : List ℕ) (behind : ℕ) (after : List ℕ) : Type 0 where
   pub place : behind ≡ at + length s

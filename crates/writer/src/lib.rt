@@ -1,6 +1,8 @@
 // A FASTA record, written: '>', the name, and where there is a description one space and it; LF; then the bases in lines of a width,
 // each with LF. Refused, in this order: 1, bytes over the limit; 27, a width of 0; 28, a name that is empty or has whitespace; 29, a
 // description that is there and is empty, has an LF, or begins or ends in whitespace; 30, a base that is LF, CR or '>'; 14, no room.
+// A record that is longer than the memory at hand is written in pieces: `write_record` with the first of its bases, then `write_sequence`
+// with the next ones. Pieces of whole lines join to the record that one call would write (specs/Pieces.antt).
 use index_line::Written;
 use refusal::Refusal;
 ghost use mathlib.Core.Path.{_≡_};
@@ -10,7 +12,7 @@ ghost use lib.ListN.{length};
 ghost use Rattle.definition.specs.Definition.{isSpace};
 ghost use Rattle.index_line.specs.Bytes.{is, overlaid};
 ghost use Rattle.index_line.specs.Fields.{wrote};
-ghost use Rattle.writer.specs.Text.{anyOf, nameUnfit, descriptionUnfit, barred, describedText, definitionText, sequenceText, tooLong, recordWritten, Put};
+ghost use Rattle.writer.specs.Text.{anyOf, nameUnfit, descriptionUnfit, barred, describedText, definitionText, sequenceText, tooLong, recordWritten, sequenceWritten, Put};
 
 // Is a byte no base: LF, CR or '>'.
 fn is_barred(b: u8) -> bool
@@ -170,7 +172,7 @@ fn smaller(a: usize, b: usize) -> usize
 }
 
 // Puts bases at a place of the output, in lines of a width, each with LF.
-fn write_sequence(bases: &[u8], width: usize, out: &mut [u8], at: usize)
+fn write_lines(bases: &[u8], width: usize, out: &mut [u8], at: usize)
     requires { ⌜ 0 < width ⌝ }
     requires { ⌜ at + length (sequenceText width (now bases)) ≤ length (now out) ⌝ }
     ensures { λ _. ⌜ now (out .exit) ≡ overlaid (now (out .entry)) at (sequenceText width (now (bases .entry))) ⌝ }
@@ -220,6 +222,29 @@ pub fn write_record(
         });
     }
     let end = write_definition(name, described, description, out);
-    write_sequence(bases, width, out, end);
+    write_lines(bases, width, out, end);
+    Written::Bytes(needed)
+}
+
+// Writes bases alone to the front of the output, in lines of a width, each with LF; the bytes behind them stay. It refuses 1, 27, 30, 14.
+pub fn write_sequence(bases: &[u8], width: usize, out: &mut [u8]) -> Written
+    ensures { λ r. ⌜ wrote r (now (out .exit)) ≡ sequenceWritten (now (bases .entry)) width (now (out .entry)) ⌝ }
+{
+    if refusal::over_limit(bases.len()) {
+        return Written::Refused(Refusal::TooLong);
+    }
+    if width == 0 {
+        return Written::Refused(Refusal::ZeroWidth);
+    }
+    if any_barred(bases) {
+        return Written::Refused(Refusal::BaseUnfit);
+    }
+    let needed = sequence_length(bases, width);
+    if out.len() < needed {
+        return Written::Refused(Refusal::NoRoom {
+            needed: needed as u64,
+        });
+    }
+    write_lines(bases, width, out, 0);
     Written::Bytes(needed)
 }

@@ -16,9 +16,7 @@ use files::{Lines, Numbers, one_line, room};
 use measure::{Work, in_turns, limits};
 use original::{Region, Sequence, over_c, over_crate};
 use report::{Checked, Compared, Grown, HandedOut, LookedUp, Mapped, Report};
-
-/// The bytes of a row in a table.
-const ROW_BYTES: usize = 48;
+use wakeluri::entry::ROW_BYTES;
 
 /// So many bytes lie in the processor's own cache; 64 times as many come from the memory.
 const MEGABYTE: usize = 1_000_000;

@@ -43,8 +43,8 @@ pub fn opened(file: BorrowedFd<'_>) -> io::Result<Metadata> {
 pub struct Outputs<'o> {
     answers: Option<Itself>,
     messages: Option<Itself>,
-    /// The index's place, where something is there already.
-    index: Option<(&'o Path, Itself)>,
+    /// The files that are written, at most two: what each is, and its place, where something is there already.
+    places: [Option<(&'static str, &'o Path, Itself)>; 2],
 }
 
 impl Outputs<'static> {
@@ -53,16 +53,17 @@ impl Outputs<'static> {
         Self {
             answers: Itself::of_open(io::stdout().as_fd()),
             messages: Itself::of_open(io::stderr().as_fd()),
-            index: None,
+            places: [None; 2],
         }
     }
 }
 
 impl<'o> Outputs<'o> {
-    /// These, and an index that is written to a place.
-    pub fn and(self, index: &'o Path) -> Self {
-        let there = fs::metadata(index).ok().and_then(|meta| Itself::of(&meta));
-        Self { index: there.map(|there| (index, there)), ..self }
+    /// These, and a file that is written to a place; no run writes more than two.
+    pub fn and(self, what: &'static str, place: &'o Path) -> Self {
+        let there = fs::metadata(place).ok().and_then(|meta| Itself::of(&meta));
+        let [first, _] = self.places;
+        Self { places: [there.map(|there| (what, place, there)), first], ..self }
     }
 
     /// Fails if an input is one of them.
@@ -82,16 +83,16 @@ impl<'o> Outputs<'o> {
                 ),
             });
         }
-        match self.index {
-            Some((place, there)) if there == read => {
+        match self.places.iter().flatten().find(|(.., there)| *there == read) {
+            Some((what, place, _)) => {
                 let place = place.display().to_string();
                 let same = if place == shown { "" } else { ": it is the very same file" };
                 Err(Failure::InputOutput {
-                    words: format!("{place}: the index would take the place of {shown}, which is read{same}"),
+                    words: format!("{place}: {what} would take the place of {shown}, which is read{same}"),
                     next: "name another file with --output".to_string(),
                 })
             }
-            _ => Ok(()),
+            None => Ok(()),
         }
     }
 }

@@ -12,6 +12,7 @@ Examples:
   wakeluri read ref.fa chr1:101-200         exactly those hundred bases
   wakeluri read ref.fa --regions sheet.txt  all regions of a sheet, or none
   wakeluri revcomp ref.fa chr1:101-200      their reverse complement
+  wakeluri wrap ref.fa -w 60 -o new.fa      the file in lines of 60 bases
 
 Status: 0 answered, 1 refused, 2 the command makes no sense, 3 a file can't be read or written.
 After a refusal the last line on standard error is for a program: refused 17 (length 6)";
@@ -49,6 +50,16 @@ Examples:
 
 With an index (ref.fa.fai, or --index) it is first checked with the whole file; without one, one is made in memory.
 Nothing is written before all regions are known to be good.";
+
+const WRAP_EXAMPLES: &str = "\
+Examples:
+  wakeluri wrap ref.fa --width 60 -o new.fa          every line has 60 bases, but the last of a record
+  wakeluri wrap ref.fa --width 60 -o new.fa --index  and new.fa.fai beside it
+  wakeluri wrap ref.fa > new.fa                      to standard output
+
+Names and descriptions are kept; blank lines go. The new file reads back as the same records.
+A file is written beside its place and put there in one step: a stop in the middle leaves the old one whole. It never takes the
+place of the file that is read, nor of a file that is not FASTA.";
 
 const COMPLEMENT_EXAMPLES: &str = "\
 Examples:
@@ -179,6 +190,31 @@ pub fn command() -> Command {
                 .arg(file().required(true))
                 .arg(regions().required_unless_present("regions")),
         ))
+        .subcommand(
+            Command::new("wrap")
+                .about("Write a file anew, in lines of one width")
+                .after_help(WRAP_EXAMPLES)
+                .arg(file().required(true))
+                .arg(
+                    Arg::new("width")
+                        .long("width")
+                        .short('w')
+                        .value_name("BASES")
+                        .help("bases to a line")
+                        .value_parser(value_parser!(u64))
+                        .default_value("60"),
+                )
+                .arg(
+                    Arg::new("output")
+                        .long("output")
+                        .short('o')
+                        .value_name("OUT")
+                        .help("where to, if not to standard output")
+                        .value_parser(value_parser!(PathBuf))
+                        .value_hint(ValueHint::FilePath),
+                )
+                .arg(flag("index").help("write the index of the new file too, to OUT.fai")),
+        )
         .subcommand(turning(
             Command::new("complement").about("The complement, of reads or of bases").after_help(COMPLEMENT_EXAMPLES),
         ))

@@ -145,6 +145,24 @@ fn no_index_fits(file: &[u8], definition: Line, record: &str, refusal: Refusal) 
 }
 
 /// A line that should be a definition line.
+/// A refusal to write a line anew, in words.
+pub fn not_wrapped(fasta: &Input, line: Line, refusal: Refusal) -> Failure {
+    let file = fasta.bytes();
+    let text = place::text(file, line);
+    let (what, next) = match (refusal.number, text.iter().position(|byte| matches!(byte, b'>' | b'\r'))) {
+        (2..=4, _) => bad_definition(file, line, refusal.number),
+        (30, Some(place)) => (
+            format!(
+                "base {} of the line is a '>' or a carriage return, which would not read back from lines of another width",
+                commas(place as u64 + 1)
+            ),
+            "nothing was written: take it out first".to_string(),
+        ),
+        _ => (refusal.words(), String::new()),
+    };
+    refused(fasta, Some(line), &what, next, refusal)
+}
+
 fn bad_definition(file: &[u8], line: Line, number: u64) -> (String, String) {
     match (number, place::text(file, line)) {
         (3, [0x1f, 0x8b, ..]) => (

@@ -17,6 +17,7 @@ mod read;
 mod region;
 mod unusual;
 mod work;
+mod wrap;
 
 use apart::Outputs;
 use clap::ArgMatches;
@@ -34,6 +35,7 @@ use std::path::{Path, PathBuf};
 use std::process::ExitCode;
 use unusual::Unusual;
 use work::Rule;
+use wrap::Wrapping;
 
 /// What all commands have: some words, and where they write to.
 #[derive(Clone, Copy)]
@@ -68,6 +70,7 @@ fn main() -> ExitCode {
         Some(("read", words)) => read(words, Turn::AsIs, common),
         Some(("complement", words)) => complement(words, Turn::Complement, common),
         Some(("revcomp", words)) => complement(words, Turn::Reverse, common),
+        Some(("wrap", words)) => wrap(words, common),
         Some(("completions", words)) => completions(words),
         _ => Err(Failure::Usage("there is no such command".to_string())),
     };
@@ -108,7 +111,7 @@ fn index(words: &ArgMatches, common: Common) -> Result<(), Failure> {
             "the index itself is written to standard output: --json needs --output FILE".to_string(),
         ));
     }
-    let outputs = || output.path().map_or(common.outputs, |place| common.outputs.and(place));
+    let outputs = || output.path().map_or(common.outputs, |place| common.outputs.and("the index", place));
     let fasta = Input::open(file, common.how, common.json, &outputs())?;
     output.free()?;
     let rows = work::index(&fasta, rule(words))?;
@@ -142,6 +145,38 @@ fn index(words: &ArgMatches, common: Common) -> Result<(), Failure> {
     }
     let records = format!("{}{}", count(records, "record"), unusual.told());
     write(format!("{shown}: {records}, {}\n", count(bases, "base")).as_bytes())
+}
+
+fn wrap(words: &ArgMatches, common: Common) -> Result<(), Failure> {
+    let file = path(words, "file").unwrap_or(Path::new("-"));
+    let width = words.get_one::<u64>("width").copied().unwrap_or(60);
+    if width == 0 {
+        return Err(Failure::Usage("a line of no bases can't be written: --width is 1 at least".to_string()));
+    }
+    let output = path(words, "output").map_or(Ok(Output::Standard), Output::of)?;
+    let index = match output.path() {
+        _ if !words.get_flag("index") => None,
+        Some(place) => Some(Output::of(&index_of(place))?),
+        None => return Err(Failure::Usage("--index needs --output OUT: the index is written to OUT.fai".to_string())),
+    };
+    let outputs = || {
+        let outputs = output.path().map_or(common.outputs, |place| common.outputs.and("the new file", place));
+        index.as_ref().and_then(Output::path).map_or(outputs, |place| outputs.and("the index", place))
+    };
+    let fasta = Input::open(file, common.how, common.json, &outputs())?;
+    output.free_for_fasta()?;
+    index.as_ref().map_or(Ok(()), Output::free)?;
+    let wrap::Size { records, bases } = Wrapping { fasta: &fasta, width }.write(&output, index.as_ref())?;
+    let Some(place) = output.path() else { return Ok(()) };
+    let shown = place.display().to_string();
+    if common.json {
+        let mut object = Object::new();
+        object.text("file", &fasta.shown).text("output", &shown).number("width", width);
+        object.number("records", records).number("bases", bases);
+        return write(object.line().as_bytes());
+    }
+    let (records, bases) = (count(records, "record"), count(bases, "base"));
+    write(format!("{shown}: {records}, {bases}, in lines of {}\n", place::commas(width)).as_bytes())
 }
 
 fn check(words: &ArgMatches, common: Common) -> Result<(), Failure> {

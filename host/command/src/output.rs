@@ -1,4 +1,4 @@
-//! Answers on standard output, and an index that is written beside its place and then put there in one step.
+//! Answers on standard output, and files that are written beside their place and then put there in one step.
 
 use crate::apart::{descriptor, folder, led_to};
 use crate::failure::Failure;
@@ -25,13 +25,19 @@ impl Answers {
         self.0.write_all(bytes).map_err(|error| failed(&error))
     }
 
+    /// Where answers go, for one that writes by itself.
+    pub fn sink(&mut self) -> &mut impl Write {
+        &mut self.0
+    }
+
     /// All of it is out.
     pub fn done(mut self) -> Result<(), Failure> {
         self.0.flush().map_err(|error| failed(&error))
     }
 }
 
-fn failed(error: &io::Error) -> Failure {
+/// Standard output could not be written to.
+pub fn failed(error: &io::Error) -> Failure {
     Failure::system(
         "the answer can't be written",
         "standard output",
@@ -40,7 +46,10 @@ fn failed(error: &io::Error) -> Failure {
     )
 }
 
-/// Where an index is written to.
+/// Writes a file, piece by piece.
+pub type Fill<'f> = &'f mut dyn FnMut(&mut dyn Write) -> io::Result<()>;
+
+/// Where a file is written to.
 #[derive(Debug)]
 pub enum Output {
     /// Standard output.
@@ -54,7 +63,7 @@ pub enum Output {
 }
 
 impl Output {
-    /// What a name stands for. A folder and a disk are no places for an index.
+    /// What a name stands for. A folder and a disk are no places for a file.
     pub fn of(path: &Path) -> Result<Self, Failure> {
         match descriptor(path) {
             Some(1) => return Ok(Self::Standard),
@@ -63,7 +72,7 @@ impl Output {
             None => {}
         }
         match fs::metadata(path) {
-            Ok(meta) if meta.is_dir() => Err(no_place(path, "folder, and the index is a file", "name a file")),
+            Ok(meta) if meta.is_dir() => Err(no_place(path, "folder, and what is written is a file", "name a file")),
             Ok(meta) if meta.file_type().is_block_device() => {
                 Err(no_place(path, "disk, and all that is on it would be lost", "name a file"))
             }
@@ -92,18 +101,40 @@ impl Output {
         }
     }
 
-    /// Writes all of an index.
+    /// Fails if something is there that is neither empty nor FASTA.
+    pub fn free_for_fasta(&self) -> Result<(), Failure> {
+        let Self::File(path) = self else { return Ok(()) };
+        let mut start = [0];
+        match File::open(path).and_then(|mut file| file.read(&mut start)) {
+            Ok(1) if start != *b">" => {
+                let what = "file that is not FASTA, and the new file would take its place";
+                Err(no_place(path, what, "move it away first, or name another file"))
+            }
+            _ => Ok(()),
+        }
+    }
+
+    /// Writes all of a file that is at hand.
     pub fn write(&self, text: &[u8]) -> Result<(), Failure> {
-        let written = match self {
+        self.fill("index", &mut |to| to.write_all(text))
+    }
+
+    /// Writes all of a file, piece by piece. A place that is a file holds the old one or the whole new one, whenever this is stopped.
+    pub fn fill(&self, what: &str, fill: Fill<'_>) -> Result<(), Failure> {
+        let opened = match self {
             Self::Standard => {
                 let mut answers = Answers::new();
-                answers.write(text)?;
+                fill(answers.sink()).map_err(|error| failed(&error))?;
                 return answers.done();
             }
-            Self::File(path) => return replace(path, text),
-            Self::Open(_, open) => once_more(*open).and_then(|mut file| file.write_all(text)),
-            Self::Device(path) => OpenOptions::new().write(true).open(path).and_then(|mut file| file.write_all(text)),
+            Self::File(path) => return replace(path, what, fill),
+            Self::Open(_, open) => once_more(*open),
+            Self::Device(path) => OpenOptions::new().write(true).open(path),
         };
+        let written = opened.and_then(|file| {
+            let mut to = io::BufWriter::with_capacity(1 << 16, file);
+            fill(&mut to).and_then(|()| to.flush())
+        });
         let shown = self.path().map(|path| path.display().to_string()).unwrap_or_default();
         written.map_err(|error| Failure::system("it can't be written", &shown, &error, ""))
     }
@@ -140,17 +171,18 @@ fn other_than_index(path: &Path) -> Option<&'static str> {
 }
 
 /// Writes a file so that its place holds the old one or the whole new one, whenever this is stopped.
-fn replace(path: &Path, text: &[u8]) -> Result<(), Failure> {
+fn replace(path: &Path, what: &str, fill: Fill<'_>) -> Result<(), Failure> {
     let shown = path.display().to_string();
     // where a link leads, the file itself is replaced
     let place = led_to(path).map_err(|error| Failure::system("it can't be written", &shown, &error, ""))?;
-    let written = write_beside(&place, text).and_then(|beside| {
+    let written = write_beside(&place, fill).and_then(|beside| {
         fs::rename(&beside, &place).inspect_err(|_| {
             let _ = fs::remove_file(&beside);
         })
     });
     if let Err(error) = written {
-        let old = if place.exists() { "the old index is as it was" } else { "no index was written" };
+        let old =
+            if place.exists() { format!("the old {what} is as it was") } else { format!("no {what} was written") };
         let next = match error.kind() {
             io::ErrorKind::StorageFull | io::ErrorKind::FileTooLarge | io::ErrorKind::QuotaExceeded => {
                 "make room on the disk, or"
@@ -175,11 +207,11 @@ fn replace(path: &Path, text: &[u8]) -> Result<(), Failure> {
 const NAMES: u32 = 100;
 
 /// Writes all of a file to a name beside its place that nobody uses, and tells it. What has such a name, whosever it is, stays.
-fn write_beside(place: &Path, text: &[u8]) -> io::Result<PathBuf> {
+fn write_beside(place: &Path, fill: Fill<'_>) -> io::Result<PathBuf> {
     let mut taken = io::Error::from(io::ErrorKind::AlreadyExists);
     for number in 0..NAMES {
         let beside = place.with_file_name(format!("wakeluri-{}-{number}.new", std::process::id()));
-        match write_whole(&beside, text) {
+        match write_whole(&beside, fill) {
             Ok(()) => return Ok(beside),
             Err(error) if error.kind() == io::ErrorKind::AlreadyExists => taken = error,
             Err(error) => return Err(error),
@@ -190,19 +222,26 @@ fn write_beside(place: &Path, text: &[u8]) -> io::Result<PathBuf> {
 
 /// Writes all of a file to a new name. Where the system can do it the file has no name until it is whole, so that a stop in the middle
 /// leaves nothing behind.
-fn write_whole(path: &Path, text: &[u8]) -> io::Result<()> {
+fn write_whole(path: &Path, fill: Fill<'_>) -> io::Result<()> {
     if let Ok(mut file) = OpenOptions::new().write(true).custom_flags(libc::O_TMPFILE).open(folder(path)) {
-        file.write_all(text)?;
-        file.sync_all()?;
+        put(&mut file, fill)?;
         if named(&file, path) {
             return Ok(());
         }
     }
     let mut file = OpenOptions::new().write(true).create_new(true).open(path)?;
-    let written = file.write_all(text).and_then(|()| file.sync_all());
+    let written = put(&mut file, fill);
     written.inspect_err(|_| {
         let _ = fs::remove_file(path);
     })
+}
+
+/// Writes all of a file, to the disk.
+fn put(file: &mut File, fill: Fill<'_>) -> io::Result<()> {
+    let mut to = io::BufWriter::with_capacity(1 << 16, &mut *file);
+    fill(&mut to).and_then(|()| to.flush())?;
+    drop(to);
+    file.sync_all()
 }
 
 /// Gives a name to a file that has none, if that can be done.

@@ -1,5 +1,6 @@
 //! Where in a file a fault lies, for messages. It judges nothing: the proved code has refused by then.
 
+use wakeluri::entry::ROW_BYTES;
 use wakeluri::{Record, Table};
 
 /// A line of a file.
@@ -55,7 +56,7 @@ pub fn sequence(file: &[u8], definition: Line) -> impl Iterator<Item = Line> + '
 
 /// Where the definition line of a row's record begins, in a table of the file's own names.
 pub fn definition_start(rows: &Table<'_>, row: usize) -> Option<usize> {
-    let bytes = rows.as_bytes().get(row.checked_mul(48)?..)?.first_chunk()?;
+    let bytes = rows.as_bytes().get(row.checked_mul(ROW_BYTES)?..)?.first_chunk()?;
     usize::try_from(u64::from_le_bytes(*bytes)).ok()?.checked_sub(1)
 }
 

@@ -5,12 +5,12 @@ use crate::input::Input;
 use crate::json::Object;
 use crate::names::wanted_names;
 use crate::nearest::nearest;
-use crate::output::Answers;
+use crate::output::{Answers, failed};
 use crate::place::{commas, count, quoted};
 use crate::region::{Meaning, Number, Reading, Written, is_before_a_colon, meaning, plain_form, readings};
 use std::io::Write;
 use std::ops::Range;
-use wakeluri::{Bounds, Call, Names, Refusal, Row, Table};
+use wakeluri::{Bounds, Call, Names, Refusal, Row, Table, Writer};
 
 /// The bases that are read at a time.
 const PIECE: u64 = 64 << 20;
@@ -31,11 +31,11 @@ pub enum Turn {
 
 impl Turn {
     /// What a definition line says of it.
-    fn said(self) -> &'static str {
+    fn said(self) -> Option<&'static [u8]> {
         match self {
-            Self::AsIs => "",
-            Self::Complement => " complement",
-            Self::Reverse => " reverse complement",
+            Self::AsIs => None,
+            Self::Complement => Some(b"complement"),
+            Self::Reverse => Some(b"reverse complement"),
         }
     }
 
@@ -328,6 +328,9 @@ impl Source<'_> {
             let keep = region.bases() <= KEPT - start as u64;
             for piece in self.pieces(*region, form.turn) {
                 let piece = piece?;
+                if !form.json {
+                    self.writable(*region, &piece)?;
+                }
                 if keep {
                     kept.extend_from_slice(&piece);
                 }
@@ -366,36 +369,44 @@ impl Source<'_> {
             object.bytes("region", region.asked.text).bytes("name", record.map_or(&[], |record| record.name));
             object.number("start", region.start).number("end", region.end);
             object.number("length", record.map_or(0, |record| record.length));
-            if form.turn != Turn::AsIs {
-                object.text("turned", form.turn.said().trim());
+            if let Some(turned) = form.turn.said() {
+                object.bytes("turned", turned);
             }
             object.bytes("bases", &bases);
             return answers.write(object.line().as_bytes());
         }
-        answers.write(b">")?;
-        answers.write(region.asked.text)?;
-        answers.write(form.turn.said().as_bytes())?;
-        answers.write(b"\n")?;
-        let mut column = 0;
+        let width = if form.width == 0 { region.bases().max(1) } else { form.width as u64 };
+        let mut writer = Writer::new(answers.sink(), width);
+        let said = |error: std::io::Error| match error.downcast::<Refusal>() {
+            Ok(refusal) => self.not_written(region, refusal),
+            Err(error) => failed(&error),
+        };
+        writer.begin(region.asked.text, form.turn.said()).map_err(said)?;
         for piece in pieces {
-            write_wrapped(piece?.as_ref(), form.width, &mut column, answers)?;
+            writer.push(piece?.as_ref()).map_err(said)?;
         }
-        if column > 0 { answers.write(b"\n") } else { Ok(()) }
+        writer.end().map_err(said)
     }
-}
 
-/// Bases in lines of a width.
-fn write_wrapped(mut bases: &[u8], width: usize, column: &mut usize, answers: &mut Answers) -> Result<(), Failure> {
-    while !bases.is_empty() {
-        let room = if width == 0 { bases.len() } else { width - *column };
-        let (line, rest) = bases.split_at(room.min(bases.len()));
-        answers.write(line)?;
-        *column += line.len();
-        if *column == width {
-            answers.write(b"\n")?;
-            *column = 0;
+    /// Bases of a region, and its text as a name, are judged before anything is written.
+    fn writable(self, region: Region<'_>, bases: &[u8]) -> Result<(), Failure> {
+        let judged = [
+            wakeluri::write_record_into(region.asked.text, None, &[], 1, &mut []),
+            wakeluri::write_sequence_into(bases, 1, &mut []),
+        ];
+        match judged.into_iter().filter_map(Result::err).find(|refusal| refusal.number != 14) {
+            Some(refusal) => Err(self.not_written(region, refusal)),
+            None => Ok(()),
         }
-        bases = rest;
     }
-    Ok(())
+
+    /// A refusal to write what was read.
+    fn not_written(self, region: Region<'_>, refusal: Refusal) -> Failure {
+        let what = match refusal.number {
+            30 => "it has a '>' or a carriage return among its bases, which would not read back from a FASTA file"
+                .to_string(),
+            _ => refusal.words(),
+        };
+        self.refused(region.asked, what, "with --json the bases are written as they are".to_string(), refusal)
+    }
 }

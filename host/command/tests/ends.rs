@@ -217,7 +217,7 @@ fn an_unreadable_file_a_folder_and_no_file() {
         .run(&["check", "f.fa"])
         .failed(3, &["f.fa.fai: there is no such file", "make the index with `wakeluri index f.fa`"]);
     folder.run(&["read", "f.fa", "--index", "no.fai", "s"]).failed(3, &["no.fai: there is no such file"]);
-    folder.run(&["index", "f.fa", "-o", "sub"]).failed(3, &["sub: this is a folder, and the index is a file"]);
+    folder.run(&["index", "f.fa", "-o", "sub"]).failed(3, &["sub: this is a folder, and what is written is a file"]);
     folder
         .run(&["index", "f.fa", "-o", "no/f.fai"])
         .failed(3, &["no/f.fai: it can't be written", "make that folder first"]);

@@ -162,10 +162,10 @@ fn devices_folders_and_places_that_are_free() {
     let folder = folder("devices");
     shell(&folder, "wakeluri revcomp < /dev/null > /dev/null").gave("");
     folder.run(&["index", "f.fa", "-o", "/dev/null"]).gave("/dev/null: 2 records, 8 bases\n");
-    folder.run(&["index", "f.fa", "-o", "/"]).failed(3, &["/: this is a folder, and the index is a file"]);
+    folder.run(&["index", "f.fa", "-o", "/"]).failed(3, &["/: this is a folder, and what is written is a file"]);
     fs::create_dir(folder.at("g.fa.fai")).unwrap();
     folder.write("g.fa", FASTA);
-    folder.run(&["index", "g.fa"]).failed(3, &["g.fa.fai: this is a folder, and the index is a file"]);
+    folder.run(&["index", "g.fa"]).failed(3, &["g.fa.fai: this is a folder, and what is written is a file"]);
     if let Some(disk) =
         ["/dev/loop0", "/dev/sda", "/dev/vda", "/dev/nvme0n1"].into_iter().find(|disk| fs::metadata(disk).is_ok())
     {

@@ -2,9 +2,10 @@
 
 use crate::lines::{bases, content, definition, first_line};
 use crate::reads::offset;
-use crate::rows::{index_content, sequence_lines, write_line};
-use crate::{Model, PROGRAM_BYTES, PROGRAM_ROWS, n, no, within_limit};
-use questions::form::{No, Rows, Speaker};
+use crate::rows::{file_rows, index_content, record, sequence_lines, write_line};
+use crate::{PROGRAM_BYTES, PROGRAM_ROWS, n, no};
+use questions::form::No;
+use questions::row::{Rows, WORDS, row};
 
 // ---- the checker ----
 
@@ -19,8 +20,6 @@ pub(crate) fn base_offsets(lines: &[&[u8]], position: usize) -> Vec<usize> {
 }
 
 pub(crate) fn check(fasta: &[u8], index: &[u8]) -> Result<(), No> {
-    within_limit(&[fasta])?;
-    within_limit(&[index])?;
     let mut index_lines = index.split_inclusive(|b| *b == b'\n');
     let (mut at, mut record) = (0, 0);
     while let Some(line) = first_line(&fasta[at..]) {
@@ -33,7 +32,7 @@ pub(crate) fn check(fasta: &[u8], index: &[u8]) -> Result<(), No> {
         let Some(index_line) = index_lines.next() else {
             return no(19, record, 0);
         };
-        let row = index_content(content(index_line), 0, record)?;
+        let row = row(index_content(content(index_line), 0, record)?);
         if name != &index_line[..row[1] as usize] {
             return no(21, record, 0);
         }
@@ -56,16 +55,16 @@ pub(crate) fn program(input: &[u8]) -> Vec<u8> {
     if input.len() > PROGRAM_BYTES {
         return b"refused 1 0 0\n".to_vec();
     }
-    let mut table = vec![0; 6 * PROGRAM_ROWS];
-    let told = Model.index_file(input, &mut table);
-    let rows = Rows { numbers: table, in_use: told.count };
+    let mut table = vec![0; WORDS * PROGRAM_ROWS];
+    let filled = file_rows(input, &mut table, record);
+    let rows = Rows { numbers: table, in_use: filled.count };
     let mut out = vec![];
-    for r in 0..told.count {
+    for r in 0..filled.count {
         let mut line = vec![0; input.len() + 100];
         let length = write_line(input, &rows, r, &mut line).expect("a name has no tab and no LF");
         out.extend(&line[..length as usize]);
     }
-    if let Some([number, first, second]) = told.no {
+    if let Some([number, first, second]) = filled.no {
         out.extend(format!("refused {number} {first} {second}\n").bytes());
     }
     out

@@ -5,7 +5,8 @@ use crate::lines::{bases, content, definition, first_line, from};
 use crate::reads::offset;
 use crate::rows::sequence_lines;
 use crate::{n, no};
-use questions::form::{No, Row};
+use questions::form::No;
+use questions::row::{Row, row};
 
 /// The row of the record at an offset by the complete rule, and the offset behind it: the three numbers are those of the bases'
 /// offsets alone, and every base is held against them.
@@ -30,7 +31,7 @@ pub(crate) fn fitted_record(file: &[u8], at: u64) -> Result<Option<(Row, u64)>, 
             [*first, n(run), width]
         }
     };
-    let row = [at + name_start, name_length, n(offsets.len()), position, line_bases, line_width];
+    let row = row([at + name_start, name_length, n(offsets.len()), position, line_bases, line_width]);
     for (base, there) in (1..).zip(&offsets) {
         if offset(&row, base) != u128::from(*there) {
             return no(42, *there, base);

@@ -12,9 +12,10 @@ mod rows;
 use checker::{check, program};
 use complete::fitted_record;
 use lines::{content, definition, first_line, from, run};
-use questions::form::{Bounds, No, Row, Rows, Speaker, Told};
-use reads::{complemented, counted, exact, raw, sequence};
-use rows::{file_rows, fill, find, index_content, is_plain, record, write_line};
+use questions::form::Value::{self, Bounds, Bytes, MaybeBytes, Number, Numbers, Output, Rows, Table};
+use questions::form::{Answer, No, Speaker};
+use reads::{complemented, exact, raw, sequence};
+use rows::{file_rows, find, index_content, index_rows, is_plain, record, write_line};
 
 /// No byte input may be longer.
 const LIMIT: usize = 1 << 40;
@@ -35,108 +36,59 @@ fn n(count: usize) -> u64 {
 }
 
 /// Refusal 1 comes first in every call, for each byte input.
-fn within_limit(inputs: &[&[u8]]) -> Result<(), No> {
-    if inputs.iter().any(|input| input.len() > LIMIT) { no(1, 0, 0) } else { Ok(()) }
+fn within_limit(arguments: &[Value]) -> Result<(), No> {
+    let long = |argument: &Value| match argument {
+        Bytes(input) | MaybeBytes(Some(input)) => input.len() > LIMIT,
+        _ => false,
+    };
+    if arguments.iter().any(long) { no(1, 0, 0) } else { Ok(()) }
 }
 
 impl Speaker for Model {
-    fn definition_line(&self, line: &[u8]) -> Result<[u64; 4], No> {
-        within_limit(&[line])?;
-        definition(content(line))
-    }
-
-    fn definition_content(&self, content: &[u8]) -> Result<[u64; 4], No> {
-        within_limit(&[content])?;
-        definition(content)
-    }
-
-    fn read_line(&self, file: &[u8], at: u64) -> Result<Option<[u64; 3]>, No> {
-        within_limit(&[file])?;
-        Ok(first_line(from(file, at)).map(|line| [at, n(content(line).len()), at + n(line.len())]))
-    }
-
-    fn read_run(&self, file: &[u8], at: u64) -> Result<[u64; 2], No> {
-        within_limit(&[file])?;
-        let (start, line) = run(file, at);
-        Ok([start, n(line.len())])
-    }
-
-    fn read_sequence(&self, file: &[u8], at: u64, out: &mut [u8]) -> Told {
-        sequence(file, at, None, out)
-    }
-
-    fn read_sequence_limit(&self, file: &[u8], at: u64, limit: u64, out: &mut [u8]) -> Told {
-        sequence(file, at, Some(limit), out)
-    }
-
-    fn index_record(&self, file: &[u8], at: u64) -> Result<Option<(Row, u64)>, No> {
-        within_limit(&[file])?;
-        record(file, at)
-    }
-
-    fn index_file(&self, file: &[u8], table: &mut [u64]) -> Told {
-        file_rows(file, table, record)
-    }
-
-    fn index_complete(&self, file: &[u8], table: &mut [u64]) -> Told {
-        file_rows(file, table, fitted_record)
-    }
-
-    fn index_line(&self, line: &[u8]) -> Result<(Row, u64), No> {
-        within_limit(&[line])?;
-        Ok((index_content(content(line), 0, 1)?, u64::from(is_plain(line))))
-    }
-
-    fn index_content(&self, content: &[u8]) -> Result<Row, No> {
-        within_limit(&[content])?;
-        index_content(content, 0, 1)
-    }
-
-    fn read_index(&self, index: &[u8], table: &mut [u64]) -> Told {
-        if let Err(no) = within_limit(&[index]) {
-            return counted(Err(no));
+    fn answer(&self, family: &str, arguments: &mut [Value]) -> Option<Answer> {
+        if let Err(no) = within_limit(arguments) {
+            return Some(Err::<(), No>(no).into());
         }
-        let mut at = 0;
-        let lines = index.split_inclusive(|b| *b == b'\n');
-        fill(
-            table,
-            lines.zip(1..).map(|(line, number)| {
-                let start = at;
-                at += n(line.len());
-                index_content(content(line), start, number)
-            }),
-        )
-    }
-
-    fn write_index_line(&self, names: &[u8], rows: &Rows, row: u64, out: &mut [u8]) -> Told {
-        counted(write_line(names, rows, row, out))
-    }
-
-    fn find(&self, names: &[u8], rows: &Rows, name: &[u8]) -> Told {
-        counted(within_limit(&[names, name]).and_then(|()| find(names, rows, name)))
-    }
-
-    fn read_exact(&self, file: &[u8], rows: &Rows, row: u64, bounds: Bounds, out: &mut [u8]) -> Told {
-        counted(exact(file, rows, row, bounds, out))
-    }
-
-    fn read_raw(&self, file: &[u8], rows: &Rows, row: u64, bounds: Bounds, out: &mut [u8]) -> Told {
-        counted(raw(file, rows, row, bounds, out))
-    }
-
-    fn complement(&self, bases: &[u8], out: &mut [u8]) -> Told {
-        counted(complemented(bases, false, out))
-    }
-
-    fn reverse_complement(&self, bases: &[u8], out: &mut [u8]) -> Told {
-        counted(complemented(bases, true, out))
-    }
-
-    fn check(&self, fasta: &[u8], index: &[u8]) -> Result<(), No> {
-        check(fasta, index)
-    }
-
-    fn program(&self, input: &[u8]) -> Option<Vec<u8>> {
-        Some(program(input))
+        Some(match (family, arguments) {
+            ("def", [Bytes(line)]) => definition(content(line)).into(),
+            ("dfc", [Bytes(content)]) => definition(content).into(),
+            ("lin", [Bytes(file), Number(at)]) => {
+                let line = first_line(from(file, *at));
+                Ok(line.map(|line| [*at, n(content(line).len()), *at + n(line.len())])).into()
+            }
+            ("run", [Bytes(file), Number(at)]) => {
+                let (start, line) = run(file, *at);
+                Ok([start, n(line.len())]).into()
+            }
+            ("seq", [Bytes(file), Number(at), Output(out)]) => sequence(file, *at, None, out).into(),
+            ("lim", [Bytes(file), Number(at), Number(limit), Output(out)]) => {
+                sequence(file, *at, Some(*limit), out).into()
+            }
+            ("rec", [Bytes(file), Number(at)]) => {
+                let found = record(file, *at);
+                found.map(|found| found.map(|(row, next)| vec![Numbers(row.to_vec()), Number(next)])).into()
+            }
+            ("idx", [Bytes(file), Table(table)]) => file_rows(file, table, record).into(),
+            ("fit", [Bytes(file), Table(table)]) => file_rows(file, table, fitted_record).into(),
+            ("ixl", [Bytes(line)]) => {
+                let read = index_content(content(line), 0, 1);
+                read.map(|row| vec![Numbers(row.to_vec()), Number(u64::from(is_plain(line)))]).into()
+            }
+            ("ixc", [Bytes(content)]) => index_content(content, 0, 1).map(|row| vec![Numbers(row.to_vec())]).into(),
+            ("ixt", [Bytes(index), Table(table)]) => index_rows(index, table).into(),
+            ("wrl", [Bytes(names), Rows(rows), Number(row), Output(out)]) => write_line(names, rows, *row, out).into(),
+            ("fnd", [Bytes(names), Rows(rows), Bytes(name)]) => find(names, rows, name).into(),
+            ("exr", [Bytes(file), Rows(rows), Number(row), Bounds(bounds), Output(out)]) => {
+                exact(file, rows, *row, *bounds, out).into()
+            }
+            ("rar", [Bytes(file), Rows(rows), Number(row), Bounds(bounds), Output(out)]) => {
+                raw(file, rows, *row, *bounds, out).into()
+            }
+            ("cmp", [Bytes(bases), Output(out)]) => complemented(bases, false, out).into(),
+            ("rev", [Bytes(bases), Output(out)]) => complemented(bases, true, out).into(),
+            ("chk", [Bytes(fasta), Bytes(index)]) => check(fasta, index).into(),
+            ("prg", [Bytes(input)]) => Ok(vec![Bytes(program(input))]).into(),
+            _ => return None,
+        })
     }
 }

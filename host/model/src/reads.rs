@@ -1,18 +1,12 @@
 //! What is put in an output: sequences, regions, complements.
 
 use crate::lines::scan;
-use crate::rows::row;
-use crate::{n, no, within_limit};
-use questions::form::{Bounds, No, Row, Rows, Told};
+use crate::rows::held_row;
+use crate::{n, no};
+use questions::form::{Bounds, No};
+use questions::row::{Row, Rows};
 
 // ---- outputs ----
-
-pub(crate) fn counted(answer: Result<u64, No>) -> Told {
-    match answer {
-        Ok(count) => Told { no: None, count, next: 0 },
-        Err(no) => Told { no: Some(no), count: 0, next: 0 },
-    }
-}
 
 /// Puts an answer at the front of an output; 14 where it is too short.
 pub(crate) fn put(answer: &[u8], out: &mut [u8]) -> Result<u64, No> {
@@ -25,22 +19,17 @@ pub(crate) fn put(answer: &[u8], out: &mut [u8]) -> Result<u64, No> {
     }
 }
 
-pub(crate) fn sequence(file: &[u8], at: u64, limit: Option<u64>, out: &mut [u8]) -> Told {
-    if let Err(no) = within_limit(&[file]) {
-        return counted(Err(no));
-    }
+/// How many bases were found, and the place that is left.
+pub(crate) fn sequence(file: &[u8], at: u64, limit: Option<u64>, out: &mut [u8]) -> Result<[u64; 2], No> {
     let (found, place) = scan(file, at, limit);
-    match put(&found, out) {
-        Ok(count) => Told { no: None, count, next: place },
-        Err(no) => counted(Err(no)),
-    }
+    Ok([put(&found, out)?, place])
 }
 
 // ---- reads ----
 
 /// Where base p lies, over whole numbers: at most 128 bits are needed.
 pub(crate) fn offset(row: &Row, p: u64) -> u128 {
-    let [_, _, _, position, line_bases, line_width] = row.map(u128::from);
+    let [_, _, _, position, line_bases, line_width, ..] = row.map(u128::from);
     let i = u128::from(p) - 1;
     position + i / line_bases * line_width + i % line_bases
 }
@@ -52,9 +41,8 @@ pub(crate) fn judge_bounds((start, end): Bounds) -> Result<(), No> {
 }
 
 pub(crate) fn exact(file: &[u8], rows: &Rows, r: u64, bounds: Bounds, out: &mut [u8]) -> Result<u64, No> {
-    within_limit(&[file])?;
     judge_bounds(bounds)?;
-    let row = row(rows, r)?;
+    let row = held_row(rows, r)?;
     let length = row[2];
     let (start, end) = (bounds.0.unwrap_or(1), bounds.1.unwrap_or(length));
     if start > length || end > length {
@@ -76,9 +64,8 @@ pub(crate) fn exact(file: &[u8], rows: &Rows, r: u64, bounds: Bounds, out: &mut 
 }
 
 pub(crate) fn raw(file: &[u8], rows: &Rows, r: u64, bounds: Bounds, out: &mut [u8]) -> Result<u64, No> {
-    within_limit(&[file])?;
     judge_bounds(bounds)?;
-    let row = row(rows, r)?;
+    let row = held_row(rows, r)?;
     let start = bounds.0.unwrap_or(1);
     let Ok(at) = u64::try_from(offset(&row, start)) else {
         return no(18, start, 0);
@@ -108,7 +95,6 @@ pub(crate) fn complement_of(base: u8) -> Option<u8> {
 }
 
 pub(crate) fn complemented(text: &[u8], back: bool, out: &mut [u8]) -> Result<u64, No> {
-    within_limit(&[text])?;
     if out.len() < text.len() {
         return no(14, n(text.len()), 0);
     }

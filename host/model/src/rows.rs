@@ -1,9 +1,10 @@
 //! The rows of a file and of an index text, and those of a table that was lent.
 
 use crate::lines::{bases, content, definition, first_line, from};
-use crate::reads::{counted, put};
-use crate::{n, no, within_limit};
-use questions::form::{No, Row, Rows, Told};
+use crate::reads::put;
+use crate::{n, no};
+use questions::form::{Answer, No, Value};
+use questions::row::{OF_A_LINE, Row, Rows, WORDS, row};
 
 // ---- the indexer ----
 
@@ -37,20 +38,29 @@ pub(crate) fn record(file: &[u8], at: u64) -> Result<Option<(Row, u64)>, No> {
     }
     let length = lines.iter().map(|line| bases(line).len()).sum();
     let next = position + lines.iter().map(|line| n(line.len())).sum::<u64>();
-    Ok(Some(([at + name_start, name_length, n(length), position, n(count), n(width)], next)))
+    Ok(Some((row([at + name_start, name_length, n(length), position, n(count), n(width)]), next)))
 }
 
-// ---- a whole file ----
+// ---- whole files and indexes ----
+
+/// How many rows were put in a table, and what ended it, if it was a refusal.
+pub(crate) struct Filled {
+    pub(crate) no: Option<No>,
+    pub(crate) count: u64,
+}
+
+impl From<Filled> for Answer {
+    fn from(filled: Filled) -> Self {
+        Self { no: filled.no, told: vec![Value::Number(filled.count)] }
+    }
+}
 
 /// Rows of a file from its start on, each by a rule for one record.
 pub(crate) fn file_rows(
     file: &[u8],
     table: &mut [u64],
     record: impl Fn(&[u8], u64) -> Result<Option<(Row, u64)>, No>,
-) -> Told {
-    if let Err(no) = within_limit(&[file]) {
-        return counted(Err(no));
-    }
+) -> Filled {
     let (mut at, mut stopped) = (0, false);
     let rows = std::iter::from_fn(|| {
         if stopped {
@@ -73,24 +83,38 @@ pub(crate) fn file_rows(
 
 /// Writes a row at a count of rows, or refuses where none is free.
 pub(crate) fn put_row(table: &mut [u64], count: usize, row: Row) -> Result<(), No> {
-    let whole = table.len() / 6;
+    let whole = table.len() / WORDS;
     if count >= whole {
         return no(8, n(whole), 0);
     }
-    table[6 * count..6 * count + 6].copy_from_slice(&row);
+    table[WORDS * count..][..WORDS].copy_from_slice(&row);
     Ok(())
 }
 
 /// Rows from a source of them, until it ends or refuses.
-pub(crate) fn fill(table: &mut [u64], rows: impl Iterator<Item = Result<Row, No>>) -> Told {
+pub(crate) fn fill(table: &mut [u64], rows: impl Iterator<Item = Result<Row, No>>) -> Filled {
     let mut count = 0;
     for row in rows {
         if let Err(no) = row.and_then(|row| put_row(table, count, row)) {
-            return Told { no: Some(no), count: n(count), next: 0 };
+            return Filled { no: Some(no), count: n(count) };
         }
         count += 1;
     }
-    Told { no: None, count: n(count), next: 0 }
+    Filled { no: None, count: n(count) }
+}
+
+/// Rows of an index text; their names are spans of it.
+pub(crate) fn index_rows(index: &[u8], table: &mut [u64]) -> Filled {
+    let mut at = 0;
+    let lines = index.split_inclusive(|b| *b == b'\n');
+    fill(
+        table,
+        lines.zip(1..).map(|(line, number)| {
+            let start = at;
+            at += n(line.len());
+            index_content(content(line), start, number).map(row)
+        }),
+    )
 }
 
 // ---- index lines ----
@@ -106,14 +130,14 @@ pub(crate) fn number(field: &[u8]) -> Option<u64> {
     (!digits.is_empty()).then_some(value)
 }
 
-/// The row that an index line's content says, its name starting at `start`; refusals name this line or record.
-pub(crate) fn index_content(content: &[u8], start: u64, line: u64) -> Result<Row, No> {
+/// What an index line's content says, its name starting at `start`; refusals name this line or record.
+pub(crate) fn index_content(content: &[u8], start: u64, line: u64) -> Result<[u64; OF_A_LINE], No> {
     if content.is_empty() {
         return no(9, line, 0);
     }
     let mut fields = content.splitn(5, |b| *b == b'\t');
     let name = fields.next().expect("a first field");
-    let mut row = [start, n(name.len()), 0, 0, 0, 0];
+    let mut numbers = [start, n(name.len()), 0, 0, 0, 0];
     for field in 2..=5 {
         let Some(text) = fields.next() else {
             return no(10, line, field);
@@ -124,9 +148,9 @@ pub(crate) fn index_content(content: &[u8], start: u64, line: u64) -> Result<Row
         if field >= 4 && value == 0 {
             return no(12, line, field);
         }
-        row[field as usize] = value;
+        numbers[field as usize] = value;
     }
-    Ok(row)
+    Ok(numbers)
 }
 
 /// One line: it ends in LF with no CR before it and has no other LF; and no number has a needless leading zero or a plus.
@@ -142,28 +166,28 @@ pub(crate) fn is_plain(line: &[u8]) -> bool {
 // ---- rows of a table that was lent ----
 
 /// The numbers of row r; 25 where it isn't in the table, or the table has fewer rows than are said to be in use.
-pub(crate) fn row(rows: &Rows, r: u64) -> Result<Row, No> {
-    let whole = n(rows.numbers.len() / 6);
+pub(crate) fn held_row(rows: &Rows, r: u64) -> Result<Row, No> {
+    let whole = n(rows.numbers.len() / WORDS);
     if whole < rows.in_use {
         no(25, whole, 0)
     } else if r >= rows.in_use {
         no(25, r, 0)
     } else {
         let r = r as usize;
-        let row: Row = rows.numbers[6 * r..6 * r + 6].try_into().expect("six numbers");
+        let row: Row = rows.numbers[WORDS * r..][..WORDS].try_into().expect("the numbers of a row");
         if row[4] == 0 || row[5] == 0 { no(25, n(r), 0) } else { Ok(row) }
     }
 }
 
 /// A row with its name; 25 also where the name lies outside the bytes.
 pub(crate) fn named_row<'n>(names: &'n [u8], rows: &Rows, r: u64) -> Result<(&'n [u8], Row), No> {
-    let row = row(rows, r)?;
+    let row = held_row(rows, r)?;
     let (start, end) = (u128::from(row[0]), u128::from(row[0]) + u128::from(row[1]));
     if end > names.len() as u128 { no(25, r, 0) } else { Ok((&names[start as usize..end as usize], row)) }
 }
 
 pub(crate) fn find(names: &[u8], rows: &Rows, wanted: &[u8]) -> Result<u64, No> {
-    let whole = n(rows.numbers.len() / 6);
+    let whole = n(rows.numbers.len() / WORDS);
     if whole < rows.in_use {
         return no(25, whole, 0);
     }
@@ -176,8 +200,7 @@ pub(crate) fn find(names: &[u8], rows: &Rows, wanted: &[u8]) -> Result<u64, No> 
 }
 
 pub(crate) fn write_line(names: &[u8], rows: &Rows, r: u64, out: &mut [u8]) -> Result<u64, No> {
-    within_limit(&[names])?;
-    let (name, [_, _, length, position, line_bases, line_width]) = named_row(names, rows, r)?;
+    let (name, [_, _, length, position, line_bases, line_width, ..]) = named_row(names, rows, r)?;
     if let Some(place) = name.iter().position(|b| matches!(b, b'\t' | b'\n')) {
         return no(13, n(place), 0);
     }

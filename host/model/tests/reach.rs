@@ -1,7 +1,8 @@
 //! The model's own examples, and that the questions reach every family and every refusal.
 
 use model::Model;
-use questions::form::answered;
+use questions::family::{EXAMPLES, FAMILIES};
+use questions::form::{Speaker, Value, answered};
 use questions::generate::Questions;
 use std::collections::BTreeSet;
 
@@ -15,10 +16,6 @@ fn a_seed_gives_the_same_questions() {
 /// Each family, and of each its answers and its refusals but for the one of size.
 #[test]
 fn every_refusal_of_every_family_is_reached() {
-    const EXPECTED: &str = "\
-        def:0,2,3,4 dfc:0,2,3,4 lin:0 run:0 seq:0,14 lim:0,14 rec:0,2,3,4,5,6,7 idx:0,2,3,4,5,6,7,8 fit:0,2,3,4,8,42 ixl:0,9,10,11,12 \
-        ixc:0,9,10,11,12 ixt:0,8,9,10,11,12 wrl:0,13,14,25 fnd:0,15,25 exr:0,14,16,17,18,25 rar:0,14,16,18,25 \
-        cmp:0,14,24 rev:0,14,24 chk:0,2,3,4,9,10,11,12,19,20,21,22,23";
     let mut reached = BTreeSet::new();
     for question in Questions::new(1).take(100_000) {
         let line = answered(&Model, &question).expect("a question");
@@ -32,20 +29,30 @@ fn every_refusal_of_every_family_is_reached() {
         };
         reached.insert((family, number));
     }
-    for part in EXPECTED.split_whitespace() {
-        let (family, numbers) = part.split_once(':').expect("a family");
-        let numbers: Vec<u32> = numbers.split(',').map(|n| n.parse().expect("a number")).collect();
-        let found: Vec<u32> = reached.iter().filter(|(f, _)| f == family).map(|(_, n)| *n).collect();
-        assert_eq!(found, numbers, "{family}");
+    for family in FAMILIES {
+        let found: Vec<u64> = reached.iter().filter(|(name, _)| name == family.name).map(|(_, n)| *n).collect();
+        // the program tells refusals in its output
+        let expected = if family.name == "prg" { vec![] } else { [&[0], family.refuses].concat() };
+        assert_eq!(found, expected, "{}", family.name);
     }
+}
+
+#[test]
+fn the_examples() {
+    for line in EXAMPLES.lines() {
+        assert_eq!(answered(&Model, line).as_deref(), Some(line));
+    }
+    let asked: BTreeSet<_> = EXAMPLES.lines().filter_map(|line| line.split(' ').next()).collect();
+    assert!(FAMILIES.iter().all(|family| asked.contains(family.name)), "a family without an example");
 }
 
 /// M1 to M8 through the program, which indexes.
 #[test]
 fn the_marked_examples() {
     let program = |input: &[u8]| {
-        let output = questions::form::Speaker::program(&Model, input).expect("a model of the program");
-        String::from_utf8(output).expect("text")
+        let answer = Model.answer("prg", &mut [Value::Bytes(input.to_vec())]).expect("a model of the program");
+        let [Value::Bytes(output)] = &answer.told[..] else { panic!("{answer:?}") };
+        String::from_utf8(output.clone()).expect("text")
     };
     assert_eq!(program(b">sq0\nACGT\n>sq1\nNNNN\nNNNN\nNN\n"), "sq0\t4\t5\t4\t5\nsq1\t10\t15\t4\t5\n");
     assert_eq!(program(b">s\nACGT\n\n"), "s\t4\t3\t4\t5\n");

@@ -1,126 +1,110 @@
 //! The line form: a question is `family argument ...`, its answer the same line with ` => ` and the answer behind it.
 //!
-//! Words are split by one space. Bytes are `x` and hex, a number is decimal, `-` is an absent bound, a table is `t1,2,3`. An
-//! answer begins with `ok`, or with `no` and the refusal's number and two numbers; memory afterwards is always told.
+//! Words are split by one space; [`Kind`] says how each is written. An answer begins with `ok`, or with `no` and the refusal's number
+//! and two numbers; memory afterwards is always told. [`FAMILIES`](crate::family::FAMILIES) has what each family takes and tells.
 
+use crate::family::{Family, Kind, Shape, family};
+use crate::row::Rows;
 use std::fmt::Write as _;
 use std::io::{self, BufRead, Write};
 
 /// A refusal: its number and its two numbers.
 pub type No = [u64; 3];
 
-/// A row of a table: name start, name length, length, position, line bases, line width.
-pub type Row = [u64; 6];
-
-/// What a call that leaves memory behind tells of itself: a refusal, a count (of bytes or rows), and the place that is left.
-#[derive(Clone, Copy, Debug, Default, Eq, PartialEq)]
-pub struct Told {
-    /// What was refused, if anything was.
-    pub no: Option<No>,
-    /// How many bytes or rows; a row's number, for the look-up.
-    pub count: u64,
-    /// The place that a read leaves.
-    pub next: u64,
-}
-
-/// A table as it is lent, and how many of its rows are said to be in use.
-#[derive(Clone, Debug, Default)]
-pub struct Rows {
-    /// The numbers, six to a row.
-    pub numbers: Vec<u64>,
-    /// The rows in use.
-    pub in_use: u64,
-}
-
 /// The bounds of a region, each of which may be absent.
 pub type Bounds = (Option<u64>, Option<u64>);
 
+/// An argument, or a part of an answer: a value of the [`Kind`] of its name.
+#[derive(Clone, Debug, Eq, PartialEq)]
+#[allow(missing_docs)]
+pub enum Value {
+    Bytes(Vec<u8>),
+    MaybeBytes(Option<Vec<u8>>),
+    Number(u64),
+    MaybeNumber(Option<u64>),
+    Bounds(Bounds),
+    Numbers(Vec<u64>),
+    Rows(Rows),
+    /// A row and its bounds.
+    Regions(Vec<(u64, Bounds)>),
+    /// A piece, or the end.
+    Steps(Vec<Option<Vec<u8>>>),
+    Stepped(Vec<[u64; 4]>),
+    Table(Vec<u64>),
+    Output(Vec<u8>),
+}
+
+/// What a speaker answers. Lent memory is no part of it: that is left in the arguments.
+#[derive(Clone, Debug, Default, Eq, PartialEq)]
+pub struct Answer {
+    /// What was refused, if anything was.
+    pub no: Option<No>,
+    /// What its family's shape says, or nothing where that is `none`. After a refusal it may be left out: it is told as 0.
+    pub told: Vec<Value>,
+}
+
 /// Someone who answers questions: the library, the model, or another.
 pub trait Speaker {
-    /// `def`: name start, name length, description start, description length.
-    fn definition_line(&self, line: &[u8]) -> Result<[u64; 4], No>;
-    /// `dfc`: the same, of a line's content.
-    fn definition_content(&self, content: &[u8]) -> Result<[u64; 4], No>;
-    /// `lin`: content start, content length, next offset.
-    fn read_line(&self, file: &[u8], at: u64) -> Result<Option<[u64; 3]>, No>;
-    /// `run`: start and length.
-    fn read_run(&self, file: &[u8], at: u64) -> Result<[u64; 2], No>;
-    /// `seq`.
-    fn read_sequence(&self, file: &[u8], at: u64, out: &mut [u8]) -> Told;
-    /// `lim`.
-    fn read_sequence_limit(&self, file: &[u8], at: u64, limit: u64, out: &mut [u8]) -> Told;
-    /// `rec`: the row and the next offset.
-    fn index_record(&self, file: &[u8], at: u64) -> Result<Option<(Row, u64)>, No>;
-    /// `idx`.
-    fn index_file(&self, file: &[u8], table: &mut [u64]) -> Told;
-    /// `fit`: the same by the complete rule.
-    fn index_complete(&self, file: &[u8], table: &mut [u64]) -> Told;
-    /// `ixl`: the row, and 1 if the line is plain.
-    fn index_line(&self, line: &[u8]) -> Result<(Row, u64), No>;
-    /// `ixc`: the row.
-    fn index_content(&self, content: &[u8]) -> Result<Row, No>;
-    /// `ixt`.
-    fn read_index(&self, index: &[u8], table: &mut [u64]) -> Told;
-    /// `wrl`.
-    fn write_index_line(&self, names: &[u8], rows: &Rows, row: u64, out: &mut [u8]) -> Told;
-    /// `fnd`.
-    fn find(&self, names: &[u8], rows: &Rows, name: &[u8]) -> Told;
-    /// `exr`.
-    fn read_exact(&self, file: &[u8], rows: &Rows, row: u64, bounds: Bounds, out: &mut [u8]) -> Told;
-    /// `rar`.
-    fn read_raw(&self, file: &[u8], rows: &Rows, row: u64, bounds: Bounds, out: &mut [u8]) -> Told;
-    /// `cmp`.
-    fn complement(&self, bases: &[u8], out: &mut [u8]) -> Told;
-    /// `rev`.
-    fn reverse_complement(&self, bases: &[u8], out: &mut [u8]) -> Told;
-    /// `chk`.
-    fn check(&self, fasta: &[u8], index: &[u8]) -> Result<(), No>;
-    /// `prg`: the output of the program, where there is one to run.
-    fn program(&self, input: &[u8]) -> Option<Vec<u8>>;
+    /// The answer to a question. The arguments are of its family's kinds, and those that are lent are left as the call leaves them.
+    /// `None` where this speaker has no answer.
+    fn answer(&self, family: &str, arguments: &mut [Value]) -> Option<Answer>;
 }
 
-/// The words of a question that are still to be read.
-struct Words<'q>(std::str::Split<'q, char>);
+/// What is told without a refusal.
+pub trait Tell {
+    /// Its parts.
+    fn parts(self) -> Vec<Value>;
+}
 
-impl Words<'_> {
-    fn bytes(&mut self) -> Option<Vec<u8>> {
-        bytes(self.0.next()?)
+impl Tell for () {
+    fn parts(self) -> Vec<Value> {
+        vec![]
     }
+}
 
-    fn number(&mut self) -> Option<u64> {
-        number(self.0.next()?)
+impl Tell for u64 {
+    fn parts(self) -> Vec<Value> {
+        vec![Value::Number(self)]
     }
+}
 
-    fn bound(&mut self) -> Option<Option<u64>> {
-        match self.0.next()? {
-            "-" => Some(None),
-            word => number(word).map(Some),
+impl<const N: usize> Tell for [u64; N] {
+    fn parts(self) -> Vec<Value> {
+        self.map(Value::Number).to_vec()
+    }
+}
+
+impl Tell for Vec<Value> {
+    fn parts(self) -> Vec<Value> {
+        self
+    }
+}
+
+impl<T: Tell> Tell for Option<T> {
+    fn parts(self) -> Vec<Value> {
+        self.map_or(vec![], T::parts)
+    }
+}
+
+impl<T: Tell> From<Result<T, No>> for Answer {
+    fn from(answer: Result<T, No>) -> Self {
+        match answer {
+            Ok(told) => Self { no: None, told: told.parts() },
+            Err(no) => Self { no: Some(no), told: vec![] },
         }
     }
-
-    fn bounds(&mut self) -> Option<Bounds> {
-        Some((self.bound()?, self.bound()?))
-    }
-
-    fn table(&mut self) -> Option<Vec<u64>> {
-        table(self.0.next()?)
-    }
-
-    fn rows(&mut self) -> Option<Rows> {
-        Some(Rows { numbers: self.table()?, in_use: self.number()? })
-    }
-
-    /// The answer, if no word is left over.
-    fn end(mut self) -> Option<()> {
-        self.0.next().is_none().then_some(())
-    }
 }
+
+// ---- words that are read ----
 
 /// Bytes from `x` and hex.
 pub fn bytes(word: &str) -> Option<Vec<u8>> {
+    hex(word.strip_prefix('x')?)
+}
+
+fn hex(digits: &str) -> Option<Vec<u8>> {
     let digit = |d: u8| (d as char).to_digit(16).map(|d| d as u8);
-    let hex = word.strip_prefix('x')?.as_bytes();
-    let pairs = hex.chunks_exact(2);
+    let pairs = digits.as_bytes().chunks_exact(2);
     if !pairs.remainder().is_empty() {
         return None;
     }
@@ -132,217 +116,215 @@ fn number(word: &str) -> Option<u64> {
     word.bytes().all(|b| b.is_ascii_digit()).then(|| word.parse().ok())?
 }
 
+/// Parts with commas between; none of an empty word.
+fn listed<T>(word: &str, part: impl Fn(&str) -> Option<T>) -> Option<Vec<T>> {
+    if word.is_empty() { Some(vec![]) } else { word.split(',').map(part).collect() }
+}
+
 /// A table from `t` and numbers with commas between.
 pub fn table(word: &str) -> Option<Vec<u64>> {
-    match word.strip_prefix('t')? {
-        "" => Some(vec![]),
-        numbers => numbers.split(',').map(number).collect(),
+    listed(word.strip_prefix('t')?, number)
+}
+
+fn maybe<T>(word: &str, there: impl Fn(&str) -> Option<T>) -> Option<Option<T>> {
+    if word == "-" { Some(None) } else { there(word).map(Some) }
+}
+
+fn region(word: &str) -> Option<(u64, Bounds)> {
+    let mut parts = word.split(':');
+    let (row, start, end) = (parts.next()?, parts.next()?, parts.next()?);
+    let bounds = (maybe(start, number)?, maybe(end, number)?);
+    parts.next().is_none().then_some((number(row)?, bounds))
+}
+
+fn step(word: &str) -> Option<Option<Vec<u8>>> {
+    if word == "e" { Some(None) } else { hex(word.strip_prefix('f')?).map(Some) }
+}
+
+impl Value {
+    /// A value of a kind, from the next word, or the next two.
+    fn read<'q>(kind: Kind, words: &mut impl Iterator<Item = &'q str>) -> Option<Self> {
+        let word = words.next()?;
+        Some(match kind {
+            Kind::Bytes => Self::Bytes(bytes(word)?),
+            Kind::MaybeBytes => Self::MaybeBytes(maybe(word, bytes)?),
+            Kind::Number => Self::Number(number(word)?),
+            Kind::MaybeNumber => Self::MaybeNumber(maybe(word, number)?),
+            Kind::Bounds => Self::Bounds((maybe(word, number)?, maybe(words.next()?, number)?)),
+            Kind::Numbers => Self::Numbers(table(word)?),
+            Kind::Rows => Self::Rows(Rows { numbers: table(word)?, in_use: number(words.next()?)? }),
+            Kind::Regions => Self::Regions(listed(word.strip_prefix('r')?, region)?),
+            Kind::Steps => Self::Steps(listed(word, step)?),
+            // only an answer has it
+            Kind::Stepped => return None,
+            Kind::Table => Self::Table(table(word)?),
+            Kind::Output => Self::Output(bytes(word)?),
+        })
+    }
+
+    /// What kind of value it is.
+    pub fn kind(&self) -> Kind {
+        match self {
+            Self::Bytes(_) => Kind::Bytes,
+            Self::MaybeBytes(_) => Kind::MaybeBytes,
+            Self::Number(_) => Kind::Number,
+            Self::MaybeNumber(_) => Kind::MaybeNumber,
+            Self::Bounds(_) => Kind::Bounds,
+            Self::Numbers(_) => Kind::Numbers,
+            Self::Rows(_) => Kind::Rows,
+            Self::Regions(_) => Kind::Regions,
+            Self::Steps(_) => Kind::Steps,
+            Self::Stepped(_) => Kind::Stepped,
+            Self::Table(_) => Kind::Table,
+            Self::Output(_) => Kind::Output,
+        }
+    }
+
+    /// Adds it to a line, with a space before each word.
+    fn tell(&self, line: &mut String) {
+        if let Self::Stepped(steps) = self {
+            for [number, first, second, rows] in steps {
+                let _ = write!(line, " {number}:{first}:{second}:{rows}");
+            }
+            return;
+        }
+        line.push(' ');
+        match self {
+            Self::Bytes(bytes) | Self::MaybeBytes(Some(bytes)) | Self::Output(bytes) => tell_bytes(line, bytes),
+            Self::Number(number) => tell_number(line, Some(*number)),
+            Self::MaybeNumber(number) => tell_number(line, *number),
+            Self::Bounds(bounds) => tell_bounds(line, *bounds, ' '),
+            Self::Numbers(numbers) | Self::Table(numbers) => tell_table(line, numbers),
+            Self::Rows(rows) => {
+                tell_table(line, &rows.numbers);
+                let _ = write!(line, " {}", rows.in_use);
+            }
+            Self::Regions(regions) => {
+                line.push('r');
+                tell_list(line, regions, |line, (row, bounds)| {
+                    let _ = write!(line, "{row}:");
+                    tell_bounds(line, *bounds, ':');
+                });
+            }
+            Self::Steps(steps) => tell_list(line, steps, |line, step| match step {
+                None => line.push('e'),
+                Some(piece) => {
+                    line.push('f');
+                    tell_hex(line, piece);
+                }
+            }),
+            Self::MaybeBytes(None) | Self::Stepped(_) => line.push('-'),
+        }
     }
 }
 
-/// Tells bytes as `x` and hex.
-pub fn tell_bytes(line: &mut String, bytes: &[u8]) {
+// ---- words that are written ----
+
+fn tell_hex(line: &mut String, bytes: &[u8]) {
     const DIGITS: [char; 16] = ['0', '1', '2', '3', '4', '5', '6', '7', '8', '9', 'a', 'b', 'c', 'd', 'e', 'f'];
-    line.push('x');
     for byte in bytes {
         line.push(DIGITS[usize::from(byte >> 4)]);
         line.push(DIGITS[usize::from(byte & 15)]);
     }
 }
 
+/// Tells bytes as `x` and hex.
+pub fn tell_bytes(line: &mut String, bytes: &[u8]) {
+    line.push('x');
+    tell_hex(line, bytes);
+}
+
+fn tell_list<T>(line: &mut String, parts: &[T], tell: impl Fn(&mut String, &T)) {
+    for (k, part) in parts.iter().enumerate() {
+        if k > 0 {
+            line.push(',');
+        }
+        tell(line, part);
+    }
+}
+
 /// Tells a table as `t` and numbers with commas between.
-pub fn tell_table(line: &mut String, numbers: &[u64]) {
+fn tell_table(line: &mut String, numbers: &[u64]) {
     line.push('t');
-    for (k, n) in numbers.iter().enumerate() {
-        let comma = if k == 0 { "" } else { "," };
-        let _ = write!(line, "{comma}{n}");
-    }
+    tell_list(line, numbers, |line, number| tell_number(line, Some(*number)));
 }
 
-fn tell_numbers(line: &mut String, numbers: &[u64]) {
-    for n in numbers {
-        let _ = write!(line, " {n}");
-    }
-}
-
-/// `ok`, or `no` and three numbers.
-fn tell_refusal(line: &mut String, no: Option<No>) {
-    match no {
-        None => line.push_str("ok"),
-        Some(no) => {
-            line.push_str("no");
-            tell_numbers(line, &no);
+fn tell_number(line: &mut String, number: Option<u64>) {
+    match number {
+        None => line.push('-'),
+        Some(number) => {
+            let _ = write!(line, "{number}");
         }
     }
 }
 
-/// `ok` and what is told then; after a refusal there is nothing more to tell.
-fn tell<T>(line: &mut String, answer: Result<T, No>, then: impl FnOnce(&mut String, T)) {
-    match answer {
-        Ok(t) => {
-            line.push_str("ok");
-            then(line, t);
+fn tell_bounds(line: &mut String, (start, end): Bounds, between: char) {
+    tell_number(line, start);
+    line.push(between);
+    tell_number(line, end);
+}
+
+// ---- questions and answers ----
+
+/// The line of a question.
+pub fn question(family: &str, arguments: &[Value]) -> String {
+    let mut line = family.to_string();
+    arguments.iter().for_each(|argument| argument.tell(&mut line));
+    line
+}
+
+/// A question's family and arguments, if these are of the family's kinds and no word is left over.
+pub fn read_question(question: &str) -> Option<(&'static Family, Vec<Value>)> {
+    let mut words = question.split(' ');
+    let family = family(words.next()?)?;
+    let arguments = family.takes.iter().map(|kind| Value::read(*kind, &mut words)).collect::<Option<Vec<_>>>()?;
+    words.next().is_none().then_some((family, arguments))
+}
+
+/// Whether an answer has the parts that its family tells, or none of them where it may.
+fn fits(shape: Shape, answer: &Answer) -> bool {
+    let (kinds, may_be_none) = match shape {
+        Shape::IfOk(kinds) | Shape::Always(kinds) | Shape::Bare(kinds) => (kinds, answer.no.is_some()),
+        Shape::Found(kinds) => (kinds, true),
+    };
+    may_be_none && answer.told.is_empty() || answer.told.iter().map(Value::kind).eq(kinds.iter().copied())
+}
+
+/// Adds an answer to a line that ends in `=>`: what the family tells, and lent memory as it was left.
+fn tell_answer(line: &mut String, shape: Shape, answer: &Answer, arguments: &[Value]) {
+    match (answer.no, shape) {
+        (Some([number, first, second]), _) => {
+            let _ = write!(line, " no {number} {first} {second}");
         }
-        Err(no) => tell_refusal(line, Some(no)),
+        (None, Shape::Bare(_)) => {}
+        (None, _) => line.push_str(" ok"),
     }
-}
-
-fn tell_row(line: &mut String, row: &Row) {
-    line.push(' ');
-    tell_table(line, row);
-}
-
-/// An answer that counts, and an output or a table as it was left.
-fn tell_output(line: &mut String, told: Told, out: &[u8]) {
-    tell_refusal(line, told.no);
-    tell_numbers(line, &[told.count]);
-    line.push(' ');
-    tell_bytes(line, out);
-}
-
-fn tell_rows(line: &mut String, told: Told, table: &[u64]) {
-    tell_refusal(line, told.no);
-    tell_numbers(line, &[told.count]);
-    line.push(' ');
-    tell_table(line, table);
-}
-
-/// Answers one question at the end of `line`, or tells `None` where the speaker or this form doesn't know it.
-fn answer(speaker: &impl Speaker, question: &str, line: &mut String) -> Option<()> {
-    let mut words = Words(question.split(' '));
-    let family = words.0.next()?;
-    match family {
-        "def" | "dfc" => {
-            let text = words.bytes()?;
-            words.end()?;
-            let told = if family == "def" { speaker.definition_line(&text) } else { speaker.definition_content(&text) };
-            tell(line, told, |line, spans| tell_numbers(line, &spans));
-        }
-        "lin" => {
-            let (file, at) = (words.bytes()?, words.number()?);
-            words.end()?;
-            tell(line, speaker.read_line(&file, at), |line, found| match found {
-                None => line.push_str(" none"),
-                Some(numbers) => tell_numbers(line, &numbers),
-            });
-        }
-        "run" => {
-            let (file, at) = (words.bytes()?, words.number()?);
-            words.end()?;
-            tell(line, speaker.read_run(&file, at), |line, span| tell_numbers(line, &span));
-        }
-        "seq" | "lim" => {
-            let (file, at) = (words.bytes()?, words.number()?);
-            let limit = if family == "lim" { Some(words.number()?) } else { None };
-            let mut out = words.bytes()?;
-            words.end()?;
-            let told = match limit {
-                None => speaker.read_sequence(&file, at, &mut out),
-                Some(limit) => speaker.read_sequence_limit(&file, at, limit, &mut out),
-            };
-            tell_refusal(line, told.no);
-            tell_numbers(line, &[told.count, told.next]);
-            line.push(' ');
-            tell_bytes(line, &out);
-        }
-        "rec" => {
-            let (file, at) = (words.bytes()?, words.number()?);
-            words.end()?;
-            tell(line, speaker.index_record(&file, at), |line, found| match found {
-                None => line.push_str(" none"),
-                Some((row, next)) => {
-                    tell_row(line, &row);
-                    tell_numbers(line, &[next]);
-                }
-            });
-        }
-        "idx" | "fit" | "ixt" => {
-            let (text, mut table) = (words.bytes()?, words.table()?);
-            words.end()?;
-            let told = match family {
-                "idx" => speaker.index_file(&text, &mut table),
-                "fit" => speaker.index_complete(&text, &mut table),
-                _ => speaker.read_index(&text, &mut table),
-            };
-            tell_rows(line, told, &table);
-        }
-        "ixl" => {
-            let text = words.bytes()?;
-            words.end()?;
-            tell(line, speaker.index_line(&text), |line, (row, plain)| {
-                tell_row(line, &row);
-                tell_numbers(line, &[plain]);
-            });
-        }
-        "ixc" => {
-            let content = words.bytes()?;
-            words.end()?;
-            tell(line, speaker.index_content(&content), |line, row| tell_row(line, &row));
-        }
-        "wrl" => {
-            let (names, rows, row, mut out) = (words.bytes()?, words.rows()?, words.number()?, words.bytes()?);
-            words.end()?;
-            let told = speaker.write_index_line(&names, &rows, row, &mut out);
-            tell_output(line, told, &out);
-        }
-        "fnd" => {
-            let (names, rows, name) = (words.bytes()?, words.rows()?, words.bytes()?);
-            words.end()?;
-            let told = speaker.find(&names, &rows, &name);
-            tell_refusal(line, told.no);
-            if told.no.is_none() {
-                tell_numbers(line, &[told.count]);
-            }
-        }
-        "exr" | "rar" => {
-            let (file, rows, row, bounds) = (words.bytes()?, words.rows()?, words.number()?, words.bounds()?);
-            let mut out = words.bytes()?;
-            words.end()?;
-            let told = if family == "exr" {
-                speaker.read_exact(&file, &rows, row, bounds, &mut out)
-            } else {
-                speaker.read_raw(&file, &rows, row, bounds, &mut out)
-            };
-            tell_output(line, told, &out);
-        }
-        "cmp" | "rev" => {
-            let (bases, mut out) = (words.bytes()?, words.bytes()?);
-            words.end()?;
-            let told = if family == "cmp" {
-                speaker.complement(&bases, &mut out)
-            } else {
-                speaker.reverse_complement(&bases, &mut out)
-            };
-            tell_output(line, told, &out);
-        }
-        "chk" => {
-            let (fasta, index) = (words.bytes()?, words.bytes()?);
-            words.end()?;
-            tell(line, speaker.check(&fasta, &index), |_, ()| ());
-        }
-        "prg" => {
-            let input = words.bytes()?;
-            words.end()?;
-            tell_bytes(line, &speaker.program(&input)?);
-        }
-        _ => return None,
+    match (answer.no, shape) {
+        (Some(_), Shape::IfOk(_) | Shape::Found(_)) => {}
+        (Some(_), Shape::Always(kinds)) if answer.told.is_empty() => kinds.iter().for_each(|_| line.push_str(" 0")),
+        (None, Shape::Found(_)) if answer.told.is_empty() => line.push_str(" none"),
+        _ => answer.told.iter().for_each(|part| part.tell(line)),
     }
-    Some(())
+    let lent = |argument: &&Value| matches!(argument.kind(), Kind::Table | Kind::Output);
+    arguments.iter().filter(lent).for_each(|argument| argument.tell(line));
 }
 
-/// The whole line of a question and its answer; `None` for a line that asks nothing.
+/// The whole line of a question and its answer, `skip` where the speaker or the form has none; `None` for a line that asks nothing.
 pub fn answered(speaker: &impl Speaker, line: &str) -> Option<String> {
     let question = line.split(" => ").next().unwrap_or_default();
     if question.is_empty() || question.starts_with('#') {
         return None;
     }
-    let mut told = format!("{question} => ");
-    let front = told.len();
-    if answer(speaker, question, &mut told).is_none() {
-        told.truncate(front);
-        told.push_str("skip");
+    let answer = read_question(question).and_then(|(family, mut arguments)| {
+        let answer = speaker.answer(family.name, &mut arguments).filter(|answer| fits(family.tells, answer))?;
+        Some((family, answer, arguments))
+    });
+    let mut line = format!("{question} =>");
+    match answer {
+        None => line.push_str(" skip"),
+        Some((family, answer, arguments)) => tell_answer(&mut line, family.tells, &answer, &arguments),
     }
-    Some(told)
+    Some(line)
 }
 
 /// Answers every question of an input, a line to each.
@@ -354,4 +336,51 @@ pub fn converse(speaker: &impl Speaker, input: impl BufRead, output: impl Write)
         }
     }
     output.flush()
+}
+
+/// Every kind is read from the words that it is written with, and from no others.
+#[test]
+fn words_of_each_kind() {
+    let good = [
+        (Kind::Bytes, "x"),
+        (Kind::Bytes, "x00ff"),
+        (Kind::MaybeBytes, "-"),
+        (Kind::MaybeBytes, "x"),
+        (Kind::Number, "18446744073709551615"),
+        (Kind::MaybeNumber, "-"),
+        (Kind::MaybeNumber, "0"),
+        (Kind::Bounds, "4 5"),
+        (Kind::Bounds, "- 7"),
+        (Kind::Numbers, "t"),
+        (Kind::Rows, "t1,2,3 1"),
+        (Kind::Regions, "r"),
+        (Kind::Regions, "r0:4:5,1:-:7,2:-:-"),
+        (Kind::Steps, "f3e73,f,e"),
+        (Kind::Table, "t700,701"),
+        (Kind::Output, "x2e"),
+    ];
+    for (kind, text) in good {
+        let mut words = text.split(' ');
+        let value = Value::read(kind, &mut words).expect(text);
+        assert_eq!((value.kind(), words.next()), (kind, None), "{text}");
+        assert_eq!(question("", &[value]), format!(" {text}"));
+    }
+    assert_eq!(question("", &[Value::Stepped(vec![[0, 0, 0, 1], [6, 0, 4, 1]])]), " 0:0:0:1 6:0:4:1");
+    let bad = [
+        (Kind::Bytes, "x0"),
+        (Kind::Bytes, "-"),
+        (Kind::Number, "+1"),
+        (Kind::Number, "18446744073709551616"),
+        (Kind::Number, ""),
+        (Kind::Bounds, "4"),
+        (Kind::Rows, "t1"),
+        (Kind::Regions, "r0:4"),
+        (Kind::Regions, "r0:4:5:6"),
+        (Kind::Steps, "x3e"),
+        (Kind::Table, "t1,,2"),
+        (Kind::Stepped, "0:0:0:1"),
+    ];
+    for (kind, text) in bad {
+        assert_eq!(Value::read(kind, &mut text.split(' ')), None, "{text}");
+    }
 }

@@ -1,8 +1,11 @@
 //! Questions to a FASTA index library and their answers, one to a line of text.
 //!
-//! [`form`] reads a question and tells its answer as any [`form::Speaker`] gives it; [`generate`] makes questions without end;
-//! [`rules`] says whether two speakers said the same. The programs `questions` and `compare` stand on these.
+//! [`family`] has every family of questions in one table; [`form`] reads a question and tells its answer as any [`form::Speaker`]
+//! gives it; [`generate`] makes questions without end; [`rules`] says whether two speakers said the same; [`row`] says how many
+//! numbers a row has. The programs `questions`, `compare` and `replay-list` stand on these.
 
+pub mod family;
 pub mod form;
 pub mod generate;
+pub mod row;
 pub mod rules;

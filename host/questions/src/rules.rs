@@ -3,13 +3,11 @@
 //! Against the model they must be equal. Against the original there are listed differences, and each of them is held to what
 //! the list says: an answer that merely looks like one is a difference.
 
+use crate::family::{Original, family};
 use crate::form;
 
 /// Refusals that the original doesn't have: where one is right, it has no answer to give.
 const ADDED: [&str; 7] = ["1", "8", "13", "14", "16", "18", "25"];
-
-/// Families where the original tells the memory after a refusal too.
-const TELLS_MEMORY: [&str; 3] = ["idx", "cmp", "rev"];
 
 /// How two answers stand to each other.
 #[derive(Clone, Copy, Debug, Eq, Ord, PartialEq, PartialOrd)]
@@ -20,7 +18,7 @@ pub enum Kind {
     SameAsToldOf,
     /// The original has no answer, and ours is a refusal that was added.
     Added,
-    /// The original has no answer.
+    /// The original has no answer, or neither the model nor ours has one.
     Skipped,
     /// Ours wasn't asked: there is no program to run.
     NotAsked,
@@ -64,6 +62,7 @@ impl Rules {
             return if question.starts_with("prg ") { Kind::NotAsked } else { Kind::Different };
         }
         match self {
+            Self::Exact if first == ours && ours == "skip" => Kind::Skipped,
             Self::Exact if first == ours => Kind::Same,
             Self::Exact => Kind::Different,
             Self::Original => against_original(question, first, ours),
@@ -72,7 +71,7 @@ impl Rules {
 }
 
 fn against_original(question: &str, original: &str, ours: &str) -> Kind {
-    let (family, mine): (_, Vec<&str>) = (question.split(' ').next().unwrap_or_default(), ours.split(' ').collect());
+    let (name, mine): (_, Vec<&str>) = (question.split(' ').next().unwrap_or_default(), ours.split(' ').collect());
     let refused = if mine[0] == "no" { mine.get(1).copied() } else { None };
     if original == "skip" {
         return if refused.is_some_and(|n| ADDED.contains(&n)) { Kind::Added } else { Kind::Skipped };
@@ -82,7 +81,7 @@ fn against_original(question: &str, original: &str, ours: &str) -> Kind {
     }
     let theirs: Vec<&str> = original.split(' ').collect();
     if theirs[0] == "no" && refused.is_some() {
-        let all = TELLS_MEMORY.contains(&family);
+        let all = family(name).is_some_and(|family| family.original == Original::Memory);
         let length = if all { theirs.len().max(mine.len()) } else { 4 };
         let told = (0..length).all(|k| theirs.get(k) == Some(&"?") || theirs.get(k) == mine.get(k));
         if told {
@@ -90,7 +89,7 @@ fn against_original(question: &str, original: &str, ours: &str) -> Kind {
         }
     }
     let arguments: Vec<&str> = question.split(' ').skip(1).collect();
-    match family {
+    match name {
         "prg" if is_program_limit(&arguments, original, ours) => Kind::ProgramLimit,
         "rar" if is_no_limit(&arguments, &theirs, &mine) => Kind::NoLimit,
         _ => Kind::Different,
@@ -106,11 +105,20 @@ fn is_program_limit(arguments: &[&str], original: &str, ours: &str) -> bool {
     input.len() <= 65_536 && full && theirs.len() > rows.len() && theirs.starts_with(rows)
 }
 
-/// The end is absent, the original's answer is as long as there are base positions up to the greatest, and ours begins with it.
-fn is_no_limit(arguments: &[&str], theirs: &[&str], mine: &[&str]) -> bool {
-    let [_, _, _, _, start, "-", _] = arguments else { return false };
-    let (["ok", count, theirs], ["ok", _, mine]) = (theirs, mine) else { return false };
+/// A raw read whose end is absent, and whose answer is as long as there are base positions up to the greatest: there the original
+/// stops.
+pub fn stops_at_the_greatest(arguments: &[&str], theirs: &[&str]) -> bool {
+    let ([_, _, _, _, start, "-", _], ["ok", count, _]) = (arguments, theirs) else { return false };
     let (Ok(start), Ok(count)) = (start.parse::<u64>(), count.parse::<u64>()) else { return false };
-    let given = 1 + 2 * count as usize;
-    start > 0 && count == u64::MAX - start + 1 && mine.get(..given) == theirs.get(..given)
+    start > 0 && count == u64::MAX - start + 1
+}
+
+/// The original stops at the greatest base position, and ours begins with its answer.
+fn is_no_limit(arguments: &[&str], theirs: &[&str], mine: &[&str]) -> bool {
+    if !stops_at_the_greatest(arguments, theirs) {
+        return false;
+    }
+    let (["ok", count, theirs], ["ok", _, mine]) = (theirs, mine) else { return false };
+    let given = 1 + 2 * count.parse::<usize>().unwrap_or(0);
+    mine.get(..given) == theirs.get(..given)
 }

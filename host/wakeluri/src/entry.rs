@@ -2,166 +2,118 @@
 //!
 //! These add nothing to what the static library does but that slices make them safe to call. Every call takes any bytes and any
 //! numbers: the proved code reads and writes only inside the slices that it is lent. A table is bytes, eight to a number, low
-//! byte first, six numbers to a row. The crate's own functions and [`Table`](crate::Table) are more comfortable.
+//! byte first, [`ROW_WORDS`] numbers to a row. The crate's own functions and [`Table`](crate::Table) are more comfortable.
 
 use crate::Bounds;
-use crate::sys;
 
-pub use crate::sys::{Answer, Definition, Row, Span};
+macro_rules! structs {
+    ($($(#[$doc:meta])* struct $name:ident { $($field:ident),* })*) => {$(
+        $(#[$doc])*
+        #[repr(C)]
+        #[derive(Clone, Copy, Debug, Default, Eq, PartialEq)]
+        #[allow(missing_docs)]
+        pub struct $name {
+            pub refusal: u64,
+            pub first: u64,
+            pub second: u64,
+            $(pub $field: u64,)*
+        }
 
-/// What a definition line says, given with its end. Refuses 1 to 4.
-pub fn definition_line(line: &[u8]) -> Definition {
-    // SAFETY: each pointer comes from a slice, with its length; nothing is written.
-    unsafe { sys::wakeluri_definition_line(line.as_ptr(), line.len()) }
+        impl $name {
+            const NUMBERS: usize = [$(stringify!($field)),*].len();
+
+            /// The refusal and its two numbers, if there is one.
+            pub fn no(&self) -> Option<[u64; 3]> {
+                (self.refusal != 0).then_some([self.refusal, self.first, self.second])
+            }
+
+            /// The numbers behind the refusal's, in their order.
+            pub fn numbers(&self) -> [u64; Self::NUMBERS] {
+                [$(self.$field),*]
+            }
+        }
+    )*};
 }
 
-/// What the content of a definition line says, without its end. Refuses 1 to 4.
-pub fn definition_content(content: &[u8]) -> Definition {
-    // SAFETY: each pointer comes from a slice, with its length; nothing is written.
-    unsafe { sys::wakeluri_definition_content(content.as_ptr(), content.len()) }
+crate::answers!(structs);
+
+/// The numbers of a row of a table: those of a [`Row`] from `name_start` on.
+pub const ROW_WORDS: usize = (size_of::<Row>() - std::mem::offset_of!(Row, name_start)) / size_of::<u64>();
+
+/// The bytes of a row of a table.
+pub const ROW_BYTES: usize = ROW_WORDS * size_of::<u64>();
+
+impl Row {
+    /// The numbers of the row, as a table has them.
+    pub fn row(&self) -> [u64; ROW_WORDS] {
+        let numbers = self.numbers();
+        std::array::from_fn(|word| numbers[Self::NUMBERS - ROW_WORDS + word])
+    }
 }
 
-/// The content of the line at an offset, without LF and, only before an LF, one CR. Refuses 1.
-pub fn read_line(file: &[u8], at: u64) -> Span {
-    // SAFETY: each pointer comes from a slice, with its length; nothing is written.
-    unsafe { sys::wakeluri_read_line(file.as_ptr(), file.len(), at) }
+/// The type of a parameter in Rust.
+#[rustfmt::skip]
+macro_rules! lent {
+    (bytes) => { &[u8] };
+    (maybe) => { Option<&[u8]> };
+    (output) => { &mut [u8] };
+    (table) => { &mut [u8] };
+    (number) => { u64 };
+    (bounds) => { Bounds };
 }
 
-/// One step of the scanning rule: the next run of bases from a place on, of length 0 at '>' or the end. Refuses 1.
-pub fn read_run(file: &[u8], at: u64) -> Span {
-    // SAFETY: each pointer comes from a slice, with its length; nothing is written.
-    unsafe { sys::wakeluri_read_run(file.as_ptr(), file.len(), at) }
-}
-
-/// The bases from an offset on, by the scanning rule, at the front of `out`; tells how many, and the place left. Refuses 1, 14.
-pub fn read_sequence(file: &[u8], at: u64, out: &mut [u8]) -> Answer {
-    // SAFETY: each pointer comes from a slice, with its length; `out` is lent to this call alone.
-    unsafe { sys::wakeluri_read_sequence(file.as_ptr(), file.len(), at, out.as_mut_ptr(), out.len()) }
-}
-
-/// The same, at most `limit` bases. Refuses 1, 14.
-pub fn read_sequence_limit(file: &[u8], at: u64, limit: u64, out: &mut [u8]) -> Answer {
-    // SAFETY: each pointer comes from a slice, with its length; `out` is lent to this call alone.
-    unsafe { sys::wakeluri_read_sequence_limit(file.as_ptr(), file.len(), at, limit, out.as_mut_ptr(), out.len()) }
-}
-
-/// The row of the record at an offset, and the offset behind it. Refuses 1 to 7.
-pub fn index_record(file: &[u8], at: u64) -> Row {
-    // SAFETY: each pointer comes from a slice, with its length; nothing is written.
-    unsafe { sys::wakeluri_index_record(file.as_ptr(), file.len(), at) }
-}
-
-/// A row for each record of a file, from the table's first on, by the original's rule; tells how many. Refuses 1 to 8.
-pub fn index_file(file: &[u8], table: &mut [u8]) -> Answer {
-    // SAFETY: each pointer comes from a slice, with its length; `table` is lent to this call alone.
-    unsafe { sys::wakeluri_index_file(file.as_ptr(), file.len(), table.as_mut_ptr(), table.len()) }
-}
-
-/// The same by the complete rule, which takes every file that any index leads through. Refuses 1, then record by record 2 to 4, 42, 8.
-pub fn index_complete(file: &[u8], table: &mut [u8]) -> Answer {
-    // SAFETY: each pointer comes from a slice, with its length; `table` is lent to this call alone.
-    unsafe { sys::wakeluri_index_complete(file.as_ptr(), file.len(), table.as_mut_ptr(), table.len()) }
-}
-
-/// What an index line says, given with its end; its name starts at 0. Refuses 1, 9 to 12.
-pub fn index_line(line: &[u8]) -> Row {
-    // SAFETY: each pointer comes from a slice, with its length; nothing is written.
-    unsafe { sys::wakeluri_index_line(line.as_ptr(), line.len()) }
-}
-
-/// What the content of an index line says, without its end. Refuses 1, 9 to 12.
-pub fn index_content(content: &[u8]) -> Row {
-    // SAFETY: each pointer comes from a slice, with its length; nothing is written.
-    unsafe { sys::wakeluri_index_content(content.as_ptr(), content.len()) }
-}
-
-/// A row for each line of an index, from the table's first on; names are spans of the index. Refuses 1, 9 to 12, 8.
-pub fn read_index(index: &[u8], table: &mut [u8]) -> Answer {
-    // SAFETY: each pointer comes from a slice, with its length; `table` is lent to this call alone.
-    unsafe { sys::wakeluri_read_index(index.as_ptr(), index.len(), table.as_mut_ptr(), table.len()) }
-}
-
-/// The index line of a row, with its LF, at the front of `out`; tells how many bytes. Refuses 1, 25, 13, 14.
-pub fn write_index_line(names: &[u8], table: &[u8], in_use: u64, row: u64, out: &mut [u8]) -> Answer {
-    // SAFETY: each pointer comes from a slice, with its length; `out` is lent to this call alone.
-    unsafe {
-        sys::wakeluri_write_index_line(
-            names.as_ptr(),
-            names.len(),
-            table.as_ptr(),
-            table.len(),
-            in_use,
-            row,
-            out.as_mut_ptr(),
-            out.len(),
+/// The call of an entry point: its parameters, one by one, become types and values as C has them.
+macro_rules! call {
+    ($name:ident $answer:ident [$($type:ty,)*] [$($value:expr,)*]) => {{
+        unsafe extern "C" {
+            #[link_name = concat!("wakeluri_", stringify!($name))]
+            fn entry_point($(_: $type),*) -> $answer;
+        }
+        // SAFETY: each pointer comes from a slice, with its length; what is written to is lent to this call alone.
+        unsafe { entry_point($($value),*) }
+    }};
+    ($name:ident $answer:ident [$($type:ty,)*] [$($value:expr,)*] $bytes:ident bytes $($rest:ident)*) => {
+        call!($name $answer [$($type,)* *const u8, usize,] [$($value,)* $bytes.as_ptr(), $bytes.len(),] $($rest)*)
+    };
+    ($name:ident $answer:ident [$($type:ty,)*] [$($value:expr,)*] $maybe:ident maybe $($rest:ident)*) => {{
+        let bytes = $maybe.unwrap_or_default();
+        call!(
+            $name $answer [$($type,)* u64, *const u8, usize,]
+            [$($value,)* u64::from($maybe.is_some()), bytes.as_ptr(), bytes.len(),]
+            $($rest)*
         )
-    }
-}
-
-/// The first row in use that has the name, as `count`. Refuses 1, 25, 15.
-pub fn find(names: &[u8], table: &[u8], in_use: u64, name: &[u8]) -> Answer {
-    // SAFETY: each pointer comes from a slice, with its length; nothing is written.
-    unsafe {
-        sys::wakeluri_find(names.as_ptr(), names.len(), table.as_ptr(), table.len(), in_use, name.as_ptr(), name.len())
-    }
-}
-
-/// Exactly the bases from `start` to `end` of a row's record, never fewer; a bound is absent where its flag is 0. Refuses 1, 16, 25, 17, 14, 18.
-pub fn read_exact(file: &[u8], table: &[u8], in_use: u64, row: u64, bounds: Bounds, out: &mut [u8]) -> Answer {
-    // SAFETY: each pointer comes from a slice, with its length; `out` is lent to this call alone.
-    unsafe {
-        sys::wakeluri_read_exact(
-            file.as_ptr(),
-            file.len(),
-            table.as_ptr(),
-            table.len(),
-            in_use,
-            row,
-            u64::from(bounds.start.is_some()),
-            bounds.start.unwrap_or(0),
-            u64::from(bounds.end.is_some()),
-            bounds.end.unwrap_or(0),
-            out.as_mut_ptr(),
-            out.len(),
+    }};
+    ($name:ident $answer:ident [$($type:ty,)*] [$($value:expr,)*] $out:ident output $($rest:ident)*) => {
+        call!($name $answer [$($type,)* *mut u8, usize,] [$($value,)* $out.as_mut_ptr(), $out.len(),] $($rest)*)
+    };
+    ($name:ident $answer:ident [$($type:ty,)*] [$($value:expr,)*] $table:ident table $($rest:ident)*) => {
+        call!($name $answer [$($type,)*] [$($value,)*] $table output $($rest)*)
+    };
+    ($name:ident $answer:ident [$($type:ty,)*] [$($value:expr,)*] $number:ident number $($rest:ident)*) => {
+        call!($name $answer [$($type,)* u64,] [$($value,)* $number,] $($rest)*)
+    };
+    ($name:ident $answer:ident [$($type:ty,)*] [$($value:expr,)*] $bounds:ident bounds $($rest:ident)*) => {
+        call!(
+            $name $answer [$($type,)* u64, u64, u64, u64,]
+            [
+                $($value,)*
+                u64::from($bounds.start.is_some()),
+                $bounds.start.unwrap_or(0),
+                u64::from($bounds.end.is_some()),
+                $bounds.end.unwrap_or(0),
+            ]
+            $($rest)*
         )
-    }
+    };
 }
 
-/// The bases that a scan finds from `start` on; ignores the record's length, and may run into the next record. Refuses 1, 16, 25, 18, 14.
-pub fn read_raw(file: &[u8], table: &[u8], in_use: u64, row: u64, bounds: Bounds, out: &mut [u8]) -> Answer {
-    // SAFETY: each pointer comes from a slice, with its length; `out` is lent to this call alone.
-    unsafe {
-        sys::wakeluri_read_raw(
-            file.as_ptr(),
-            file.len(),
-            table.as_ptr(),
-            table.len(),
-            in_use,
-            row,
-            u64::from(bounds.start.is_some()),
-            bounds.start.unwrap_or(0),
-            u64::from(bounds.end.is_some()),
-            bounds.end.unwrap_or(0),
-            out.as_mut_ptr(),
-            out.len(),
-        )
-    }
+macro_rules! calls {
+    ($($(#[$doc:meta])* fn $name:ident($($parameter:ident: $kind:ident),*) -> $answer:ident;)*) => {$(
+        $(#[$doc])*
+        pub fn $name($($parameter: lent!($kind)),*) -> $answer {
+            call!($name $answer [] [] $($parameter $kind)*)
+        }
+    )*};
 }
 
-/// The complement of some bases, at the front of `out`. Refuses 1, 14, and 24 with the first bad byte.
-pub fn complement(bases: &[u8], out: &mut [u8]) -> Answer {
-    // SAFETY: each pointer comes from a slice, with its length; `out` is lent to this call alone.
-    unsafe { sys::wakeluri_complement(bases.as_ptr(), bases.len(), out.as_mut_ptr(), out.len()) }
-}
-
-/// The reverse complement, at the front of `out`. Refuses 1, 14, and 24 with the last bad byte.
-pub fn reverse_complement(bases: &[u8], out: &mut [u8]) -> Answer {
-    // SAFETY: each pointer comes from a slice, with its length; `out` is lent to this call alone.
-    unsafe { sys::wakeluri_reverse_complement(bases.as_ptr(), bases.len(), out.as_mut_ptr(), out.len()) }
-}
-
-/// Accepts a FASTA file and an index of any program exactly if the index leads to every base. Refuses 1, 2 to 4, 19, 9 to 12, 21 to 23, 20.
-pub fn check(fasta: &[u8], index: &[u8]) -> Answer {
-    // SAFETY: each pointer comes from a slice, with its length; nothing is written.
-    unsafe { sys::wakeluri_check(fasta.as_ptr(), fasta.len(), index.as_ptr(), index.len()) }
-}
+crate::entry_points!(calls);

@@ -35,13 +35,13 @@
 mod bounds;
 #[allow(unsafe_code)]
 pub mod entry;
+mod list;
 mod names;
 mod refusal;
 mod row;
-#[allow(unsafe_code)]
-mod sys;
 mod table;
 mod text;
+mod writer;
 
 pub use bounds::Bounds;
 pub use names::Names;
@@ -55,6 +55,8 @@ pub use text::{
     Definition, complement, complement_into, definition_content, definition_line, index_line, index_record_strict,
     read_line, read_run, read_sequence, read_sequence_limit, reverse_complement, reverse_complement_into,
 };
+
+pub use writer::{Writer, write_record, write_record_into, write_sequence_into};
 
 /// The identity of the kit that the linked library was proved with.
 pub const PROVED_WITH: &str = env!("WAKELURI_KIT");

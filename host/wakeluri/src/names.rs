@@ -1,7 +1,8 @@
 //! A map from names to rows, which saves the walk over the table.
 
+use crate::entry::ROW_BYTES;
 use crate::refusal::Call;
-use crate::table::{ROW_BYTES, counted};
+use crate::table::counted;
 use crate::{Refusal, Row, Table, entry};
 use std::collections::HashMap;
 

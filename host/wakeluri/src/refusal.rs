@@ -27,6 +27,8 @@ pub enum Call {
     ReadSequence,
     /// Complement or reverse complement.
     Complement,
+    /// Writing a FASTA record.
+    WriteRecord,
 }
 
 /// Why a call gave no answer: the refusal's number and its two numbers, 0 where none is named.
@@ -108,6 +110,10 @@ impl Refusal {
             23 => format!("base {second} of record {first} is not where its index line says"),
             24 => format!("the byte {} at place {first} has no complement", shown(second)),
             25 => format!("row {first} is not in the table, its name is not in the bytes, or its lines have no bases"),
+            27 => "a line can't have 0 bases".to_string(),
+            28 => "the name is empty or has whitespace in it".to_string(),
+            29 => "the description is empty, has a line feed in it, or whitespace at an end".to_string(),
+            30 => "a base is a line feed, a carriage return or '>', and can't be written".to_string(),
             42 => format!(
                 "no index line can lead to base {second} of a record, which lies at offset {first}, and to those before it"
             ),
@@ -129,7 +135,7 @@ impl Refusal {
         let line = if checking { "record" } else { "line" };
         match number {
             2..=4 if checking => format!("refused {number} (record {first})"),
-            1..=4 | 15 | 16 => format!("refused {number}"),
+            1..=4 | 15 | 16 | 27..=30 => format!("refused {number}"),
             5 => format!("refused {number} (offset {first})"),
             6 | 7 => format!("refused {number} (found {first}, expected {second})"),
             8 => format!("refused {number} (rows {first})"),

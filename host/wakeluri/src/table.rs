@@ -1,11 +1,9 @@
 //! The rows of an index: made from a file or read from an index text, looked up, and used to read bases.
 
+use crate::entry::{ROW_BYTES, ROW_WORDS};
 use crate::refusal::Call;
 use crate::row::{Identity, Row};
 use crate::{Bounds, Refusal, entry};
-
-/// The bytes of a row: six numbers of eight bytes.
-pub(crate) const ROW_BYTES: usize = 48;
 
 /// A table of this many rows is tried first: enough for most files, and so small that it costs little beside any.
 const FIRST_ROWS: usize = 1 << 10;
@@ -27,8 +25,8 @@ pub struct Record<'n> {
 
 impl<'n> Record<'n> {
     /// The record of a row's numbers, whose name lies in `names`; none where it doesn't.
-    pub(crate) fn of(names: &'n [u8], row: [u64; 6]) -> Option<Self> {
-        let [name_start, name_length, length, position, line_bases, line_width] = row;
+    pub(crate) fn of(names: &'n [u8], row: [u64; ROW_WORDS]) -> Option<Self> {
+        let [name_start, name_length, length, position, line_bases, line_width, ..] = row;
         let start = usize::try_from(name_start).ok()?;
         let name = names.get(start..)?.get(..usize::try_from(name_length).ok()?)?;
         Some(Self { name, length, position, line_bases, line_width })
@@ -204,10 +202,23 @@ pub fn check(fasta: &[u8], index: &[u8]) -> Result<(), Refusal> {
 }
 
 impl<'n> Table<'n> {
-    /// A table from bytes as they are: six numbers of eight bytes to a row, low byte first. Nothing is judged here; a row that
-    /// can't be used is refused with 25 when it is.
+    /// A table from bytes as they are: [`ROW_WORDS`] numbers of eight bytes to a row, low byte first. Nothing is judged here; a row
+    /// that can't be used is refused with 25 when it is.
     pub fn from_bytes(names: &'n [u8], bytes: Vec<u8>, in_use: usize) -> Self {
         Self { names, bytes, in_use, identity: Identity::fresh() }
+    }
+
+    /// A table of one row: a name, and the numbers of its index line.
+    pub(crate) fn of_one(name: &'n [u8], [length, position, line_bases, line_width]: [u64; 4]) -> Self {
+        let row = entry::Row {
+            name_length: name.len() as u64,
+            length,
+            position,
+            line_bases,
+            line_width,
+            ..Default::default()
+        };
+        Self::from_bytes(name, row.row().into_iter().flat_map(u64::to_le_bytes).collect(), 1)
     }
 
     /// How many rows are in use.
@@ -265,13 +276,13 @@ impl<'n> Table<'n> {
     }
 
     /// The numbers of a row; none where there is no such row.
-    fn numbers(&self, row: usize) -> Option<[u64; 6]> {
+    fn numbers(&self, row: usize) -> Option<[u64; ROW_WORDS]> {
         if row >= self.in_use {
             return None;
         }
         let from = row.checked_mul(ROW_BYTES)?;
         let bytes = self.bytes.get(from..)?.get(..ROW_BYTES)?;
-        let mut numbers = [0; 6];
+        let mut numbers = [0; ROW_WORDS];
         for (number, bytes) in numbers.iter_mut().zip(bytes.chunks_exact(8)) {
             *number = u64::from_le_bytes(bytes.try_into().ok()?);
         }

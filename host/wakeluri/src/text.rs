@@ -98,11 +98,6 @@ fn scanned(likely: u64, read: impl Fn(&mut [u8]) -> entry::Answer) -> Result<(Ve
     Ok((bases, next.get()))
 }
 
-fn record(names: &[u8], row: entry::Row) -> Option<Record<'_>> {
-    let numbers = [row.name_start, row.name_length, row.length, row.position, row.line_bases, row.line_width];
-    Record::of(names, numbers)
-}
-
 /// The record at an offset, by the rule of [`index_strict`](crate::index_strict), and the offset behind it; none at or past the end.
 /// Refuses 1 to 7.
 ///
@@ -115,7 +110,7 @@ fn record(names: &[u8], row: entry::Row) -> Option<Record<'_>> {
 pub fn index_record_strict(fasta: &[u8], at: u64) -> Result<Option<(Record<'_>, u64)>, Refusal> {
     let row = entry::index_record(fasta, at);
     Refusal::of(Call::Index, row.refusal, row.first, row.second)?;
-    Ok(if row.found == 0 { None } else { record(fasta, row).map(|record| (record, row.next)) })
+    Ok(if row.found == 0 { None } else { Record::of(fasta, row.row()).map(|record| (record, row.next)) })
 }
 
 /// What an index line says, given with its end, and whether it is plain: then it is just what would be written for it. It is not if it
@@ -132,7 +127,7 @@ pub fn index_line(line: &[u8]) -> Result<(Record<'_>, bool), Refusal> {
     let row = entry::index_line(line);
     Refusal::of(Call::ReadIndex, row.refusal, row.first, row.second)?;
     let empty = Record { name: b"", length: 0, position: 0, line_bases: 0, line_width: 0 };
-    Ok((record(line, row).unwrap_or(empty), row.plain != 0))
+    Ok((Record::of(line, row.row()).unwrap_or(empty), row.plain != 0))
 }
 
 /// The complement of some bases, in a room of just their size. Refuses 1, and 24 with the first bad byte.

@@ -1,6 +1,6 @@
 //! Small questions that a person can answer by hand, in a table for each entry point: what it tells, and the lent bytes afterwards.
 
-use wakeluri::entry::{self, Answer};
+use wakeluri::entry::{self, Answer, ROW_BYTES};
 use wakeluri::{Bounds, Table};
 
 /// What an answer with a count tells, and the output afterwards.
@@ -184,7 +184,7 @@ fn numbers_with_a_plus() {
 /// What is read with a plus is written without.
 #[test]
 fn a_plus_is_not_written() {
-    let mut table = vec![0; 48];
+    let mut table = vec![0; ROW_BYTES];
     let index = b"s\t+4\t3\t+2\t+3\n";
     assert_eq!(entry::read_index(index, &mut table).count, 1);
     let written = Table::from_bytes(index, table, 1).write_index().expect("a line");
@@ -206,18 +206,18 @@ fn complements() {
 /// The low byte of a number comes first, and less than eight bytes behind the rows are none of the table's.
 #[test]
 fn a_table_to_the_byte() {
-    let mut table = vec![255; 48 + 3];
+    let mut table = vec![255; ROW_BYTES + 3];
     let file = [&b">s\n"[..], &b"A".repeat(258), b"\n"].concat();
     let answer = entry::index_file(&file, &mut table);
     assert_eq!((no(answer), answer.count), ((0, 0, 0), 1));
     assert_eq!(&table[16..24], &[2, 1, 0, 0, 0, 0, 0, 0]);
-    assert_eq!(&table[48..], &[255; 3]);
+    assert_eq!(&table[ROW_BYTES..], &[255; 3]);
 }
 
 #[test]
 fn rows_by_the_complete_rule() {
     let indexed = |file: &str| {
-        let mut table = vec![0; 48];
+        let mut table = vec![0; ROW_BYTES];
         let answer = entry::index_complete(file.as_bytes(), &mut table);
         let told = (no(answer), answer.count);
         (told, if answer.count == 1 { table } else { vec![] })

@@ -1,6 +1,6 @@
 //! The marked examples of the rules, and what must come out right though it surprises.
 
-use wakeluri::entry::{self, Answer};
+use wakeluri::entry::{self, Answer, ROW_BYTES};
 use wakeluri::{Bounds, Refusal, Row, Table, check, complement, index, index_strict, read_index, reverse_complement};
 
 /// The first row of any table.
@@ -8,7 +8,7 @@ const FIRST: Row = Row::of_any_table(0);
 
 /// A table of one row.
 fn row(numbers: [u64; 6]) -> Vec<u8> {
-    numbers.iter().flat_map(|n| n.to_le_bytes()).collect()
+    questions::row::row(numbers).iter().flat_map(|n| n.to_le_bytes()).collect()
 }
 
 /// The three numbers of a refusal.
@@ -274,11 +274,11 @@ fn as_many_rows_as_records() {
 
 #[test]
 fn rows_that_stand_after_a_refusal() {
-    let mut table = vec![7; 2 * 48 + 5];
+    let mut table = vec![7; 2 * ROW_BYTES + 5];
     let answer = entry::index_file(b">s\nAC\n>t\n\n", &mut table);
     assert_eq!((no(answer), answer.count), ((5, 10, 0), 1));
-    assert_eq!(&table[..48], row([1, 1, 2, 3, 2, 3]));
-    assert!(table[48..].iter().all(|b| *b == 7));
+    assert_eq!(&table[..ROW_BYTES], row([1, 1, 2, 3, 2, 3]));
+    assert!(table[ROW_BYTES..].iter().all(|b| *b == 7));
     let answer = entry::index_file(b">s\nAC\n", &mut []);
     assert_eq!((no(answer), answer.count), ((8, 0, 0), 0));
 }
@@ -309,11 +309,11 @@ fn what_the_complete_rule_asks_of_lines() {
 
 #[test]
 fn rows_that_stand_after_a_refusal_of_the_complete_rule() {
-    let mut table = vec![7; 3 * 48 + 5];
+    let mut table = vec![7; 3 * ROW_BYTES + 5];
     let answer = entry::index_complete(b">s\nAC\n>t\n\n>u\nA\nCG\n", &mut table);
     assert_eq!((no(answer), answer.count), ((42, 16, 3), 2));
-    assert_eq!(&table[..96], [row([1, 1, 2, 3, 2, 3]), row([7, 1, 0, 9, 1, 2])].concat());
-    assert!(table[96..].iter().all(|b| *b == 7));
+    assert_eq!(&table[..2 * ROW_BYTES], [row([1, 1, 2, 3, 2, 3]), row([7, 1, 0, 9, 1, 2])].concat());
+    assert!(table[2 * ROW_BYTES..].iter().all(|b| *b == 7));
     // 42 comes before 8, and 8 only for a good record
     let answer = entry::index_complete(b">s\nA\nCG\n", &mut []);
     assert_eq!((no(answer), answer.count), ((42, 6, 3), 0));

@@ -142,6 +142,10 @@ static void beyond_the_limit(void) {
     REFUSED(wakeluri_read_raw(big, n, table, 0, 9, 9, 1, 0, 1, 0, out, 0));
     REFUSED(wakeluri_complement(big, n, out, 0));
     REFUSED(wakeluri_reverse_complement(big, n, out, 0));
+    REFUSED(wakeluri_write_record(big, n, 0, out, 0, out, 0, 0, out, 0));
+    REFUSED(wakeluri_write_record(out, 0, 0, big, n, out, 0, 0, out, 0));
+    REFUSED(wakeluri_write_record(out, 0, 0, out, 0, big, n, 0, out, 0));
+    REFUSED(wakeluri_write_sequence(big, n, 0, out, 0));
     REFUSED(wakeluri_check(big, n, out, 0));
     REFUSED(wakeluri_check(out, 0, big, n));
     /* at the limit itself it is taken: bases 1 and 1 of a row at offset 0 are read from the first byte alone */

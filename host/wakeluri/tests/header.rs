@@ -64,29 +64,45 @@ fn in_header(text: &str) -> Vec<String> {
     found
 }
 
-/// The same, as sys.rs has it.
-fn in_rust(text: &str) -> Vec<String> {
-    let calls = text.lines().filter_map(|line| line.trim().strip_prefix("pub(crate) fn "));
-    calls.map(|call| call.trim_end_matches(';').to_string()).map(|call| lowered_answer(&call)).collect()
+/// The same, of what is declared in Rust: its parameters as C has them.
+fn in_rust(name: &str, parameters: &[(&str, &str)], answer: &str) -> String {
+    let in_c = |(name, kind): &(&str, &str)| match *kind {
+        "bytes" => format!("{name}: *const u8, {name}_length: usize"),
+        "maybe" => format!("has_{name}: u64, {name}: *const u8, {name}_length: usize"),
+        "output" | "table" => format!("{name}: *mut u8, {name}_length: usize"),
+        "number" => format!("{name}: u64"),
+        "bounds" => "has_start: u64, start: u64, has_end: u64, end: u64".to_string(),
+        other => panic!("a kind that isn't known: {other}"),
+    };
+    let parameters: Vec<String> = parameters.iter().map(in_c).collect();
+    format!("wakeluri_{name}({}) -> {}", parameters.join(", "), answer.to_lowercase())
 }
 
-fn lowered_answer(call: &str) -> String {
-    let (front, answer) = call.split_once(" -> ").expect("an answer");
-    format!("{front} -> {}", answer.to_lowercase())
+macro_rules! calls {
+    ($($(#[$doc:meta])* fn $name:ident($($parameter:ident: $kind:ident),*) -> $answer:ident;)*) => {
+        [$(in_rust(stringify!($name), &[$((stringify!($parameter), stringify!($kind))),*], stringify!($answer))),*]
+    };
 }
 
-/// The fields of each struct, in order.
-fn structs(text: &str, begin: &str, field: impl Fn(&str) -> Vec<String>) -> Vec<(String, Vec<String>)> {
-    let mut found: Vec<(String, Vec<String>)> = vec![];
+macro_rules! fields {
+    ($($(#[$doc:meta])* struct $name:ident { $($field:ident),* })*) => {
+        [$((stringify!($name), vec!["refusal", "first", "second", $(stringify!($field)),*])),*]
+    };
+}
+
+/// The fields of each struct of the header, in order.
+fn structs(header: &str) -> Vec<(String, Vec<&str>)> {
+    let mut found: Vec<(String, Vec<&str>)> = vec![];
     let mut inside = false;
-    for line in text.lines() {
-        if let Some(name) = line.strip_prefix(begin).and_then(|rest| rest.strip_suffix(" {")) {
-            found.push((name.to_lowercase(), vec![]));
+    for line in header.lines() {
+        if let Some(name) = line.strip_prefix("struct wakeluri_").and_then(|rest| rest.strip_suffix(" {")) {
+            found.push((name.to_string(), vec![]));
             inside = true;
         } else if line.starts_with('}') {
             inside = false;
         } else if inside && let Some(last) = found.last_mut() {
-            last.1.extend(field(line));
+            let names = line.trim().trim_end_matches(';').strip_prefix("uint64_t ").expect("a number of 64 bits");
+            last.1.extend(names.split(", "));
         }
     }
     found
@@ -95,20 +111,11 @@ fn structs(text: &str, begin: &str, field: impl Fn(&str) -> Vec<String>) -> Vec<
 #[test]
 fn declarations_in_rust_are_those_of_the_header() {
     let header = std::fs::read_to_string(root().join("include/wakeluri.h")).expect("the header");
-    let sys = std::fs::read_to_string(Path::new(env!("CARGO_MANIFEST_DIR")).join("src/sys.rs")).expect("sys.rs");
     let calls = in_header(&header);
-    assert!(calls.len() >= 19, "{calls:?}");
-    assert_eq!(calls, in_rust(&sys));
+    assert!(calls.len() >= 21, "{calls:?}");
+    assert_eq!(calls, wakeluri::entry_points!(calls));
 
-    let c_fields = |line: &str| {
-        let names = line.trim().trim_end_matches(';').strip_prefix("uint64_t ").expect("a number of 64 bits");
-        names.split(", ").map(str::to_string).collect()
-    };
-    let rust_fields = |line: &str| {
-        let name = line.trim().strip_prefix("pub ").and_then(|field| field.strip_suffix(": u64,"));
-        vec![name.expect("a number of 64 bits").to_string()]
-    };
-    let in_c = structs(&header, "struct wakeluri_", c_fields);
-    assert_eq!(in_c.len(), 4);
-    assert_eq!(in_c, structs(&sys, "pub struct ", rust_fields));
+    let in_c = structs(&header);
+    assert!(in_c.len() >= 4, "{in_c:?}");
+    assert_eq!(in_c, wakeluri::answers!(fields).map(|(name, fields)| (name.to_lowercase(), fields)));
 }

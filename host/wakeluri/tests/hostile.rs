@@ -4,8 +4,8 @@
 //! memory that should have stayed is looked at. WAKELURI_CALLS says how many calls are made.
 
 use questions::generate::Chance;
-use wakeluri::entry::{self, Answer};
-use wakeluri::{Bounds, Names, Row, Table};
+use wakeluri::entry::{self, ROW_BYTES, ROW_WORDS};
+use wakeluri::{Bounds, Call, Names, Refusal, Row, Table};
 
 const NUMBERS: [u64; 16] = [
     0,
@@ -66,9 +66,9 @@ fn index(chance: &mut Chance) -> Box<[u8]> {
 /// A table whose numbers may say anything, and whose last row may be a part of one.
 fn table(chance: &mut Chance) -> Box<[u8]> {
     let rows = chance.below(4);
-    let mut table: Vec<u8> = (0..6 * rows).flat_map(|_| number(chance).to_le_bytes()).collect();
+    let mut table: Vec<u8> = (0..ROW_WORDS * rows).flat_map(|_| number(chance).to_le_bytes()).collect();
     if chance.once_in(3) {
-        table.extend(vec![9; chance.below(48)]);
+        table.extend(vec![9; chance.below(ROW_BYTES)]);
     }
     table.into_boxed_slice()
 }
@@ -78,68 +78,145 @@ fn bounds(chance: &mut Chance) -> Bounds {
     Bounds { start: bound(), end: bound() }
 }
 
-fn room(chance: &mut Chance) -> Box<[u8]> {
-    vec![b'.'; chance.below(60)].into_boxed_slice()
+/// Memory that a call may change, all of one byte.
+fn room(chance: &mut Chance, longest: usize) -> Box<[u8]> {
+    vec![b'.'; chance.below(longest)].into_boxed_slice()
 }
 
-/// After a refusal nothing has changed, and nothing was counted; after an answer all behind it is as it was.
-fn stayed(answer: Answer, out: &[u8]) {
-    let kept = if answer.refusal == 0 { answer.count as usize } else { 0 };
-    assert!(answer.refusal <= 25 && kept <= out.len());
-    assert!(answer.refusal == 0 || answer.count == 0);
-    assert!(out[kept..].iter().all(|b| *b == b'.'));
+/// Where the arguments of a call come from.
+struct Hostile {
+    chance: Chance,
+    /// The whole rows of the last table.
+    rows: usize,
 }
 
-/// Rows that were written, and nothing else.
-fn rows_stayed(answer: Answer, table: &[u8]) {
-    let written = answer.count as usize * 48;
-    assert!((answer.refusal <= 12 || answer.refusal == 42) && written <= table.len());
-    assert!(table[written..].iter().all(|b| *b == b'.'));
-}
+impl Hostile {
+    /// The bytes of a parameter, by its name.
+    fn bytes(&mut self, parameter: &str) -> Box<[u8]> {
+        let chance = &mut self.chance;
+        match parameter {
+            "line" | "content" if chance.once_in(2) => index(chance),
+            "file" | "fasta" | "names" | "line" | "content" => fasta(chance),
+            "index" => index(chance),
+            "bases" => bytes(chance, b"ACGTN"),
+            "table" => {
+                let table = table(chance);
+                self.rows = table.len() / ROW_BYTES;
+                table
+            }
+            _ => bytes(chance, b"s"),
+        }
+    }
 
-fn call(chance: &mut Chance) {
-    let (file, table, in_use, row) = (fasta(chance), table(chance), number(chance), number(chance));
-    let in_use = if chance.once_in(2) { (table.len() / 48) as u64 } else { in_use };
-    let row = if chance.once_in(2) { 0 } else { row };
-    let (at, limit, bounds, mut out) = (number(chance), number(chance), bounds(chance), room(chance));
-    let name = bytes(chance, b"s");
-    match chance.below(19) {
-        0 => assert!(entry::definition_line(&file).refusal <= 4),
-        1 => assert!(entry::definition_content(&file).refusal <= 4),
-        2 => {
-            let line = entry::read_line(&file, at);
-            assert!(line.refusal == 0 && line.start.saturating_add(line.length) <= file.len() as u64);
+    /// A number for a parameter, by its name: of a table's rows it is at times a right one.
+    fn number(&mut self, parameter: &str) -> u64 {
+        match parameter {
+            "in_use" if self.chance.once_in(2) => self.rows as u64,
+            "row" if self.chance.once_in(2) => 0,
+            _ => number(&mut self.chance),
         }
-        3 => {
-            let run = entry::read_run(&file, at);
-            assert!(run.refusal == 0 && (run.length == 0 || run.start + run.length <= file.len() as u64));
-        }
-        4 => stayed(entry::read_sequence(&file, at, &mut out), &out),
-        5 => stayed(entry::read_sequence_limit(&file, at, limit, &mut out), &out),
-        6 => assert!(entry::index_record(&file, at).refusal <= 7),
-        7 => {
-            let mut table = vec![b'.'; chance.below(150)].into_boxed_slice();
-            rows_stayed(entry::index_file(&file, &mut table), &table);
-        }
-        8 => assert!(entry::index_line(&index(chance)).refusal <= 12),
-        9 => assert!(entry::index_content(&index(chance)).refusal <= 12),
-        10 => {
-            let mut table = vec![b'.'; chance.below(150)].into_boxed_slice();
-            rows_stayed(entry::read_index(&index(chance), &mut table), &table);
-        }
-        11 => stayed(entry::write_index_line(&file, &table, in_use, row, &mut out), &out),
-        12 => assert!(entry::find(&file, &table, in_use, &name).refusal <= 25),
-        13 => stayed(entry::read_exact(&file, &table, in_use, row, bounds, &mut out), &out),
-        14 => stayed(entry::read_raw(&file, &table, in_use, row, bounds, &mut out), &out),
-        15 => stayed(entry::complement(&bytes(chance, b"ACGTN"), &mut out), &out),
-        16 => {
-            let mut table = vec![b'.'; chance.below(150)].into_boxed_slice();
-            rows_stayed(entry::index_complete(&file, &mut table), &table);
-        }
-        17 => stayed(entry::reverse_complement(&bytes(chance, b"ACGTN"), &mut out), &out),
-        _ => assert!(entry::check(&file, &index(chance)).refusal <= 23),
     }
 }
+
+/// What an answer tells: the refusal, how many bytes or rows it counts, and where the parts that it names end.
+trait Judged {
+    fn told(&self) -> (u64, usize, u64);
+}
+
+impl Judged for entry::Answer {
+    fn told(&self) -> (u64, usize, u64) {
+        (self.refusal, self.count as usize, 0)
+    }
+}
+
+impl Judged for entry::Definition {
+    fn told(&self) -> (u64, usize, u64) {
+        let description = end(self.description_start, self.description_length);
+        (self.refusal, 0, end(self.name_start, self.name_length).max(description))
+    }
+}
+
+impl Judged for entry::Span {
+    fn told(&self) -> (u64, usize, u64) {
+        (self.refusal, 0, end(self.start, self.length))
+    }
+}
+
+impl Judged for entry::Row {
+    fn told(&self) -> (u64, usize, u64) {
+        (self.refusal, 0, end(self.name_start, self.name_length))
+    }
+}
+
+/// Where a part ends; one of no bytes may be told at any place.
+fn end(start: u64, length: u64) -> u64 {
+    if length == 0 { 0 } else { start.saturating_add(length) }
+}
+
+/// No refusal, or one that the library has words for. That of size is not: nothing so long is lent.
+fn has_words(number: u64) -> bool {
+    let refusal = Refusal { number, first: 0, second: 0, call: Call::Check };
+    number != 1 && (number == 0 || !refusal.words().contains("no words for"))
+}
+
+/// What was counted lies in what was lent, and all behind it is as it was.
+fn stayed(written: usize, lent: &[u8]) {
+    assert!(written <= lent.len() && lent[written..].iter().all(|b| *b == b'.'));
+}
+
+/// An argument of a kind.
+#[rustfmt::skip]
+macro_rules! made {
+    (bytes $parameter:ident $hostile:ident) => { $hostile.bytes(stringify!($parameter)) };
+    (maybe $parameter:ident $hostile:ident) => {
+        if $hostile.chance.once_in(3) { None } else { Some($hostile.bytes(stringify!($parameter))) }
+    };
+    (output $parameter:ident $hostile:ident) => { room(&mut $hostile.chance, 60) };
+    (table $parameter:ident $hostile:ident) => { room(&mut $hostile.chance, 3 * ROW_BYTES + 6) };
+    (number $parameter:ident $hostile:ident) => { $hostile.number(stringify!($parameter)) };
+    (bounds $parameter:ident $hostile:ident) => { bounds(&mut $hostile.chance) };
+}
+
+/// An argument as it is handed to a call.
+#[rustfmt::skip]
+macro_rules! lent {
+    (bytes $argument:ident) => { &$argument };
+    (maybe $argument:ident) => { $argument.as_deref() };
+    (output $argument:ident) => { &mut $argument };
+    (table $argument:ident) => { &mut $argument };
+    (number $argument:ident) => { $argument };
+    (bounds $argument:ident) => { $argument };
+}
+
+/// An argument after a call that told so much. A refusal leaves an output as it was; rows before it stand.
+#[rustfmt::skip]
+macro_rules! judged {
+    (bytes $argument:ident $refusal:ident $count:ident $end:ident) => { $end = $end.saturating_sub($argument.len() as u64) };
+    (maybe $argument:ident $refusal:ident $count:ident $end:ident) => {};
+    (output $argument:ident $refusal:ident $count:ident $end:ident) => {
+        assert!($refusal == 0 || $count == 0);
+        stayed($count, &$argument);
+    };
+    (table $argument:ident $refusal:ident $count:ident $end:ident) => { stayed($count * ROW_BYTES, &$argument) };
+    (number $argument:ident $refusal:ident $count:ident $end:ident) => {};
+    (bounds $argument:ident $refusal:ident $count:ident $end:ident) => {};
+}
+
+macro_rules! hostile {
+    ($($(#[$doc:meta])* fn $name:ident($($parameter:ident: $kind:ident),*) -> $answer:ident;)*) => {
+        /// A hostile call of each entry point.
+        #[allow(unused_mut, unused_variables)]
+        const CALLS: &[fn(&mut Hostile)] = &[$(|hostile| {
+            $(let mut $parameter = made!($kind $parameter hostile);)*
+            let (refusal, count, mut end) = entry::$name($(lent!($kind $parameter)),*).told();
+            $(judged!($kind $parameter refusal count end);)*
+            // no part lies outside of the bytes
+            assert!(end == 0 && has_words(refusal), stringify!($name));
+        }),*];
+    };
+}
+
+wakeluri::entry_points!(hostile);
 
 /// The comfortable calls, over tables that lie: an answer or a refusal, and no panic.
 fn comfortable_call(chance: &mut Chance) {
@@ -172,8 +249,12 @@ fn comfortable_call(chance: &mut Chance) {
 #[test]
 fn hostile_calls() {
     let calls = std::env::var("WAKELURI_CALLS").ok().and_then(|n| n.parse().ok()).unwrap_or(1_000_000);
-    let mut chance = Chance::new(20_240_501);
+    let mut hostile = Hostile { chance: Chance::new(20_240_501), rows: 0 };
     for k in 0..calls {
-        if k % 16 == 0 { comfortable_call(&mut chance) } else { call(&mut chance) }
+        if k % 16 == 0 {
+            comfortable_call(&mut hostile.chance);
+        } else {
+            hostile.chance.one_of(CALLS)(&mut hostile);
+        }
     }
 }

@@ -2,6 +2,7 @@
 
 use questions::generate::Chance;
 use std::cell::Cell;
+use wakeluri::entry::ROW_BYTES;
 use wakeluri::{Names, Row, Table, index};
 
 /// Names that are looked up in the bytes below: some are there often, one is empty, some are not there.
@@ -10,17 +11,17 @@ const WANTED: [&[u8]; 8] = [b"a", b"b", b"ab", b"ba", b"", b"abab", b"c", b"abc"
 const BYTES: &[u8] = b"abab";
 
 /// A row whose name lies in the bytes, mostly; its other numbers are good, mostly.
-fn row(chance: &mut Chance, bad: usize) -> [u64; 6] {
+fn row(chance: &mut Chance, bad: usize) -> questions::row::Row {
     let start = chance.below(BYTES.len() + 1);
     let length = chance.below(BYTES.len() + 1 - start);
-    let mut row = [start as u64, length as u64, 2, 3, 2, 3];
+    let mut row = questions::row::row([start as u64, length as u64, 2, 3, 2, 3]);
     if chance.once_in(bad) {
         match chance.below(5) {
             0 => row[0] = chance.one_of(&[5, u64::MAX]),
             1 => row[1] = chance.one_of(&[5, u64::MAX]),
             2 => row[4] = 0,
             3 => row[5] = 0,
-            _ => row = [u64::MAX; 6],
+            _ => row.fill(u64::MAX),
         }
     }
     row
@@ -36,7 +37,7 @@ fn table(chance: &mut Chance) -> Table<'static> {
         1 => rows.saturating_sub(chance.below(3)),
         _ => rows,
     };
-    bytes.extend(vec![1; chance.one_of(&[0, 0, 0, 47])]);
+    bytes.extend(vec![1; chance.one_of(&[0, 0, 0, ROW_BYTES - 1])]);
     Table::from_bytes(BYTES, bytes, in_use)
 }
 
@@ -59,7 +60,7 @@ fn the_map_finds_what_the_walk_finds() {
             reached[[0, 15, 25].iter().position(|known| *known == kind).expect("0, 15 or 25")] += 1;
             // the second row: the walk over what lies behind the first
             let second = walked.ok().and_then(|first| {
-                let behind = table.as_bytes()[(first.number() + 1) * 48..].to_vec();
+                let behind = table.as_bytes()[(first.number() + 1) * ROW_BYTES..].to_vec();
                 let rest = Table::from_bytes(BYTES, behind, table.len() - first.number() - 1);
                 table.row(first.number() + 1 + rest.find(name).ok()?.number())
             });

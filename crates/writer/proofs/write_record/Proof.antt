@@ -86,21 +86,21 @@ write-definition-requires c κs = omega (arith, c .before .before .before .defin
 first : (c : tie.After-write-definition) → length (c .write-definition .last .1 .1 .1 .0) ≡ length (c .before .before .before .before .before .before .before .before .before .before .before .before .before .before .before .before .before .before .args .out .now)
 first c = ap length (c .write-definition .ensures .holds) ∙ overlaid-length _ 0 _ (omega (arith, c .before .before .before .before .definition-length .ensures, c .before .before .if6 .left))
 
-write-sequence-requires : tie.Need-write-sequence-requires
-write-sequence-requires c κs =
+write-lines-requires : tie.Need-write-lines-requires
+write-lines-requires c κs =
     (omega (arith, c .before .before .before .before .before .before .before .before .before .before .before .before .before .before .if2 .left), omega (arith, c .before .before .before .before .before .before .before .definition-length .ensures, c .before .before .before .before .before .before .sequence-length .ensures, c .before .before .before .before .before .if6 .left, c .before .before .before .write-definition .ensures .place, first (c .before .before .before)))
 
 same-length : tie.Need-same-length
 same-length c =
     let f = c .before .before .before .before .before .before in
-    ap length (c .before .before .write-sequence .ensures)
+    ap length (c .before .before .write-lines .ensures)
     ∙ (overlaid-length _ _ _ (omega (arith, c .before .before .before .before .before .before .before .before .before .before .definition-length .ensures, c .before .before .before .before .before .before .before .before .before .sequence-length .ensures, c .before .before .before .before .before .before .before .before .if6 .left, f .write-definition .ensures .place, first f)) ∙ first f)
 
 returns-7 : tie.Need-returns-7
 unfolding recordWritten
 returns-7 c =
     let a = c .before .before .before .before .before .before .before .before .before .before .before .before .before .before .before .before .before .before .before .before .before .before .before .before .args in
-    rw (sym (c .before .before .before .before .before .before .before .before .before .before .before .before .before .before .before .before .before .before .before .too-long .ensures) ∙ c .before .before .before .before .before .before .before .before .before .before .before .before .before .before .before .before .before .before .if1 .left, ne-eqb _ _ (c .before .before .before .before .before .before .before .before .before .before .before .before .before .before .before .before .before .if2 .left), sym (c .before .before .before .before .before .before .before .before .before .before .before .before .before .before .before .before .name-unfit .ensures) ∙ c .before .before .before .before .before .before .before .before .before .before .before .before .before .before .before .if3 .left, sym (c .before .before .before .before .before .before .before .before .before .before .before .before .before .before .description-unfit .ensures) ∙ c .before .before .before .before .before .before .before .before .before .before .before .before .before .if4 .left, sym (c .before .before .before .before .before .before .before .before .before .before .before .before .any-barred .ensures) ∙ c .before .before .before .before .before .before .before .before .before .before .before .if5 .left) (record-put (a .name .now) (a .described) (a .description .now) (a .bases .now) (a .width) (a .out .now) _ _ _ _ (c .before .before .before .before .before .before .write-definition .ensures) (c .before .before .write-sequence .ensures) (needed (c .before .before .before .before .before .before .before .before .before)) (omega arith))
+    rw (sym (c .before .before .before .before .before .before .before .before .before .before .before .before .before .before .before .before .before .before .before .too-long .ensures) ∙ c .before .before .before .before .before .before .before .before .before .before .before .before .before .before .before .before .before .before .if1 .left, ne-eqb _ _ (c .before .before .before .before .before .before .before .before .before .before .before .before .before .before .before .before .before .if2 .left), sym (c .before .before .before .before .before .before .before .before .before .before .before .before .before .before .before .before .name-unfit .ensures) ∙ c .before .before .before .before .before .before .before .before .before .before .before .before .before .before .before .if3 .left, sym (c .before .before .before .before .before .before .before .before .before .before .before .before .before .before .description-unfit .ensures) ∙ c .before .before .before .before .before .before .before .before .before .before .before .before .before .if4 .left, sym (c .before .before .before .before .before .before .before .before .before .before .before .before .any-barred .ensures) ∙ c .before .before .before .before .before .before .before .before .before .before .before .if5 .left) (record-put (a .name .now) (a .described) (a .description .now) (a .bases .now) (a .width) (a .out .now) _ _ _ _ (c .before .before .before .before .before .before .write-definition .ensures) (c .before .before .write-lines .ensures) (needed (c .before .before .before .before .before .before .before .before .before)) (omega arith))
 
 pub write-record-spec : {M : Type 1} → statement M
 write-record-spec =
@@ -120,6 +120,6 @@ write-record-spec =
     add-needed
     returns-6
     write-definition-requires
-    write-sequence-requires
+    write-lines-requires
     same-length
     returns-7)

@@ -1,4 +1,5 @@
-//! compare --rules original|exact [--seed S] [--count N | --questions FILE] FIRST OURS: asks two programs the same questions.
+//! compare --rules original|exact [--seed S] [--family F] [--count N | --questions FILE] FIRST OURS: asks two programs the same
+//! questions, of one family or of all.
 //!
 //! FIRST (the original or the model) and OURS answer questions on standard input, as document 04 has them. Questions are asked in
 //! batches, both programs at once, and nothing is kept: memory stays the same for any count. Each difference is written, the
@@ -19,12 +20,13 @@ struct Asked {
     rules: Rules,
     seed: u64,
     count: usize,
+    family: Option<String>,
     file: Option<String>,
     speakers: [String; 2],
 }
 
 fn arguments() -> Option<Asked> {
-    let (mut rules, mut seed, mut count, mut file, mut speakers) = (None, 1, 100_000, None, vec![]);
+    let (mut rules, mut seed, mut count, mut family, mut file, mut speakers) = (None, 1, 100_000, None, None, vec![]);
     let mut words = std::env::args().skip(1);
     while let Some(word) = words.next() {
         match word.as_str() {
@@ -37,11 +39,12 @@ fn arguments() -> Option<Asked> {
             }
             "--seed" => seed = words.next()?.parse().ok()?,
             "--count" => count = words.next()?.parse().ok()?,
+            "--family" => family = Some(words.next()?),
             "--questions" => file = Some(words.next()?),
             _ => speakers.push(word),
         }
     }
-    Some(Asked { rules: rules?, seed, count, file, speakers: speakers.try_into().ok()? })
+    Some(Asked { rules: rules?, seed, count, family, file, speakers: speakers.try_into().ok()? })
 }
 
 /// Asks one program a batch of questions, and takes all its answers.
@@ -114,7 +117,14 @@ fn run(asked: &Asked) -> io::Result<bool> {
     let [first, ours] = &asked.speakers;
     let mut questions: Box<dyn Iterator<Item = io::Result<String>>> = match &asked.file {
         Some(file) => Box::new(io::BufReader::new(std::fs::File::open(file)?).lines()),
-        None => Box::new(Questions::new(asked.seed).take(asked.count).map(Ok)),
+        None => {
+            let made = match &asked.family {
+                None => Some(Questions::new(asked.seed)),
+                Some(family) => Questions::of(family, asked.seed),
+            };
+            let made = made.ok_or_else(|| io::Error::other("there is no such family"))?;
+            Box::new(made.take(asked.count).map(Ok))
+        }
     };
     let mut counts = Counts::default();
     loop {
@@ -138,7 +148,9 @@ fn run(asked: &Asked) -> io::Result<bool> {
 
 fn main() -> ExitCode {
     let Some(asked) = arguments() else {
-        eprintln!("usage: compare --rules original|exact [--seed S] [--count N | --questions FILE] FIRST OURS");
+        eprintln!(
+            "usage: compare --rules original|exact [--seed S] [--family F] [--count N | --questions FILE] FIRST OURS"
+        );
         return ExitCode::from(2);
     };
     match run(&asked) {

@@ -1,8 +1,18 @@
 //! Files, indexes, tables and bounds made by chance, and damaged.
 
 use super::chance::{AWKWARD, Chance, NUMERALS};
-use super::written::{room, table};
-use crate::form::{Bounds, Row};
+use crate::form::Bounds;
+use crate::row::{OF_A_LINE, Row, Rows, WORDS, row};
+
+/// An output as it is lent: each of its bytes tells its place.
+pub(super) fn room(length: usize) -> Vec<u8> {
+    (0..length).map(|k| b'a' + (k % 26) as u8).collect()
+}
+
+/// A table as it is lent: each of its numbers tells its place.
+pub(super) fn table(numbers: usize) -> Vec<u64> {
+    (0..numbers).map(|k| 700 + k as u64).collect()
+}
 
 /// A file made by chance, and what its rows should be before it is damaged.
 pub(super) struct Sample {
@@ -15,6 +25,9 @@ pub(super) const WIDTHS: [usize; 30] = [
     7, 8, 9, 15, 16, 17, 30, 31, 32, 33, 47, 48, 49, 59, 60, 61, 63, 64, 65, 70, 80, 100, 127, 128, 129, 130, 191, 192,
     193, 257,
 ];
+
+/// Every letter that stands for bases.
+pub(super) const LETTERS: &[u8] = b"ACGTUNRYKMSWBDHVacgtunrykmswbdhv";
 
 pub(super) fn name(chance: &mut Chance) -> Vec<u8> {
     const NAMES: [&[u8]; 10] =
@@ -64,7 +77,7 @@ fn add_record(chance: &mut Chance, sample: &mut Sample, end: &[u8]) {
         sample.text.extend(end);
     }
     let numbers = [name_start, name.len(), length, position, line_bases, line_bases + end.len()];
-    sample.rows.push(numbers.map(|n| n as u64));
+    sample.rows.push(row(numbers.map(|n| n as u64)));
 }
 
 /// Damages some bytes in one of the ways that files are damaged.
@@ -181,12 +194,12 @@ pub(super) fn some_room(chance: &mut Chance, enough: u64) -> Vec<u8> {
 /// A table with room for about so many rows, and at times a part of one more.
 pub(super) fn some_table(chance: &mut Chance, rows: usize) -> Vec<u64> {
     let rows = chance.one_of(&[rows, rows, rows + 1, rows.saturating_sub(1), 0, rows + 2]);
-    let rest = if chance.once_in(3) { chance.below(6) } else { 0 };
-    table(6 * rows + rest)
+    let rest = if chance.once_in(3) { chance.below(WORDS) } else { 0 };
+    table(WORDS * rows + rest)
 }
 
 /// Rows that tell the truth, or lie in some of their numbers; and how many are said to be in use.
-pub(super) fn some_rows(chance: &mut Chance, rows: &[Row]) -> (Vec<u64>, u64) {
+pub(super) fn some_rows(chance: &mut Chance, rows: &[Row]) -> Rows {
     let mut numbers = rows.concat();
     if chance.once_in(2) && !numbers.is_empty() {
         for _ in 0..1 + chance.below(3) {
@@ -195,13 +208,13 @@ pub(super) fn some_rows(chance: &mut Chance, rows: &[Row]) -> (Vec<u64>, u64) {
         }
     }
     if chance.once_in(8) {
-        numbers.extend(table(1 + chance.below(5)));
+        numbers.extend(table(1 + chance.below(WORDS - 1)));
     }
     if chance.once_in(16) {
         numbers.truncate(chance.below(numbers.len() + 1));
     }
     let in_use = if chance.once_in(6) { about(chance, rows.len() as u64) } else { rows.len() as u64 };
-    (numbers, in_use)
+    Rows { numbers, in_use }
 }
 
 /// Bounds inside a length, at its ends, past it, or at the limits.
@@ -240,7 +253,7 @@ pub(super) fn index_text(chance: &mut Chance, file: &[u8], rows: &[Row]) -> Vec<
     for row in rows {
         let name = file.get(row[0] as usize..).and_then(|f| f.get(..row[1] as usize)).unwrap_or(b"gone");
         text.extend(if honest || !chance.once_in(8) { name } else { b"t" });
-        for right in &row[2..] {
+        for right in &row[2..OF_A_LINE] {
             text.push(b'\t');
             if honest || !chance.once_in(6) {
                 text.extend(right.to_string().bytes());
@@ -259,8 +272,9 @@ pub(super) fn index_text(chance: &mut Chance, file: &[u8], rows: &[Row]) -> Vec<
     text
 }
 
+/// The number of a row, at times of one that isn't there, and the row's own numbers.
 pub(super) fn a_row(chance: &mut Chance, sample: &Sample) -> (u64, Row) {
-    let row = chance.below(sample.rows.len());
-    let numbers = sample.rows.get(row).copied().unwrap_or([1, 1, 4, 3, 4, 5]);
-    (if chance.once_in(12) { about(chance, row as u64) } else { row as u64 }, numbers)
+    let number = chance.below(sample.rows.len());
+    let numbers = sample.rows.get(number).copied().unwrap_or(row([1, 1, 4, 3, 4, 5]));
+    (if chance.once_in(12) { about(chance, number as u64) } else { number as u64 }, numbers)
 }

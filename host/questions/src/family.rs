@@ -1,0 +1,172 @@
+//! The families of questions: one table of what each asks and what its answer tells.
+//!
+//! The line form reads arguments and writes answers by it; the generator, the comparison, the replayed list and the tests read it
+//! too. To add a family, add its line and its examples here, an arm in `ask` and in the model, and how its questions are made in
+//! [`generate`](crate::generate).
+
+use Kind::{Bounds, Bytes, Number, Numbers, Output, Rows, Table};
+use Original::{Lacks, Memory, Refusals};
+use Shape::{Always, Bare, Found, IfOk};
+
+/// What an argument is, or a part of an answer. All but bounds and rows are one word.
+#[derive(Clone, Copy, Debug, Eq, PartialEq)]
+pub enum Kind {
+    /// Bytes: `x` and hex.
+    Bytes,
+    /// Bytes, or `-` for none.
+    MaybeBytes,
+    /// A decimal number of 64 bits.
+    Number,
+    /// A number, or `-` for none.
+    MaybeNumber,
+    /// The bounds of a region, two words: each a number, or `-` for none.
+    Bounds,
+    /// Numbers: `t1,2,3`.
+    Numbers,
+    /// A table that is read, two words: its numbers, and how many rows are in use.
+    Rows,
+    /// Regions, each a row and its bounds: `r0:4:5,1:-:7`.
+    Regions,
+    /// Steps of a call that is fed a file: `f` and hex for a piece, `e` for the end, as `f3e73,f0a41,e`.
+    Steps,
+    /// What each step told, a word to a step: a refusal's three numbers and the rows so far, as `0:0:0:1`.
+    Stepped,
+    /// Numbers that a call may change. The answer ends with them as they were left.
+    Table,
+    /// Bytes that a call may change. The answer ends with them as they were left.
+    Output,
+}
+
+/// What an answer tells. Lent memory stands behind it in every case.
+#[derive(Clone, Copy, Debug, Eq, PartialEq)]
+pub enum Shape {
+    /// `ok` and these, or a refusal alone.
+    IfOk(&'static [Kind]),
+    /// `ok` and these, `ok none`, or a refusal alone.
+    Found(&'static [Kind]),
+    /// `ok` or a refusal, and these after both.
+    Always(&'static [Kind]),
+    /// These, and no `ok`.
+    Bare(&'static [Kind]),
+}
+
+/// What the original tells of a family.
+#[derive(Clone, Copy, Debug, Eq, PartialEq)]
+pub enum Original {
+    /// It has no such call.
+    Lacks,
+    /// All of an answer; of a refusal its three numbers alone.
+    Refusals,
+    /// All of an answer, after a refusal too.
+    Memory,
+}
+
+/// A family of questions.
+#[derive(Clone, Copy, Debug, Eq, PartialEq)]
+pub struct Family {
+    /// The word that a question begins with.
+    pub name: &'static str,
+    /// What it asks about.
+    pub takes: &'static [Kind],
+    /// What its answer tells.
+    pub tells: Shape,
+    /// What it may refuse, but for an input that is too long.
+    pub refuses: &'static [u64],
+    /// What the original tells.
+    pub original: Original,
+}
+
+const fn asks(
+    name: &'static str,
+    takes: &'static [Kind],
+    tells: Shape,
+    refuses: &'static [u64],
+    original: Original,
+) -> Family {
+    Family { name, takes, tells, refuses, original }
+}
+
+/// Every family that is asked.
+#[rustfmt::skip]
+pub const FAMILIES: &[Family] = &[
+    // lines: name and description; content and the next offset; a run of bases
+    asks("def", &[Bytes], IfOk(&[Number, Number, Number, Number]), &[2, 3, 4], Refusals),
+    asks("dfc", &[Bytes], IfOk(&[Number, Number, Number, Number]), &[2, 3, 4], Refusals),
+    asks("lin", &[Bytes, Number], Found(&[Number, Number, Number]), &[], Refusals),
+    asks("run", &[Bytes, Number], IfOk(&[Number, Number]), &[], Refusals),
+    // sequences: bases and the place that is left
+    asks("seq", &[Bytes, Number, Output], Always(&[Number, Number]), &[14], Refusals),
+    asks("lim", &[Bytes, Number, Number, Output], Always(&[Number, Number]), &[14], Refusals),
+    // the indexers: a row and the next offset; rows
+    asks("rec", &[Bytes, Number], Found(&[Numbers, Number]), &[2, 3, 4, 5, 6, 7], Refusals),
+    asks("idx", &[Bytes, Table], Always(&[Number]), &[2, 3, 4, 5, 6, 7, 8], Memory),
+    asks("fit", &[Bytes, Table], Always(&[Number]), &[2, 3, 4, 8, 42], Lacks),
+    // an index text: a row and whether the line is plain; a row; rows; the bytes of a written line
+    asks("ixl", &[Bytes], IfOk(&[Numbers, Number]), &[9, 10, 11, 12], Lacks),
+    asks("ixc", &[Bytes], IfOk(&[Numbers]), &[9, 10, 11, 12], Refusals),
+    asks("ixt", &[Bytes, Table], Always(&[Number]), &[8, 9, 10, 11, 12], Refusals),
+    asks("wrl", &[Bytes, Rows, Number, Output], Always(&[Number]), &[13, 14, 25], Refusals),
+    // a table: the row of a name; the bytes of a region
+    asks("fnd", &[Bytes, Rows, Bytes], IfOk(&[Number]), &[15, 25], Lacks),
+    asks("exr", &[Bytes, Rows, Number, Bounds, Output], Always(&[Number]), &[14, 16, 17, 18, 25], Lacks),
+    asks("rar", &[Bytes, Rows, Number, Bounds, Output], Always(&[Number]), &[14, 16, 18, 25], Refusals),
+    // bases: the bytes of a complement
+    asks("cmp", &[Bytes, Output], Always(&[Number]), &[14, 24], Memory),
+    asks("rev", &[Bytes, Output], Always(&[Number]), &[14, 24], Memory),
+    // the checker; the program's output
+    asks("chk", &[Bytes, Bytes], IfOk(&[]), &[2, 3, 4, 9, 10, 11, 12, 19, 20, 21, 22, 23], Lacks),
+    asks("prg", &[Bytes], Bare(&[Bytes]), &[], Refusals),
+];
+
+/// Questions and their answers, by hand: some of each family, with what must be told after a refusal.
+pub const EXAMPLES: &str = "\
+def x3e73206f6e650d0a => ok 1 1 3 3
+def x0a => no 2 0 0
+dfc x0a => no 3 0 0
+dfc x3e73 => ok 1 1 0 0
+lin x3e730d0a41 0 => ok 0 2 4
+lin x3e730d0a41 5 => ok none
+run x0d0a41430d 0 => ok 2 2
+run x3e 7 => ok 7 0
+seq x41430a47 0 x2e2e2e2e => ok 3 4 x4143472e
+seq x41430a47 0 x2e2e => no 14 3 0 0 0 x2e2e
+lim x410a43 0 1 x2e => ok 1 1 x41
+lim x410a43 9 1 x2e => ok 0 9 x2e
+rec x3e730a41430a3e740a41 6 => ok t7,1,1,9,1,1 10
+rec x3e730a41430a 6 => ok none
+rec x3e730a0a 0 => no 5 4 0
+idx x3e730a414347540a0a t7,7,7,7,7,7 => ok 1 t1,1,4,3,4,5
+idx x3e730a414347540a0a0a t7,7,7,7,7,7 => no 6 0 4 0 t7,7,7,7,7,7
+idx x3e730a410a3e740a t700,701,702,703,704,705,706 => no 5 8 0 1 t1,1,1,3,1,2,706
+idx x3e730a41 t => no 8 0 0 0 t
+fit x3e730a414347540a0a0a t7,7,7,7,7,7 => ok 1 t1,1,4,3,4,5
+fit x3e730a0a410a0a430a3e740a t700,701,702,703,704,705,706,707,708,709,710,711,712 => ok 2 t1,1,2,4,1,3,10,1,0,12,1,2,712
+fit x3e730a0a3e740a410a41410a t7,7,7,7,7,7 => no 42 10 3 1 t1,1,0,3,1,2
+fit x3e730a t => no 8 0 0 0 t
+ixl x7309340933093409350a => ok t0,1,4,3,4,5 1
+ixl x730934093309340935 => ok t0,1,4,3,4,5 0
+ixl x73093409330930 => no 12 1 4
+ixc x730934093309340935 => ok t0,1,4,3,4,5
+ixc x => no 9 1 0
+ixt x73093409330934093509360a t1,1,1,1,1,1 => no 11 1 5 0 t1,1,1,1,1,1
+ixt x7309340933093409350a7309340933093409350a t1,1,1,1,1,1 => no 8 1 0 1 t0,1,4,3,4,5
+wrl x73 t0,1,4,3,4,5 1 0 x2e2e2e2e2e2e2e2e2e2e2e => ok 10 x7309340933093409350a2e
+wrl x73 t0,1,4,3,4,5 1 0 x2e2e => no 14 10 0 0 x2e2e
+wrl x73 t0,2,4,3,4,5 1 0 x2e2e => no 25 0 0 0 x2e2e
+fnd x7374 t0,1,4,3,4,5,1,1,4,3,4,5 2 x74 => ok 1
+fnd x7374 t0,1,4,3,4,5,1,1,4,3,4,5 2 x => no 15 0 0
+exr x3e730a414347540a41430a t1,1,6,3,4,5 1 0 4 5 x2e2e2e => ok 2 x54412e
+exr x3e730a414347540a41430a t1,1,6,3,4,5 1 0 5 7 x2e2e2e => no 17 6 0 0 x2e2e2e
+rar x3e730a41433e4754 t1,1,5,3,5,6 1 0 3 4 x2e2e => ok 0 x2e2e
+cmp x41 x2e2e => ok 1 x542e
+cmp x4158 x2e2e => no 24 1 88 0 x2e2e
+rev x41434755 x2e2e2e2e => ok 4 x41434754
+chk x3e730a414347540a41430a x730936093309340936 => no 23 1 5
+chk x x => ok
+prg x3e730a41 => x7309310933093109310a
+prg x3e73 => x726566757365642035203220300a";
+
+/// The family of a name.
+pub fn family(name: &str) -> Option<&'static Family> {
+    FAMILIES.iter().find(|family| family.name == name)
+}

@@ -1,0 +1,239 @@
+//! How the questions of each family are made: one entry for each.
+
+use super::by_chance::{
+    LETTERS, Sample, WIDTHS, a_row, about, damage, file, index_text, name, numeral, place, sample, some_bounds,
+    some_room, some_rows, some_table, spaced_file, wanted,
+};
+use super::chance::Chance;
+use super::{Source, every};
+use crate::family::Kind;
+use crate::form::Value::{self, Bounds, Bytes, Number, Output, Rows, Table};
+use crate::row::OF_A_LINE;
+
+/// How the questions of a family are made.
+pub(super) struct Maker {
+    pub(super) family: &'static str,
+    /// How many of those by chance are of this family, beside the other shares.
+    pub(super) share: usize,
+    pub(super) by_chance: fn(&mut Chance) -> Vec<Value>,
+    /// Every short input, and numbers at the limits.
+    pub(super) every: &'static [fn() -> Source],
+}
+
+const fn maker(
+    family: &'static str,
+    share: usize,
+    by_chance: fn(&mut Chance) -> Vec<Value>,
+    every: &'static [fn() -> Source],
+) -> Maker {
+    Maker { family, share, by_chance, every }
+}
+
+/// An entry for each family. A share is 16 for most; the program is started anew for each of its questions.
+pub(super) const MAKERS: &[Maker] = &[
+    maker("def", 16, definition, &[every::definition]),
+    maker("dfc", 16, definition, &[every::definition]),
+    maker("lin", 16, file_and_place, &[every::place]),
+    maker("run", 16, file_and_place, &[every::place]),
+    maker("seq", 16, sequence, &[every::sequence]),
+    maker("lim", 16, limited, &[every::limit]),
+    maker("rec", 16, record, &[every::record]),
+    maker("idx", 64, file_and_table, &[every::file, every::two_records]),
+    maker("fit", 48, spaced_file_and_table, &[every::file, every::two_records]),
+    maker("ixl", 16, index_line, &[every::index_line]),
+    maker("ixc", 16, index_line, &[every::index_line]),
+    maker("ixt", 32, index, &[every::index]),
+    maker("wrl", 16, written_line, &[every::written_line]),
+    maker("fnd", 32, look_up, &[every::look_up]),
+    maker("exr", 48, read, &[every::read, every::far_read]),
+    maker("rar", 32, read, &[every::read, every::far_read]),
+    maker("cmp", 16, bases, &[every::complement]),
+    maker("rev", 16, bases, &[every::complement]),
+    maker("chk", 32, pair, &[every::check]),
+    maker("prg", 1, program, &[every::program_limits]),
+];
+
+/// Arguments of some kinds, about one file: each for itself.
+pub(super) fn by_kind(chance: &mut Chance, kinds: &[Kind]) -> Vec<Value> {
+    let sample = file(chance);
+    let (_, row) = a_row(chance, &sample);
+    let argument = |kind: &Kind| match kind {
+        Kind::Bytes => Bytes(some_bytes(chance, &sample)),
+        Kind::MaybeBytes => Value::MaybeBytes((!chance.once_in(3)).then(|| some_bytes(chance, &sample))),
+        Kind::Number => Number(some_number(chance, &sample)),
+        Kind::MaybeNumber => Value::MaybeNumber((!chance.once_in(3)).then(|| some_number(chance, &sample))),
+        Kind::Bounds => Bounds(some_bounds(chance, row[2])),
+        Kind::Numbers => Value::Numbers(some_rows(chance, &sample.rows).numbers),
+        Kind::Rows => Rows(some_rows(chance, &sample.rows)),
+        Kind::Regions => {
+            let regions = chance.below(5);
+            Value::Regions((0..regions).map(|_| (a_row(chance, &sample).0, some_bounds(chance, row[2]))).collect())
+        }
+        Kind::Steps => Value::Steps(some_steps(chance, &sample.text)),
+        // only an answer has it
+        Kind::Stepped => Value::Stepped(vec![]),
+        Kind::Table => Table(some_table(chance, sample.rows.len())),
+        Kind::Output => Output(some_room(chance, row[2])),
+    };
+    kinds.iter().map(argument).collect()
+}
+
+fn some_bytes(chance: &mut Chance, sample: &Sample) -> Vec<u8> {
+    match chance.below(6) {
+        0 => index_text(chance, &sample.text, &sample.rows),
+        1 => name(chance),
+        2 => some_bases(chance),
+        _ => sample.text.clone(),
+    }
+}
+
+fn some_number(chance: &mut Chance, sample: &Sample) -> u64 {
+    let near = chance.below(sample.text.len() + 2) as u64;
+    about(chance, near)
+}
+
+/// A text in pieces, some of them empty, with its end; or steps in some other order.
+fn some_steps(chance: &mut Chance, text: &[u8]) -> Vec<Option<Vec<u8>>> {
+    let (mut steps, mut rest) = (vec![], text);
+    while !rest.is_empty() {
+        let longest = chance.one_of(&[1, 2, 3, 8, 40]).min(rest.len());
+        let (piece, behind) = rest.split_at(chance.below(longest + 1));
+        steps.push(Some(piece.to_vec()));
+        rest = behind;
+    }
+    steps.push(None);
+    if chance.once_in(6) {
+        let (from, to) = (chance.below(steps.len()), chance.below(steps.len() + 1));
+        let step = steps[from].clone();
+        steps.insert(to, step);
+    }
+    steps
+}
+
+fn definition(chance: &mut Chance) -> Vec<Value> {
+    let mut text = file(chance).text;
+    let end = text.iter().position(|b| *b == b'\n').map_or(text.len(), |lf| lf + 1);
+    text.truncate(if chance.once_in(10) { end + 5 } else { end });
+    vec![Bytes(text)]
+}
+
+fn file_and_place(chance: &mut Chance) -> Vec<Value> {
+    let text = file(chance).text;
+    let at = place(chance, &text);
+    vec![Bytes(text), Number(at)]
+}
+
+/// A record is at the start of a file, at least.
+fn record(chance: &mut Chance) -> Vec<Value> {
+    let text = file(chance).text;
+    let at = if chance.once_in(2) { 0 } else { place(chance, &text) };
+    vec![Bytes(text), Number(at)]
+}
+
+/// A file, a place in it where a sequence may begin, and about how many bases are there.
+fn where_bases_are(chance: &mut Chance) -> (Vec<u8>, u64, u64) {
+    let sample = file(chance);
+    let (_, row) = a_row(chance, &sample);
+    let at = if chance.once_in(2) { row[3] } else { place(chance, &sample.text) };
+    (sample.text, at, row[2])
+}
+
+fn sequence(chance: &mut Chance) -> Vec<Value> {
+    let (text, at, length) = where_bases_are(chance);
+    vec![Bytes(text), Number(at), Output(some_room(chance, length))]
+}
+
+fn limited(chance: &mut Chance) -> Vec<Value> {
+    let (text, at, length) = where_bases_are(chance);
+    let limit = about(chance, length);
+    vec![Bytes(text), Number(at), Number(limit), Output(some_room(chance, limit.min(length)))]
+}
+
+fn file_and_table(chance: &mut Chance) -> Vec<Value> {
+    let sample = file(chance);
+    let table = some_table(chance, sample.rows.len());
+    vec![Bytes(sample.text), Table(table)]
+}
+
+fn spaced_file_and_table(chance: &mut Chance) -> Vec<Value> {
+    if chance.once_in(2) {
+        return file_and_table(chance);
+    }
+    let (text, records) = spaced_file(chance);
+    vec![Bytes(text), Table(some_table(chance, records))]
+}
+
+fn index_line(chance: &mut Chance) -> Vec<Value> {
+    let fields = [name(chance), numeral(chance, 4), numeral(chance, 3), numeral(chance, 60), numeral(chance, 61)];
+    let mut line = fields.join(&b'\t');
+    line.extend(chance.one_of(&[&b"\n"[..], b"\n", b"\r\n", b"", b"\r"]));
+    if chance.once_in(4) {
+        damage(chance, &mut line);
+    }
+    vec![Bytes(line)]
+}
+
+fn index(chance: &mut Chance) -> Vec<Value> {
+    let sample = sample(chance);
+    let text = index_text(chance, &sample.text, &sample.rows);
+    vec![Bytes(text), Table(some_table(chance, sample.rows.len()))]
+}
+
+fn written_line(chance: &mut Chance) -> Vec<Value> {
+    let sample = file(chance);
+    let (row, numbers) = a_row(chance, &sample);
+    let rows = some_rows(chance, &sample.rows);
+    let columns = numbers[2..OF_A_LINE].iter().map(|n| n.to_string().len() as u64 + 1).sum::<u64>();
+    vec![Bytes(sample.text), Rows(rows), Number(row), Output(some_room(chance, numbers[1] + columns + 1))]
+}
+
+/// A name that is there, one that may be, or one that isn't.
+fn look_up(chance: &mut Chance) -> Vec<Value> {
+    let sample = file(chance);
+    let rows = some_rows(chance, &sample.rows);
+    let (_, row) = a_row(chance, &sample);
+    let there = sample.text.get(row[0] as usize..).and_then(|t| t.get(..row[1] as usize));
+    let wanted = match there {
+        Some(there) if !chance.once_in(4) => there.to_vec(),
+        _ if chance.once_in(4) => vec![],
+        _ => name(chance),
+    };
+    vec![Bytes(sample.text), Rows(rows), Bytes(wanted)]
+}
+
+fn read(chance: &mut Chance) -> Vec<Value> {
+    let sample = file(chance);
+    let (row, numbers) = a_row(chance, &sample);
+    let rows = some_rows(chance, &sample.rows);
+    let bounds = some_bounds(chance, numbers[2]);
+    let room = some_room(chance, wanted(bounds, numbers[2]));
+    vec![Bytes(sample.text), Rows(rows), Number(row), Bounds(bounds), Output(room)]
+}
+
+fn some_bases(chance: &mut Chance) -> Vec<u8> {
+    let length = if chance.once_in(3) { chance.one_of(&WIDTHS) } else { chance.below(12) };
+    let mut bases: Vec<u8> = (0..length).map(|_| chance.one_of(LETTERS)).collect();
+    if chance.once_in(3) {
+        damage(chance, &mut bases);
+    }
+    bases
+}
+
+fn bases(chance: &mut Chance) -> Vec<Value> {
+    let bases = some_bases(chance);
+    let room = some_room(chance, bases.len() as u64);
+    vec![Bytes(bases), Output(room)]
+}
+
+fn pair(chance: &mut Chance) -> Vec<Value> {
+    let mut sample = sample(chance);
+    let index = index_text(chance, &sample.text, &sample.rows);
+    if chance.once_in(3) {
+        damage(chance, &mut sample.text);
+    }
+    vec![Bytes(sample.text), Bytes(index)]
+}
+
+fn program(chance: &mut Chance) -> Vec<Value> {
+    vec![Bytes(file(chance).text)]
+}

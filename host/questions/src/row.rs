@@ -1,0 +1,26 @@
+//! How many numbers a row of a table has. No other place of these programs says it.
+
+/// The numbers of a row: name start, name length, length, position, line bases, line width.
+pub const WORDS: usize = 6;
+
+/// The numbers of a row that an index line gives: the span of its name, and four columns.
+pub const OF_A_LINE: usize = 6;
+
+/// A row of a table.
+pub type Row = [u64; WORDS];
+
+/// The row of what an index line gives; further numbers of a row are 0.
+pub fn row(of_a_line: [u64; OF_A_LINE]) -> Row {
+    let mut row = [0; WORDS];
+    row[..OF_A_LINE].copy_from_slice(&of_a_line);
+    row
+}
+
+/// A table as it is lent, and how many of its rows are said to be in use.
+#[derive(Clone, Debug, Default, Eq, PartialEq)]
+pub struct Rows {
+    /// The numbers of all rows, one row after the other.
+    pub numbers: Vec<u64>,
+    /// The rows in use.
+    pub in_use: u64,
+}

@@ -1,0 +1,112 @@
+//! The entry points and their answers, each declared once, as include/wakeluri.h has them.
+//!
+//! Both lists are macros that hand what they list to another macro: [`entry`](crate::entry) makes the safe calls and what they
+//! link of them, and the tests hold them against the header and make hostile calls by them.
+
+/// Every entry point, in the order of the header, without the `wakeluri_` of its name. A parameter is one of these:
+///
+/// | | in Rust | in C |
+/// |---|---|---|
+/// | bytes | `&[u8]` | `const uint8_t *p, size_t p_length` |
+/// | maybe | `Option<&[u8]>` | `uint64_t has_p, const uint8_t *p, size_t p_length` |
+/// | output | `&mut [u8]` | `uint8_t *p, size_t p_length` |
+/// | table | `&mut [u8]` | the same: rows are put in it |
+/// | number | `u64` | `uint64_t p` |
+/// | bounds | `Bounds` | `uint64_t has_start, uint64_t start, uint64_t has_end, uint64_t end` |
+#[doc(hidden)]
+#[macro_export]
+macro_rules! entry_points {
+    ($with:ident) => {
+        $with! {
+            /// What a definition line says, given with its end. Refuses 1 to 4.
+            fn definition_line(line: bytes) -> Definition;
+
+            /// What the content of a definition line says, without its end. Refuses 1 to 4.
+            fn definition_content(content: bytes) -> Definition;
+
+            /// The content of the line at an offset, without LF and, only before an LF, one CR. Refuses 1.
+            fn read_line(file: bytes, at: number) -> Span;
+
+            /// One step of the scanning rule: the next run of bases from a place on, of length 0 at '>' or the end. Refuses 1.
+            fn read_run(file: bytes, at: number) -> Span;
+
+            /// The bases from an offset on, by the scanning rule, at the front of `out`; tells how many, and the place left.
+            /// Refuses 1, 14.
+            fn read_sequence(file: bytes, at: number, out: output) -> Answer;
+
+            /// The same, at most `limit` bases. Refuses 1, 14.
+            fn read_sequence_limit(file: bytes, at: number, limit: number, out: output) -> Answer;
+
+            /// The row of the record at an offset, and the offset behind it. Refuses 1 to 7.
+            fn index_record(file: bytes, at: number) -> Row;
+
+            /// A row for each record of a file, from the table's first on, by the original's rule; tells how many. Refuses 1 to 8.
+            fn index_file(file: bytes, table: table) -> Answer;
+
+            /// The same by the complete rule, which takes every file that any index leads through. Refuses 1, then record by
+            /// record 2 to 4, 42, 8.
+            fn index_complete(file: bytes, table: table) -> Answer;
+
+            /// What an index line says, given with its end; its name starts at 0. Refuses 1, 9 to 12.
+            fn index_line(line: bytes) -> Row;
+
+            /// What the content of an index line says, without its end. Refuses 1, 9 to 12.
+            fn index_content(content: bytes) -> Row;
+
+            /// A row for each line of an index, from the table's first on; names are spans of the index. Refuses 1, 9 to 12, 8.
+            fn read_index(index: bytes, table: table) -> Answer;
+
+            /// The index line of a row, with its LF, at the front of `out`; tells how many bytes. Refuses 1, 25, 13, 14.
+            fn write_index_line(names: bytes, table: bytes, in_use: number, row: number, out: output) -> Answer;
+
+            /// The first row in use that has the name, as `count`. Refuses 1, 25, 15.
+            fn find(names: bytes, table: bytes, in_use: number, name: bytes) -> Answer;
+
+            /// Exactly the bases from `start` to `end` of a row's record, never fewer. Refuses 1, 16, 25, 17, 14, 18.
+            fn read_exact(file: bytes, table: bytes, in_use: number, row: number, bounds: bounds, out: output) -> Answer;
+
+            /// The bases that a scan finds from `start` on; ignores the record's length, and may run into the next record. Refuses
+            /// 1, 16, 25, 18, 14.
+            fn read_raw(file: bytes, table: bytes, in_use: number, row: number, bounds: bounds, out: output) -> Answer;
+
+            /// The complement of some bases, at the front of `out`. Refuses 1, 14, and 24 with the first bad byte.
+            fn complement(bases: bytes, out: output) -> Answer;
+
+            /// The reverse complement, at the front of `out`. Refuses 1, 14, and 24 with the last bad byte.
+            fn reverse_complement(bases: bytes, out: output) -> Answer;
+
+            /// A FASTA record, its bases in lines of a width, at the front of `out`; tells how many bytes. Refuses 1, 27 to 30, 14.
+            write_record(name: bytes, description: maybe, bases: bytes, width: number, out: output) -> Answer;
+
+            /// Bases alone, in lines of a width: the next piece of a record whose pieces so far were whole lines. Refuses 1, 27,
+            /// 30, 14.
+            write_sequence(bases: bytes, width: number, out: output) -> Answer;
+
+            /// Accepts a FASTA file and an index of any program exactly if the index leads to every base. Refuses 1, 2 to 4, 19, 9
+            /// to 12, 21 to 23, 20.
+            fn check(fasta: bytes, index: bytes) -> Answer;
+        }
+    };
+}
+
+/// Every answer, in the order of the header: its numbers behind the refusal's three.
+#[doc(hidden)]
+#[macro_export]
+macro_rules! answers {
+    ($with:ident) => {
+        $with! {
+            /// A refusal, 0 where there is none; a count (of bytes or of rows, or a row's number), and the place that a read leaves.
+            struct Answer { count, next }
+
+            /// A name and a description by their places in a definition line; 0 and 0 where there is no description.
+            struct Definition { name_start, name_length, description_start, description_length }
+
+            /// Some bytes of a file by their place: `found` is 0 where there is no line. `next` is the offset behind the line.
+            struct Span { found, start, length, next }
+
+            /// A record's row, the numbers from `name_start` on: `found` is 0 at the end of a file. `next` is the offset behind the
+            /// record, `plain` is 1 for a plain index line that was given with its end.
+            struct Row { found, next, plain, name_start, name_length, length, position, line_bases, line_width }
+        }
+    };
+}
