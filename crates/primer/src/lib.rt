@@ -88,10 +88,10 @@ fn count_sequences(primer: &[u8]) -> u64
 {
     let sets = letters::sets();
     let mut product: u64 = 1;
-    let mut j = primer.len();
-    while 0 < j {
-        j -= 1;
-        product = bases_in(set_of(&sets, primer[j])) * product;
+    let mut k = primer.len();
+    while 0 < k {
+        k -= 1;
+        product = bases_in(set_of(&sets, primer[k])) * product;
     }
     product
 }

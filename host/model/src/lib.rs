@@ -6,12 +6,14 @@
 mod checker;
 mod complete;
 mod lines;
+mod primers;
 mod reads;
 mod rows;
 
 use checker::{check, program};
 use complete::fitted_record;
 use lines::{content, definition, first_line, from, run};
+use primers::{degeneracy, next_place};
 use questions::form::Value::{self, Bounds, Bytes, MaybeBytes, Number, Numbers, Output, Rows, Table};
 use questions::form::{Answer, No, Speaker};
 use reads::{complemented, exact, raw, sequence};
@@ -86,6 +88,9 @@ impl Speaker for Model {
             }
             ("cmp", [Bytes(bases), Output(out)]) => complemented(bases, false, out).into(),
             ("rev", [Bytes(bases), Output(out)]) => complemented(bases, true, out).into(),
+            ("deg", [Bytes(primer)]) => degeneracy(primer).into(),
+            ("prm", [Bytes(primer), Bytes(text)]) => next_place(primer, text, 0).into(),
+            ("prn", [Bytes(primer), Bytes(text), Number(from)]) => next_place(primer, text, *from).into(),
             ("chk", [Bytes(fasta), Bytes(index)]) => check(fasta, index).into(),
             ("prg", [Bytes(input)]) => Ok(vec![Bytes(program(input))]).into(),
             _ => return None,

@@ -113,6 +113,10 @@ pub const FAMILIES: &[Family] = &[
     // bases: the bytes of a complement
     asks("cmp", &[Bytes, Output], Always(&[Number]), &[14, 24], Memory),
     asks("rev", &[Bytes, Output], Always(&[Number]), &[14, 24], Memory),
+    // primers: how many sequences one stands for; its first place; its next place
+    asks("deg", &[Bytes], IfOk(&[Number]), &[36, 37], Lacks),
+    asks("prm", &[Bytes, Bytes], Found(&[Number]), &[36, 37], Lacks),
+    asks("prn", &[Bytes, Bytes, Number], Found(&[Number]), &[36, 37], Lacks),
     // the checker; the program's output
     asks("chk", &[Bytes, Bytes], IfOk(&[]), &[2, 3, 4, 9, 10, 11, 12, 19, 20, 21, 22, 23], Lacks),
     asks("prg", &[Bytes], Bare(&[Bytes]), &[], Refusals),
@@ -161,6 +165,14 @@ rar x3e730a41433e4754 t1,1,5,3,5,6 1 0 3 4 x2e2e => ok 0 x2e2e
 cmp x41 x2e2e => ok 1 x542e
 cmp x4158 x2e2e => no 24 1 88 0 x2e2e
 rev x41434755 x2e2e2e2e => ok 4 x41434754
+deg x524e => ok 8
+deg x => no 36 0 0
+deg x412d43 => no 37 1 0
+prm x4e79 x2d2d4155 => ok 2
+prm x41 x4e => ok none
+prm x x41 => no 36 0 0
+prn x41 x414141 1 => ok 1
+prn x41 x414141 18446744073709551615 => ok none
 chk x3e730a414347540a41430a x730936093309340936 => no 23 1 5
 chk x x => ok
 prg x3e730a41 => x7309310933093109310a

@@ -1,4 +1,4 @@
--- `primer::count_sequences` meets its contract: before each turn the product is how many sequences the letters from `j` on stand for.
+-- `primer::count_sequences` meets its contract: before each turn the product is how many sequences the letters from `k` on stand for.
 -- Assumes nothing.
 use Prim.Native.Nat.{_≤_, _*_, _-_}
 use mathlib.Core.Path.{_≡_}
@@ -11,10 +11,10 @@ use Rattle.primer.proofs.count_sequences.Statement.{statement}
 use Rattle.primer.proofs.count_sequences.Tie as tie
 
 abbrev Inv-loop : tie.InvT-loop
-Inv-loop primer sets product₀ j₀ product j = (j ≤ length primer) × (product ≡ length (standsFor (drop j primer)))
+Inv-loop primer sets product₀ k₀ product k = (k ≤ length primer) × (product ≡ length (standsFor (drop k primer)))
 
 abbrev μ-loop : tie.MeasureT-loop
-μ-loop primer sets product₀ j₀ product j = j
+μ-loop primer sets product₀ k₀ product k = k
 
 sets-requires : tie.Need-sets-requires Inv-loop μ-loop
 sets-requires c κs = search needs
@@ -22,8 +22,8 @@ sets-requires c κs = search needs
 loop-holds : tie.Need-loop-holds Inv-loop μ-loop
 loop-holds c = (search needs, stands-end (c .before .before .args .primer .now))
 
-sub-j : tie.Need-sub-j Inv-loop μ-loop
-sub-j c = search needs
+sub-k : tie.Need-sub-k Inv-loop μ-loop
+sub-k c = search needs
 
 shared-slice-read-set-of : tie.Need-shared-slice-read-set-of Inv-loop μ-loop
 shared-slice-read-set-of c = search needs
@@ -36,17 +36,17 @@ bases-in-requires c κs = search needs
 
 -- one letter more
 turn : (c : tie.After-bases-in Inv-loop μ-loop) → c .bases-in .result * c .before .before .before .before .before .loop .product
-    ≡ length (standsFor (drop (c .before .before .before .before .before .loop .j - 1) (c .before .before .before .before .before .before .before .before .args .primer .now)))
+    ≡ length (standsFor (drop (c .before .before .before .before .before .loop .k - 1) (c .before .before .before .before .before .before .before .before .args .primer .now)))
 turn c =
     let l = c .before .before .before .before .before in
     rw (l .loop .inv .1, c .bases-in .ensures, c .before .set-of .ensures)
-    (stands-step (l .before .before .before .args .primer .now) (l .loop .j - 1) (l .loop .j) (omega arith) (omega arith))
+    (stands-step (l .before .before .before .args .primer .now) (l .loop .k - 1) (l .loop .k) (omega arith) (omega arith))
 
 mul-product : tie.Need-mul-product Inv-loop μ-loop
 mul-product c =
     let l = c .before .before .before .before .before in
     let a = l .before .before .before in
-    record { fits = omega (arith, turn c, stands-small (a .args .primer .now) (l .loop .j - 1) (a .pre)) }
+    record { fits = omega (arith, turn c, stands-small (a .args .primer .now) (l .loop .k - 1) (a .pre)) }
 
 loop-less : tie.Need-loop-less Inv-loop μ-loop
 loop-less c = search needs
@@ -55,7 +55,7 @@ loop-again : tie.Need-loop-again Inv-loop μ-loop
 loop-again c = (search needs, turn c)
 
 returns : tie.Need-returns Inv-loop μ-loop
-returns c = let z : c .before .loop .j ≡ 0 = omega arith in rw z at (c .before .loop .inv .1)
+returns c = let z : c .before .loop .k ≡ 0 = omega arith in rw z at (c .before .loop .inv .1)
 
 pub count-sequences-spec : {M : Type 1} → statement M
 count-sequences-spec =
@@ -65,7 +65,7 @@ count-sequences-spec =
     μ-loop
     sets-requires
     loop-holds
-    sub-j
+    sub-k
     shared-slice-read-set-of
     set-of-requires
     bases-in-requires
