@@ -2,14 +2,12 @@
 // table of numbers do.
 use crate::rows;
 use crate::rows::Names;
-use index_line::Written;
+use output::Written;
 use record::Record;
 use region::Bound;
-use region::RegionRead;
 ghost use mathlib.Core.Path.{_≡_};
-ghost use Rattle.index_line.specs.Fields.{wrote};
+ghost use Rattle.output.specs.Outcome.{leaves};
 ghost use Rattle.index_line.specs.IndexLine.{writtenAs};
-ghost use Rattle.region.specs.Region.{leaves};
 ghost use Rattle.region.specs.Exact.{exactRead};
 ghost use Rattle.region.specs.Raw.{rawRead};
 ghost use Rattle.byte_table.specs.Numbers.{numbersIn};
@@ -23,7 +21,7 @@ pub fn read_exact(
     start: Bound,
     end: Bound,
     out: &mut [u8],
-) -> RegionRead
+) -> Written
     ensures { λ r. ⌜ leaves r (now (out .exit)) ≡ exactRead (now (file .entry)) (numbersIn (now (table .entry))) «in_use» row start end (now (out .entry)) ⌝ }
 {
     let mut one = [0; Record::WORDS];
@@ -40,7 +38,7 @@ pub fn read_raw(
     start: Bound,
     end: Bound,
     out: &mut [u8],
-) -> RegionRead
+) -> Written
     ensures { λ r. ⌜ leaves r (now (out .exit)) ≡ rawRead (now (file .entry)) (numbersIn (now (table .entry))) «in_use» row start end (now (out .entry)) ⌝ }
 {
     let mut one = [0; Record::WORDS];
@@ -50,7 +48,7 @@ pub fn read_raw(
 
 // Writes the index line of a row.
 pub fn write_line(names: &[u8], table: &[u8], in_use: usize, row: usize, out: &mut [u8]) -> Written
-    ensures { λ r. ⌜ wrote r (now (out .exit)) ≡ writtenAs (now (names .entry)) (numbersIn (now (table .entry))) «in_use» row (now (out .entry)) ⌝ }
+    ensures { λ r. ⌜ leaves r (now (out .exit)) ≡ writtenAs (now (names .entry)) (numbersIn (now (table .entry))) «in_use» row (now (out .entry)) ⌝ }
 {
     let mut one = [0; Record::WORDS];
     let p = rows::stand_in(table, in_use, row, Names::Within(names.len()), &mut one);

@@ -1,24 +1,23 @@
 -- The complement of a sequence into a lent output: what a call answers, and what the output holds afterwards.
 use Prim.Native.Nat.{ℕ, suc}
-use mathlib.Core.Path.{_≡_}
 use mathlib.Core.Bool.{Bool, true, false, cond}
 use mathlib.Core.List.{List, [], _∷_, _++_, map, reverse}
 use lib.Dec.{eqb, ltb}
-use lib.ListN.{length, drop}
+use lib.ListN.{length}
 use Rattle.refusal.specs.Numbers.{overLimit}
 use Rattle.refusal.specs.declared.Refusal.{Refusal}
 use Rattle.refusal.specs.declared.Refusal.the-variants.{TooLong, NoRoom, NoComplement}
 use Rattle.letters.specs.Letters.{partner}
-use Rattle.complement.specs.declared.Complemented.{Complemented}
-use Rattle.complement.specs.declared.Complemented.the-variants.{Bytes, Refused}
+use Rattle.output.specs.declared.Written.{Written}
+use Rattle.output.specs.Outcome.{Outcome, refuses, gives}
 
--- what a call comes to: the bytes that it gives, or its refusal
-pub data Outcome : Type 0 where
-  given : List ℕ → Outcome
-  refused : Refusal → Outcome
+-- what the bytes come to, before anything is written: the bytes that they give, or a refusal
+pub data Judged : Type 0 where
+  given : List ℕ → Judged
+  refused : Refusal → Judged
 
 -- the first of some refusals; where there is none, the bytes
-unfoldable pub firstOr : List Refusal → List ℕ → Outcome
+unfoldable pub firstOr : List Refusal → List ℕ → Judged
 firstOr [] l = given l
 firstOr (r ∷ rs) l = refused r
 
@@ -33,28 +32,22 @@ faults at [] = []
 faults at (b ∷ s) = when (eqb (partner b) 0) (NoComplement at b) ++ faults (suc at) s
 
 -- the complement of each base in turn, or the first bad byte
-unfoldable pub complementOf : List ℕ → Outcome
+unfoldable pub complementOf : List ℕ → Judged
 complementOf s = firstOr (faults 0 s) (map partner s)
 
 -- the same from the back, so the last bad byte
-unfoldable pub reverseComplementOf : List ℕ → Outcome
+unfoldable pub reverseComplementOf : List ℕ → Judged
 reverseComplementOf s = firstOr (reverse (faults 0 s)) (reverse (map partner s))
 
--- the outcome of a call on the bytes s, which come to o: 1 is judged before 14, and both before the bytes
-unfoldable pub sized : List ℕ → ℕ → Outcome → Outcome
-sized s room o = cond (overLimit (length s)) (refused TooLong) (cond (ltb room (length s)) (refused (NoRoom (length s))) o)
+-- what a call on the bytes s comes to, which come to j: 1 is judged before 14, and both before the bytes
+unfoldable pub sized : List ℕ → ℕ → Judged → Judged
+sized s room j = cond (overLimit (length s)) (refused TooLong) (cond (ltb room (length s)) (refused (NoRoom (length s))) j)
 
--- the answer: how many bytes are given, or the refusal
-unfoldable pub answerOf : Outcome → Complemented
-answerOf (given l) = Bytes (length l)
-answerOf (refused r) = Refused r
+-- the bytes given, at the front of the output, or the refusal
+unfoldable pub poured : Judged → List ℕ → Outcome Written
+poured (given l) out = gives l out
+poured (refused f) out = refuses f out
 
--- the output afterwards: the bytes given, and behind them what stood there; a refusal leaves it as it was
-unfoldable pub outputOf : Outcome → List ℕ → List ℕ
-outputOf (given l) out = l ++ drop (length l) out
-outputOf (refused r) out = out
-
--- what a call on the bytes s tells, which come to o: its answer, and the output before and after
-pub record Told (s : List ℕ) (o : Outcome) (before after : List ℕ) (r : Complemented) : Type 0 where
-  pub answer : r ≡ answerOf (sized s (length before) o)
-  pub output : after ≡ outputOf (sized s (length before) o) before
+-- the call
+unfoldable pub complementWritten : List ℕ → Judged → List ℕ → Outcome Written
+complementWritten s j out = poured (sized s (length out) j) out

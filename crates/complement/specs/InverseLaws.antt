@@ -11,7 +11,7 @@ use native.Mathlib.Omega.{arith}
 use Rattle.refusal.specs.declared.Refusal.{Refusal}
 use Rattle.refusal.specs.declared.Refusal.the-variants.{NoComplement}
 use Rattle.letters.specs.Letters.{partner}
-use Rattle.complement.specs.Complement.{Outcome, given, firstOr, when, faults}
+use Rattle.complement.specs.Complement.{Judged, given, firstOr, when, faults}
 use Rattle.letters.specs.Laws.{of-each}
 use Rattle.complement.specs.Thymine.{thymine, NoU}
 
@@ -79,5 +79,5 @@ only-without-u (b ∷ s) e =
     (λ q. let z : code "T" ≡ code "U" = rw q at k in omega arith, (λ q. let z : code "t" ≡ code "u" = rw q at k in omega arith, only-without-u s (cc)))
 
 -- with T in the place of U the bases are the same exactly where none is U
-pub exactly : (o : Outcome) (s : List ℕ) → o ≡ given (map thymine s) → o ≡ given s ↔ NoU s
+pub exactly : (o : Judged) (s : List ℕ) → o ≡ given (map thymine s) → o ≡ given s ↔ NoU s
 exactly o s e = (λ q. only-without-u s (cc), λ n. e ∙ ap given (without-u s n))

@@ -14,8 +14,8 @@ use native.Mathlib.Omega.{arith}
 use Rattle.refusal.specs.declared.Refusal.{Refusal}
 use Rattle.refusal.specs.declared.Refusal.the-variants.{NoComplement}
 use Rattle.letters.specs.Letters.{partner}
-use Rattle.complement.specs.Complement.{given, firstOr, when, faults, complementOf, reverseComplementOf, outputOf}
-use Rattle.complement.specs.Kinds.{among, isOf, allOf, outcomeOf}
+use Rattle.complement.specs.Complement.{given, firstOr, when, faults, complementOf, reverseComplementOf, poured}
+use Rattle.complement.specs.Kinds.{among, isOf, allOf, judgedOf, outputOf}
 use Rattle.letters.specs.Laws.{both}
 
 -- ---- the tests of a byte
@@ -193,12 +193,12 @@ some-bad at (b ∷ s) e q = go (eqb (partner b) 0) (some-bad (suc at) s) e q
     go false more e q = more e q
 
 stays : (rs : List Refusal) (l out : List ℕ) → (rs ≡ [] → ⊥) → out ≡ outputOf (firstOr rs l) out
-unfolding firstOr outputOf
+unfolding firstOr poured
 stays [] l out h = absurd (h refl)
 stays (r ∷ rs) l out h = refl
 
 -- they leave the output as it was
-pub bad-stays : (reversed : Bool) (s out : List ℕ) → allOf false s ≡ false → out ≡ outputOf (outcomeOf reversed s) out
-unfolding outcomeOf complementOf reverseComplementOf
+pub bad-stays : (reversed : Bool) (s out : List ℕ) → allOf false s ≡ false → out ≡ outputOf (judgedOf reversed s) out
+unfolding judgedOf complementOf reverseComplementOf
 bad-stays false s out e = stays _ _ out (some-bad 0 s e)
 bad-stays true s out e = stays _ _ out (λ q. some-bad 0 s e (sym (reverse-reverse (faults 0 s)) ∙ ap reverse q))

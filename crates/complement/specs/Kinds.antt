@@ -5,8 +5,9 @@ use Prim.Native.String.{String, [] as empty, _∷_ as _◂_}
 use mathlib.Core.Bool.{Bool, true, false, cond, not}
 use mathlib.Core.List.{List, [], _∷_}
 use lib.Dec.{eqb}
+use Rattle.output.specs.declared.Written.{Written}
 use Rattle.letters.specs.Letters.{partner}
-use Rattle.complement.specs.Complement.{Outcome, complementOf, reverseComplementOf}
+use Rattle.complement.specs.Complement.{Judged, complementOf, reverseComplementOf, poured}
 
 -- is a byte a letter of a text
 abbrev pub among : String → ℕ → Bool
@@ -23,5 +24,12 @@ allOf plain [] = true
 allOf plain (b ∷ s) = cond (isOf plain b) (allOf plain s) false
 
 -- what the bytes come to, from the back where it is reversed
-unfoldable pub outcomeOf : Bool → List ℕ → Outcome
-outcomeOf reversed s = cond reversed (reverseComplementOf s) (complementOf s)
+unfoldable pub judgedOf : Bool → List ℕ → Judged
+judgedOf reversed s = cond reversed (reverseComplementOf s) (complementOf s)
+
+-- the answer, and the output afterwards, of what some bytes come to
+abbrev pub answerOf : Judged → Written
+answerOf j = poured j [] .answer
+
+abbrev pub outputOf : Judged → List ℕ → List ℕ
+outputOf j out = poured j out .output

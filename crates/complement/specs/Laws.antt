@@ -12,9 +12,11 @@ use native.Mathlib.Nat.{add-zero, zero-add, suc-add, add-suc}
 use Rattle.refusal.specs.declared.Refusal.{Refusal}
 use Rattle.refusal.specs.declared.Refusal.the-variants.{NoComplement}
 use Rattle.letters.specs.Letters.{partner}
-use Rattle.complement.specs.Complement.{Outcome, given, refused, firstOr, when, faults, sized, answerOf, outputOf, Told}
-use Rattle.complement.specs.declared.Complemented.{Complemented}
-use Rattle.complement.specs.declared.Complemented.the-variants.{Bytes, Refused}
+use Rattle.complement.specs.Complement.{Judged, given, refused, firstOr, when, faults, sized, poured, complementWritten}
+use Rattle.complement.specs.Kinds.{answerOf, outputOf}
+use Rattle.output.specs.declared.Written.{Written}
+use Rattle.output.specs.declared.Written.the-variants.{Bytes, Refused}
+use Rattle.output.specs.Outcome.{leaves}
 
 -- ---- the bytes that have no complement
 
@@ -68,7 +70,7 @@ none-from s i h = rw (drop-of-length-le s h)
 -- ---- a turn of the writing: one more byte behind those that are written
 
 one-more : (l m out : List ℕ) (n a : ℕ) → length l ≡ n → n < length out → m ≡ l ++ (a ∷ []) → set (outputOf (given l) out) n a ≡ outputOf (given m) out
-unfolding outputOf
+unfolding poured
 one-more l m out n a e h q =
     rw (q, length-append l (a ∷ []), e, add-one n, append-snoc l a, drop-cons out n 0 h) (set-at l (getD out n 0) (drop (suc n) out) a n e)
 
@@ -88,17 +90,21 @@ module _ (s out out₀ : List ℕ) (i : ℕ) (h : i < length s) (fits : length s
 
 -- ---- what a call tells
 
-clash : {X : Type 0} {n : ℕ} {r : Refusal} → Bytes n ≡ Refused r → X
-clash e = let z : _≡_ {A = ℕ} 0 1 = cc in absurd (omega arith)
+-- an answer and an output, each what some bytes come to, are their outcome
+pub poured-both : (j : Judged) (out after : List ℕ) (r : Written) → r ≡ answerOf j → after ≡ outputOf j out → leaves r after ≡ poured j out
+unfolding poured
+poured-both (given l) out after r e q = rw (e, q)
+poured-both (refused f) out after r e q = rw (e, q)
 
--- where the sizes have nothing against them, the bytes' own outcome is told
-pub told-sized : (s out after : List ℕ) (o : Outcome) (r : Complemented) → sized s (length out) o ≡ o → r ≡ answerOf o → after ≡ outputOf o out → Told s o out after r
-told-sized s out after o r k e q = record { answer = rw k e; output = rw k q }
+pub poured-given : (l out after : List ℕ) (n : ℕ) → n ≡ length l → after ≡ outputOf (given l) out → leaves (Bytes n) after ≡ poured (given l) out
+unfolding poured
+poured-given l out after n e q = rw (e, q)
 
-pub told-refused : (s out : List ℕ) (o : Outcome) (r : Refusal) → Refused r ≡ answerOf (sized s (length out) o) → Told s o out out (Refused r)
-unfolding answerOf outputOf
-told-refused s out o r e = record { answer = e; output = go (sized s (length out) o) e }
-  where
-    go : (p : Outcome) → Refused r ≡ answerOf p → out ≡ outputOf p out
-    go (given l) e = clash (sym e)
-    go (refused q) e = refl
+-- where the sizes have nothing against them, what the bytes come to is told
+pub told-sized : (s out after : List ℕ) (j : Judged) (r : Written) → sized s (length out) j ≡ j → leaves r after ≡ poured j out → leaves r after ≡ complementWritten s j out
+unfolding complementWritten
+told-sized s out after j r k e = rw k e
+
+pub told-refused : (s out : List ℕ) (j : Judged) (f : Refusal) → refused f ≡ sized s (length out) j → leaves (Refused f) out ≡ complementWritten s j out
+unfolding complementWritten poured
+told-refused s out j f e = rw (← e)

@@ -8,6 +8,7 @@
 // written by a few bit operations a base, of which the compiler does 16 and more at once; those that have other letters by one look
 // into a table for each base. Both write the same `partner`, and both kinds are judged by bits, since a look a base would cost
 // twice as much. No loop has a branch in it, but for the kind, which stays the same.
+use output::Written;
 use refusal::Refusal;
 ghost use mathlib.Core.Path.{_≡_};
 ghost use mathlib.Core.Bool.{true, false};
@@ -15,16 +16,11 @@ ghost use mathlib.Core.List.{map, reverse};
 ghost use Prim.Native.Nat.{_≤_};
 ghost use lib.ListN.{length};
 ghost use Rattle.refusal.specs.declared.Refusal.the-variants.{NoRoom, NoComplement};
+ghost use Rattle.output.specs.Outcome.{leaves};
 ghost use Rattle.letters.specs.Letters.{partner};
 ghost use Rattle.letters.specs.Table.{IsTable};
-ghost use Rattle.complement.specs.Complement.{given, complementOf, reverseComplementOf, answerOf, outputOf, Told};
-ghost use Rattle.complement.specs.Kinds.{isOf, allOf, outcomeOf};
-
-// How many bytes were written, or why none were.
-pub enum Complemented {
-    Bytes(usize),
-    Refused(Refusal),
-}
+ghost use Rattle.complement.specs.Complement.{given, complementOf, reverseComplementOf, poured, complementWritten};
+ghost use Rattle.complement.specs.Kinds.{isOf, allOf, judgedOf, answerOf, outputOf};
 
 // How many bytes are judged at once.
 const BLOCK: usize = 4096;
@@ -109,26 +105,26 @@ fn complement_base(table: &[u8; 256], b: u8, plain: bool) -> u8
 }
 
 // The refusal of an output that is shorter than its answer.
-fn no_room(needed: usize) -> Complemented
-    ensures { λ r. ⌜ r ≡ Complemented.Refused (NoRoom needed) ⌝ }
+fn no_room(needed: usize) -> Written
+    ensures { λ r. ⌜ r ≡ Written.Refused (NoRoom needed) ⌝ }
 {
-    Complemented::Refused(Refusal::NoRoom {
+    Written::Refused(Refusal::NoRoom {
         needed: needed as u64,
     })
 }
 
 // The refusal of a byte at a place.
-fn no_complement(place: usize, byte: u8) -> Complemented
-    ensures { λ r. ⌜ r ≡ Complemented.Refused (NoComplement place byte) ⌝ }
+fn no_complement(place: usize, byte: u8) -> Written
+    ensures { λ r. ⌜ r ≡ Written.Refused (NoComplement place byte) ⌝ }
 {
-    Complemented::Refused(Refusal::NoComplement {
+    Written::Refused(Refusal::NoComplement {
         place: place as u64,
         byte: byte as u64,
     })
 }
 
 // The answer that the bytes call for, from the front: all of them, or the refusal of the first that has no complement.
-fn first_fault(bases: &[u8]) -> Complemented
+fn first_fault(bases: &[u8]) -> Written
     ensures { λ r. ⌜ r ≡ answerOf (complementOf (now (bases .entry))) ⌝ }
 {
     let mut i = 0;
@@ -139,11 +135,11 @@ fn first_fault(bases: &[u8]) -> Complemented
         }
         i += 1;
     }
-    Complemented::Bytes(i)
+    Written::Bytes(i)
 }
 
 // The same from the back: all of them, or the refusal of the last that has no complement.
-fn last_fault(bases: &[u8]) -> Complemented
+fn last_fault(bases: &[u8]) -> Written
     ensures { λ r. ⌜ r ≡ answerOf (reverseComplementOf (now (bases .entry))) ⌝ }
 {
     let mut i = bases.len();
@@ -154,7 +150,7 @@ fn last_fault(bases: &[u8]) -> Complemented
             return no_complement(i, b);
         }
     }
-    Complemented::Bytes(bases.len())
+    Written::Bytes(bases.len())
 }
 
 // Writes the complement of each base to its place.
@@ -186,24 +182,24 @@ fn write_reversed(bases: &[u8], out: &mut [u8], plain: bool)
 }
 
 // Writes all complements, from the last to the first where it is reversed, and tells how many.
-fn write_all(bases: &[u8], out: &mut [u8], plain: bool, reversed: bool) -> Complemented
+fn write_all(bases: &[u8], out: &mut [u8], plain: bool, reversed: bool) -> Written
     requires { ⌜ (length (now bases) ≤ length (now out)) × (allOf plain (now bases) ≡ true) ⌝ }
-    ensures { λ r. ⌜ (r ≡ answerOf (outcomeOf reversed (now (bases .entry)))) × (now (out .exit) ≡ outputOf (outcomeOf reversed (now (bases .entry))) (now (out .entry))) ⌝ }
+    ensures { λ r. ⌜ leaves r (now (out .exit)) ≡ poured (judgedOf reversed (now (bases .entry))) (now (out .entry)) ⌝ }
 {
     if reversed {
         write_reversed(bases, out, plain);
-        return Complemented::Bytes(bases.len());
+        return Written::Bytes(bases.len());
     }
     write(bases, out, plain);
-    Complemented::Bytes(bases.len())
+    Written::Bytes(bases.len())
 }
 
 // The complement of the bases, from the last to the first where it is reversed: the limit and the room are judged before the bytes.
-fn complement_all(bases: &[u8], out: &mut [u8], reversed: bool) -> Complemented
-    ensures { λ r. ⌜ Told (now (bases .entry)) (outcomeOf reversed (now (bases .entry))) (now (out .entry)) (now (out .exit)) r ⌝ }
+fn complement_all(bases: &[u8], out: &mut [u8], reversed: bool) -> Written
+    ensures { λ r. ⌜ leaves r (now (out .exit)) ≡ complementWritten (now (bases .entry)) (judgedOf reversed (now (bases .entry))) (now (out .entry)) ⌝ }
 {
     if refusal::over_limit(bases.len()) {
-        return Complemented::Refused(Refusal::TooLong);
+        return Written::Refused(Refusal::TooLong);
     }
     if out.len() < bases.len() {
         return no_room(bases.len());
@@ -221,15 +217,15 @@ fn complement_all(bases: &[u8], out: &mut [u8], reversed: bool) -> Complemented
 }
 
 // The complement of the bases.
-pub fn complement(bases: &[u8], out: &mut [u8]) -> Complemented
-    ensures { λ r. ⌜ Told (now (bases .entry)) (complementOf (now (bases .entry))) (now (out .entry)) (now (out .exit)) r ⌝ }
+pub fn complement(bases: &[u8], out: &mut [u8]) -> Written
+    ensures { λ r. ⌜ leaves r (now (out .exit)) ≡ complementWritten (now (bases .entry)) (complementOf (now (bases .entry))) (now (out .entry)) ⌝ }
 {
     complement_all(bases, out, false)
 }
 
 // The complement of the bases from the last to the first.
-pub fn reverse_complement(bases: &[u8], out: &mut [u8]) -> Complemented
-    ensures { λ r. ⌜ Told (now (bases .entry)) (reverseComplementOf (now (bases .entry))) (now (out .entry)) (now (out .exit)) r ⌝ }
+pub fn reverse_complement(bases: &[u8], out: &mut [u8]) -> Written
+    ensures { λ r. ⌜ leaves r (now (out .exit)) ≡ complementWritten (now (bases .entry)) (reverseComplementOf (now (bases .entry))) (now (out .entry)) ⌝ }
 {
     complement_all(bases, out, true)
 }

@@ -5,10 +5,10 @@
 // it is refused, `refused 24 3 45`. A file, or an index, has at most 65,536 bytes; what is behind them is not read.
 ghost use Prim.Native.Nat.{_≤_};
 use checker::Verdict;
-use complement::Complemented;
 use fitting::Rule;
 use libc::STDIN_FILENO;
 use libc::STDOUT_FILENO;
+use output::Written;
 use refusal::Refusal;
 use table::Stop;
 
@@ -64,14 +64,14 @@ fn check_input(fasta: &[u8]) {
 // Complements some bases, from the last to the first, into a lent room.
 fn reverse_into(bases: &[u8], out: &mut [u8]) {
     match complement::reverse_complement(bases, out) {
-        Complemented::Bytes(n) => {
+        Written::Bytes(n) => {
             say(b"reverse", n);
             if n <= out.len() {
                 io::write_all(STDOUT_FILENO, &out[..n]);
                 io::write_all(STDOUT_FILENO, b"\n");
             }
         }
-        Complemented::Refused(why) => say_refused(why),
+        Written::Refused(why) => say_refused(why),
     }
 }
 

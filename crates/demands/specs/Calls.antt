@@ -15,7 +15,8 @@ use Rattle.checker.specs.Check.{checkOf}
 use Rattle.byte_table.specs.Numbers.{numbersIn}
 use Rattle.wakeluri.specs.declared.answer.Answer.{Answer}
 use Rattle.wakeluri.specs.Answer.{boundOf, verdictAnswer, foundAnswer}
-use Rattle.wakeluri.specs.Told.{tells, filledTold, writtenTold, regionTold}
+use Rattle.output.specs.Outcome.{leaves}
+use Rattle.wakeluri.specs.Told.{filledTold, writtenTold}
 
 -- wakeluri_check(file, index) answers a
 abbrev pub Check : List ℕ → List ℕ → Answer → Type 0
@@ -23,15 +24,15 @@ Check file index a = a ≡ verdictAnswer (checkOf file index)
 
 -- wakeluri_read_index(index, table) answers a, and leaves table′
 abbrev pub ReadIndex : List ℕ → List ℕ → Answer → List ℕ → Type 0
-ReadIndex index table a table′ = tells a table′ ≡ filledTold (indexIn index (rowCount (numbersIn table))) table
+ReadIndex index table a table′ = leaves a table′ ≡ filledTold (indexIn index (rowCount (numbersIn table))) table
 
 -- wakeluri_index_file(file, table), by the ported rule, and wakeluri_index_complete(file, table), by the complete one
 abbrev pub IndexFile : Rule → List ℕ → List ℕ → Answer → List ℕ → Type 0
-IndexFile rule file table a table′ = tells a table′ ≡ filledTold (rowsIn rule file (rowCount (numbersIn table))) table
+IndexFile rule file table a table′ = leaves a table′ ≡ filledTold (rowsIn rule file (rowCount (numbersIn table))) table
 
 -- wakeluri_write_index_line(names, table, in_use, row, out)
 abbrev pub WriteIndexLine : List ℕ → List ℕ → ℕ → ℕ → List ℕ → Answer → List ℕ → Type 0
-WriteIndexLine names table in-use row out a out′ = tells a out′ ≡ writtenTold (writtenAs names (numbersIn table) in-use row out)
+WriteIndexLine names table in-use row out a out′ = leaves a out′ ≡ writtenTold (writtenAs names (numbersIn table) in-use row out)
 
 -- wakeluri_find(names, table, in_use, name)
 abbrev pub Find : List ℕ → List ℕ → ℕ → List ℕ → Answer → Type 0
@@ -40,8 +41,8 @@ Find names table in-use name a = a ≡ foundAnswer (rowRead names (numbersIn tab
 -- wakeluri_read_exact(file, table, in_use, row, has_start, start, has_end, end, out), and wakeluri_read_raw of the same
 abbrev pub ReadExact : List ℕ → List ℕ → ℕ → ℕ → ℕ → ℕ → ℕ → ℕ → List ℕ → Answer → List ℕ → Type 0
 ReadExact file table in-use row has-start start has-end end out a out′ =
-    tells a out′ ≡ regionTold (exactRead file (numbersIn table) in-use row (boundOf has-start start) (boundOf has-end end) out)
+    leaves a out′ ≡ writtenTold (exactRead file (numbersIn table) in-use row (boundOf has-start start) (boundOf has-end end) out)
 
 abbrev pub ReadRaw : List ℕ → List ℕ → ℕ → ℕ → ℕ → ℕ → ℕ → ℕ → List ℕ → Answer → List ℕ → Type 0
 ReadRaw file table in-use row has-start start has-end end out a out′ =
-    tells a out′ ≡ regionTold (rawRead file (numbersIn table) in-use row (boundOf has-start start) (boundOf has-end end) out)
+    leaves a out′ ≡ writtenTold (rawRead file (numbersIn table) in-use row (boundOf has-start start) (boundOf has-end end) out)

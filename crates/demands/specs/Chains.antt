@@ -9,14 +9,14 @@ use Rattle.lines.specs.Lines.{lines}
 use Rattle.lines.specs.Groups.{groups}
 use Rattle.record.specs.Row.{rowCount}
 use Rattle.table.specs.Fill.{Found}
-use Rattle.index_line.specs.Fields.{frontWritten}
+use Rattle.output.specs.Outcome.{leaves, pours}
 use Rattle.index.specs.Index.{indexIn}
 use Rattle.fitting.specs.declared.Rule.{Rule}
 use Rattle.fitting.specs.Rules.{ruleOf, rowsIn}
 use Rattle.checker.specs.Accepts.{limit, Accepts}
 use Rattle.byte_table.specs.Numbers.{numbersIn}
 use Rattle.wakeluri.specs.declared.answer.Answer.{Answer}
-use Rattle.wakeluri.specs.Told.{tells, writtenTold}
+use Rattle.wakeluri.specs.Told.{writtenTold}
 use Rattle.mission.specs.IndexedLaws.{Along, taken}
 use Rattle.mission.specs.Leading.{lineIn, rowIn, LeadsTo, indexText, leading-accepted}
 use Rattle.mission.specs.TableOf.{recordCount, Gives, TableOf}
@@ -79,7 +79,7 @@ module _ (rule : Rule) (file table table′ : List ℕ) (filled : Answer) (bytes
   line row = lineIn file (rowIn (fileRows rule file table .rows) row)
 
   fronted : (row : ℕ) → row < filled .count → (out out′ : List ℕ) (written : Answer) → WriteIndexLine file table′ (filled .count) row out written out′
-      → tells written out′ ≡ writtenTold (frontWritten (line row) out)
+      → leaves written out′ ≡ writtenTold (pours (line row) out)
   fronted row h out out′ written write =
       let v = left-numbers file table table′ (fileRows rule file table) filled bytes found indexed in
       let c = count in

@@ -18,7 +18,7 @@ use Rattle.table.specs.declared.Filled.{Filled}
 use Rattle.table.specs.declared.Stop.{Stop}
 use Rattle.table.specs.declared.Stop.the-variants as stop
 use Rattle.table.specs.Fill.{Found, FilledAs}
-use Rattle.index_line.specs.Fields.{frontWritten}
+use Rattle.output.specs.Outcome.{Outcome, leaves, pours}
 use Rattle.index_line.specs.IndexLine.{columnsOf, nameIn, lineOf, writtenAs}
 use Rattle.checker.specs.Accepts.{limit}
 use Rattle.checker.specs.declared.Verdict.{Verdict}
@@ -27,8 +27,8 @@ use Rattle.region.specs.declared.Bound.{Bound}
 use Rattle.region.specs.Exact.{exactRead}
 use Rattle.byte_table.specs.Numbers.{numbersIn, withNumbers}
 use Rattle.wakeluri.specs.declared.answer.Answer.{Answer}
-use Rattle.wakeluri.specs.Answer.{fine, answerOf, regionAnswer, filledAnswer, verdictAnswer, writtenAnswer}
-use Rattle.wakeluri.specs.Told.{Told, tells, filledTold, regionTold, writtenTold}
+use Rattle.wakeluri.specs.Answer.{fine, answerOf, writtenAnswer, filledAnswer, verdictAnswer}
+use Rattle.wakeluri.specs.Told.{filledTold, writtenTold}
 use Rattle.mission.specs.IndexedLaws.{Along, text-fronted, row-held}
 use Rattle.mission.specs.Leading.{lineIn, indexText, noRow, rowIn, LeadsTo, leading-at}
 use Rattle.mission.specs.TableOf.{recordCount, Gives, TableOf}
@@ -61,17 +61,17 @@ filled-count n stop.Ended = refl
 filled-count n (stop.Refused x) = refl
 
 -- a call that fills a table tells what it found, and leaves it there
-pub found-told : (a : Answer) (t t′ : List ℕ) (found : Found) → tells a t′ ≡ filledTold found t → (a ≡ filledAnswer (length (found .rows)) (found .stop)) × (t′ ≡ withNumbers t (withRows (numbersIn t) 0 (found .rows)))
+pub found-told : (a : Answer) (t t′ : List ℕ) (found : Found) → leaves a t′ ≡ filledTold found t → (a ≡ filledAnswer (length (found .rows)) (found .stop)) × (t′ ≡ withNumbers t (withRows (numbersIn t) 0 (found .rows)))
 unfolding filledTold
-found-told a t t′ found h = (ap (λ (x : Told). x .answer) h, ap (λ (x : Told). x .bytes) h)
+found-told a t t′ found h = (ap (λ (x : Outcome Answer). x .answer) h, ap (λ (x : Outcome Answer). x .output) h)
 
 -- if it tells no refusal, it came to the end
-pub found-ended : (a : Answer) (t t′ : List ℕ) (found : Found) → tells a t′ ≡ filledTold found t → a .refusal ≡ 0 → found .stop ≡ stop.Ended
+pub found-ended : (a : Answer) (t t′ : List ℕ) (found : Found) → leaves a t′ ≡ filledTold found t → a .refusal ≡ 0 → found .stop ≡ stop.Ended
 found-ended a t t′ found h z = zero-ended (length (found .rows)) (found .stop) (rw (found-told a t t′ found h .0) at z)
 
 -- ---- the table that is left of rows about a file's records
 
-module _ (f t t′ : List ℕ) (found : Found) (a : Answer) (bytes : AreBytes t) (gives : Gives f found (rowCount (numbersIn t))) (told : tells a t′ ≡ filledTold found t) where
+module _ (f t t′ : List ℕ) (found : Found) (a : Answer) (bytes : AreBytes t) (gives : Gives f found (rowCount (numbersIn t))) (told : leaves a t′ ≡ filledTold found t) where
   pub left-answer : (a .refusal ≡ 0) × (a .count ≡ length (found .rows))
   unfolding filledAnswer
   left-answer = let e = found-told a t t′ found told .0 in rw (e, gives .stop) (refl, refl)
@@ -86,12 +86,12 @@ module _ (f t t′ : List ℕ) (found : Found) (a : Answer) (bytes : AreBytes t)
       (record { rows = refl; stop = refl; table = left-numbers }))
 
 pub table-told : (f t : List ℕ) (n r : ℕ) (start end : Bound) (out : List ℕ) (a : Answer) (out′ : List ℕ) → TableOf f t n → length f ≤ limit → Asked f r start end out
-    → tells a out′ ≡ regionTold (exactRead f t n r start end out) → JustThose f r start end out a out′
-unfolding regionTold regionAnswer
+    → leaves a out′ ≡ writtenTold (exactRead f t n r start end out) → JustThose f r start end out a out′
+unfolding writtenTold writtenAnswer
 table-told f t n r start end out a out′ table small asked told =
     let e = rw (table-reads f t n r start end out table small asked) at told in
-    let x = ap (λ (y : Told). y .answer) e in
-    record { refusal = ap (λ (y : Answer). y .refusal) x; count = ap (λ (y : Answer). y .count) x; output = ap (λ (y : Told). y .bytes) e }
+    let x = ap (λ (y : Outcome Answer). y .answer) e in
+    record { refusal = ap (λ (y : Answer). y .refusal) x; count = ap (λ (y : Answer). y .count) x; output = ap (λ (y : Outcome Answer). y .output) e }
 
 -- ---- index lines that are written one after another
 
@@ -108,30 +108,30 @@ joined-lines f (x ∷ xs) answers outputs k h =
     q j = omega arith
 
 -- a text that is put at the front of an output: it is there if no refusal is told, and it needs its own length
-module _ (a : Answer) (text out out′ : List ℕ) (told : tells a out′ ≡ writtenTold (frontWritten text out)) where
+module _ (a : Answer) (text out out′ : List ℕ) (told : leaves a out′ ≡ writtenTold (pours text out)) where
   pub front-is : a .refusal ≡ 0 → take (a .count) out′ ≡ text
-  unfolding writtenTold writtenAnswer frontWritten numbersOf
+  unfolding writtenTold writtenAnswer pours numbersOf
   front-is none = go (ltb (length out) (length text)) refl
     where
       go : (t : Bool) → ltb (length out) (length text) ≡ t → take (a .count) out′ ≡ text
       go true e =
           let q = rw e at told in
-          absurd (omega (arith, ap (λ (x : Told). x .answer .refusal) q))
+          absurd (omega (arith, ap (λ (x : Outcome Answer). x .answer .refusal) q))
       go false e =
           let q = rw e at told in
-          let n : a .count ≡ length text = ap (λ (x : Told). x .answer .count) q in
-          rw (n, ap (λ (x : Told). x .bytes) q) (take-at text (drop (length text) out) (length text) refl)
+          let n : a .count ≡ length text = ap (λ (x : Outcome Answer). x .answer .count) q in
+          rw (n, ap (λ (x : Outcome Answer). x .output) q) (take-at text (drop (length text) out) (length text) refl)
 
   pub front-needs : Needs (length text) out a
-  unfolding writtenTold writtenAnswer frontWritten numbersOf
-  front-needs = record { enough = λ h. ap (λ (x : Told). x .answer .refusal) (rw (le-ltb (length out) (length text) h) at told); short = short }
+  unfolding writtenTold writtenAnswer pours numbersOf
+  front-needs = record { enough = λ h. ap (λ (x : Outcome Answer). x .answer .refusal) (rw (le-ltb (length out) (length text) h) at told); short = short }
     where
       short : length out < length text → (a .refusal ≡ 14) × (a .first ≡ length text)
-      short h = let q = rw (lt-ltb (length out) (length text) h) at told in (ap (λ (x : Told). x .answer .refusal) q, ap (λ (x : Told). x .answer .first) q)
+      short h = let q = rw (lt-ltb (length out) (length text) h) at told in (ap (λ (x : Outcome Answer). x .answer .refusal) q, ap (λ (x : Outcome Answer). x .answer .first) q)
 
 -- so the index line of row k of a table of rows that lead to their bases
 pub row-fronted : (f t : List ℕ) (xs : List Record) (s : Stop) (h : Along (LeadsTo f) 0 (groups (lines f)) xs s) → length f ≤ limit → length xs ≤ rowCount t
-    → (k : ℕ) → k < length xs → (out : List ℕ) → writtenAs f (withRows t 0 xs) (length xs) k out ≡ frontWritten (lineIn f (rowIn xs k)) out
+    → (k : ℕ) → k < length xs → (out : List ℕ) → writtenAs f (withRows t 0 xs) (length xs) k out ≡ pours (lineIn f (rowIn xs k)) out
 unfolding writtenAs overLimit lineOf
 row-fronted f t xs s h small room k m out =
     let d = leading-at f xs s h k m in

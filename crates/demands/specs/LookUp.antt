@@ -10,17 +10,17 @@ use Rattle.region.specs.Split as calls
 use Rattle.byte_table.specs.Numbers.{numbersIn}
 use Rattle.wakeluri.specs.declared.answer.Answer.{Answer}
 use Rattle.wakeluri.specs.Answer.{boundOf}
-use Rattle.wakeluri.specs.Told.{regionTold}
+use Rattle.wakeluri.specs.Told.{writtenTold}
 use Rattle.demands.specs.Calls.{Find, ReadExact, ReadRaw}
 use Rattle.demands.specs.LookUpTells.{Split}
 use Rattle.demands.specs.LookUpLaws.{split}
 
 module _ (file names table : List ℕ) (in-use : ℕ) (name : List ℕ) (first : Answer) (small : Small file names name) (find : Find names table in-use name first)
     (has-start start has-end end : ℕ) (out : List ℕ) where
-  pub split-equals-exact : Split (regionTold (exactNamed file names (numbersIn table) in-use name (boundOf has-start start) (boundOf has-end end) out)) first
+  pub split-equals-exact : Split (writtenTold (exactNamed file names (numbersIn table) in-use name (boundOf has-start start) (boundOf has-end end) out)) first
       (λ row a out′. ReadExact file table in-use row has-start start has-end end out a out′) out
   split-equals-exact = split _ _ _ out first find (calls.split-equals-exact file names (numbersIn table) in-use name (boundOf has-start start) (boundOf has-end end) out small)
 
-  pub split-equals-raw : Split (regionTold (rawNamed file names (numbersIn table) in-use name (boundOf has-start start) (boundOf has-end end) out)) first
+  pub split-equals-raw : Split (writtenTold (rawNamed file names (numbersIn table) in-use name (boundOf has-start start) (boundOf has-end end) out)) first
       (λ row a out′. ReadRaw file table in-use row has-start start has-end end out a out′) out
   split-equals-raw = split _ _ _ out first find (calls.split-equals-raw file names (numbersIn table) in-use name (boundOf has-start start) (boundOf has-end end) out small)

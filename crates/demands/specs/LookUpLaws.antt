@@ -8,15 +8,15 @@ use Rattle.refusal.specs.Apart.{never-zero}
 use Rattle.refusal.specs.declared.Refusal.{Refusal}
 use Rattle.index.specs.declared.Found.{Found}
 use Rattle.index.specs.declared.Found.the-variants as found
-use Rattle.region.specs.declared.RegionRead.{RegionRead}
-use Rattle.region.specs.declared.RegionRead.the-variants as region
-use Rattle.region.specs.Region.{Outcome, refuses}
+use Rattle.output.specs.declared.Written.{Written}
+use Rattle.output.specs.declared.Written.the-variants as written
+use Rattle.output.specs.Outcome.{Outcome, leaves, refuses}
 use Rattle.region.specs.Refusals.{OfLookUp, OfRead}
 use Rattle.region.specs.Refusals.OfLookUp.{bad-row, unknown}
 use Rattle.region.specs.Refusals.OfRead.{bad-bounds, past-length, no-room, not-in-file}
 use Rattle.wakeluri.specs.declared.answer.Answer.{Answer}
-use Rattle.wakeluri.specs.Answer.{foundAnswer, regionAnswer}
-use Rattle.wakeluri.specs.Told.{Told, tells, regionTold}
+use Rattle.wakeluri.specs.Answer.{foundAnswer, writtenAnswer}
+use Rattle.wakeluri.specs.Told.{writtenTold}
 use Rattle.region.specs.ByName as one
 use Rattle.demands.specs.LookUpTells.{FirstTells, SecondTells, Split}
 use Rattle.demands.specs.LookUpTells.FirstTells.{told-25, told-15}
@@ -34,14 +34,14 @@ second-refuses _ (past-length n) = told-17
 second-refuses _ (no-room n) = told-14
 second-refuses _ (not-in-file p) = told-18
 
-second-tells : (r : RegionRead) → ((f : Refusal) → r ≡ region.Refused f → OfRead f) → SecondTells (regionAnswer r .refusal)
-unfolding regionAnswer
-second-tells (region.Bytes n) h = told-0
-second-tells (region.Refused f) h = second-refuses f (h f refl)
+second-tells : (r : Written) → ((f : Refusal) → r ≡ written.Refused f → OfRead f) → SecondTells (writtenAnswer r .refusal)
+unfolding writtenAnswer
+second-tells (written.Bytes n) h = told-0
+second-tells (written.Refused f) h = second-refuses f (h f refl)
 
-pub split : (single : Outcome) (d : Found) (second : ℕ → Outcome) (out : List ℕ) (first : Answer) → first ≡ foundAnswer d → one.Split single d second out
-    → Split (regionTold single) first (λ row a out′. tells a out′ ≡ regionTold (second row)) out
-unfolding foundAnswer regionTold refuses regionAnswer
+pub split : (single : Outcome Written) (d : Found) (second : ℕ → Outcome Written) (out : List ℕ) (first : Answer) → first ≡ foundAnswer d → one.Split single d second out
+    → Split (writtenTold single) first (λ row a out′. leaves a out′ ≡ writtenTold (second row)) out
+unfolding foundAnswer writtenTold writtenAnswer
 split single (found.Refused f) second out first q s =
     let k = s .refused f refl in
     record {
@@ -53,7 +53,7 @@ split single (found.Row r) second out first q s =
     record {
       refused = λ n. absurd (n (rw q));
       read = λ z a out′ h.
-          let t : tells a out′ ≡ regionTold (second r) = rw q at h in
-          let e : a ≡ regionAnswer (second r .answer) = ap (λ (x : Told). x .answer) t in
+          let t : leaves a out′ ≡ writtenTold (second r) = rw q at h in
+          let e : a ≡ writtenAnswer (second r .answer) = ap (λ (x : Outcome Answer). x .answer) t in
           (rw (k .0, t), rw e (second-tells (second r .answer) (k .1)));
     }

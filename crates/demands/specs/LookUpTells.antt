@@ -3,7 +3,7 @@ use Prim.Native.Nat.{ℕ}
 use mathlib.Core.Path.{_≡_}
 use mathlib.Core.List.{List}
 use Rattle.wakeluri.specs.declared.answer.Answer.{Answer}
-use Rattle.wakeluri.specs.Told.{Told, tells}
+use Rattle.output.specs.Outcome.{Outcome, leaves}
 
 -- the numbers of the refusals that come from looking up
 pub data FirstTells : ℕ → Type 0 where
@@ -20,6 +20,6 @@ pub data SecondTells : ℕ → Type 0 where
 
 -- what one call told and left is what two calls tell and leave; the second is made of the row that the first tells, and only if that tells no
 -- refusal
-pub record Split (one : Told) (first : Answer) (Second : ℕ → Answer → List ℕ → Type 0) (out : List ℕ) : Type 0 where
-  pub refused : (first .refusal ≡ 0 → ⊥) → FirstTells (first .refusal) × (one ≡ tells first out)
-  pub read : first .refusal ≡ 0 → (second : Answer) (out′ : List ℕ) → Second (first .count) second out′ → (one ≡ tells second out′) × SecondTells (second .refusal)
+pub record Split (one : Outcome Answer) (first : Answer) (Second : ℕ → Answer → List ℕ → Type 0) (out : List ℕ) : Type 0 where
+  pub refused : (first .refusal ≡ 0 → ⊥) → FirstTells (first .refusal) × (one ≡ leaves first out)
+  pub read : first .refusal ≡ 0 → (second : Answer) (out′ : List ℕ) → Second (first .count) second out′ → (one ≡ leaves second out′) × SecondTells (second .refusal)

@@ -11,7 +11,7 @@ use Rattle.lines.specs.Lines.{lines, chop, ends, contentOf, seqOf, sumBases, su
 use Rattle.lines.specs.Groups.{groups}
 use Rattle.lines.specs.Same.{sameBytes}
 use Rattle.letters.specs.Letters.{partner}
-use Rattle.complement.specs.Complement.{firstOr, faults, reverseComplementOf, sized, answerOf as complementIs, outputOf}
+use Rattle.complement.specs.Complement.{firstOr, faults, reverseComplementOf, sized, poured, complementWritten}
 use Rattle.definition.specs.Definition.{isSpace, run, keep, refusalOf}
 use Rattle.definition.specs.Definition as definition
 use Rattle.record.specs.Place.{placeOf, placesFrom, offsetOf, hasPlace, addressOf}
@@ -20,32 +20,33 @@ use Rattle.sequence.specs.Scan.{endsLine, skipped, scanFrom, scanAt, scanAll}
 use Rattle.table.specs.Fill.{heldIn}
 use Rattle.index_line.specs.Bytes.{firstWhere}
 use Rattle.index_line.specs.Decimal.{allDigits, valueFrom, numberFrom, digitsOf, numberOf, plainNumber, digits, widthFrom, width, decimalOf}
-use Rattle.index_line.specs.Fields.{cutAt, fieldSays, numbersFrom, tabbed, textOf, frontWritten, textWritten}
+use Rattle.output.specs.Outcome.{Outcome, leaves, pours}
+use Rattle.index_line.specs.Fields.{cutAt, fieldSays, numbersFrom, tabbed, textOf, textWritten}
 use Rattle.index_line.specs.IndexLine.{fieldsOf, plainEnd, nameOf, nameIn, writtenAs}
 use Rattle.index_line.specs.IndexLine as index
 use Rattle.indexer.specs.Rule.{sequenceBy, groupsBy, fileBy, callBy}
 use Rattle.indexer.specs.Index.{fitsLast, restOf, judge}
 use Rattle.indexer.specs.File.{fileIn}
-use Rattle.region.specs.Region.{refuses, gives, isZero, crossed, badBounds, boundedRow, startOf, endOf}
+use Rattle.region.specs.Region.{isZero, crossed, badBounds, boundedRow, startOf, endOf}
 use Rattle.region.specs.Exact.{inFile, pastLength, bytesAt, basesFrom, regionOf, exactIn, exactOf, exactRead}
-use Rattle.region.specs.Raw.{scanTo, pours, rawAt, rawIn, rawOf, rawRead}
+use Rattle.region.specs.Raw.{scanTo, rawAt, rawIn, rawOf, rawRead}
 use Rattle.walking.specs.Places.{firstElsewhere}
 use Rattle.checker.specs.Check as checker
 use Rattle.checker.specs.Check.{entrySays, againstLines, recordSays, recordsSay, checkOf}
 use Rattle.byte_table.specs.Numbers.{fromBytes, toBytes, firstNumbers, numbersIn, restOf as rest, bytesOf, withNumbers}
 use Rattle.wakeluri.specs.declared.answer.Answer.{Answer}
-use Rattle.wakeluri.specs.Answer.{fine, answerOf, boundOf, regionAnswer, writtenAnswer, complementAnswer, filledAnswer, verdictAnswer}
-use Rattle.wakeluri.specs.Told.{Told, tells, regionTold, writtenTold, complementTold, filledTold}
+use Rattle.wakeluri.specs.Answer.{fine, answerOf, boundOf, writtenAnswer, filledAnswer, verdictAnswer}
+use Rattle.wakeluri.specs.Told.{writtenTold, filledTold}
 use Rattle.demands.specs.Host.{joined}
 
 -- ---- answers
 
 -- so many bytes or rows, and the bytes afterwards; a refusal by its three numbers, and the bytes afterwards
-abbrev pub fineWith : ℕ → String → Told
-fineWith n bytes = tells (answerOf fine n 0) (text bytes)
+abbrev pub fineWith : ℕ → String → Outcome Answer
+fineWith n bytes = leaves (answerOf fine n 0) (text bytes)
 
-abbrev pub refusedWith : ℕ → ℕ → ℕ → String → Told
-refusedWith x a b bytes = tells (answerOf (record { refusal = x; first = a; second = b }) 0 0) (text bytes)
+abbrev pub refusedWith : ℕ → ℕ → ℕ → String → Outcome Answer
+refusedWith x a b bytes = leaves (answerOf (record { refusal = x; first = a; second = b }) 0 0) (text bytes)
 
 -- ---- questions
 
@@ -58,34 +59,34 @@ abbrev pub table : List ℕ
 table = zeros 96
 
 -- wakeluri_index_file of a file, into such a table
-abbrev pub filled : String → Told
+abbrev pub filled : String → Outcome Answer
 filled s = filledTold (fileIn (text s) (rowCount (numbersIn table))) table
 
 -- wakeluri_write_index_line of a row of it, and the index lines of its rows, one after another
-abbrev pub written : String → ℕ → Told
-written s row = writtenTold (writtenAs (text s) (numbersIn (filled s .bytes)) (filled s .answer .count) row (zeros 20))
+abbrev pub written : String → ℕ → Outcome Answer
+written s row = writtenTold (writtenAs (text s) (numbersIn (filled s .output)) (filled s .answer .count) row (zeros 20))
 
-abbrev pub indexed : String → Told
-indexed s = tells (filled s .answer) (joined (λ row. written s row .answer) (λ row. written s row .bytes) 0 (filled s .answer .count))
+abbrev pub indexed : String → Outcome Answer
+indexed s = leaves (filled s .answer) (joined (λ row. written s row .answer) (λ row. written s row .output) 0 (filled s .answer .count))
 
 -- wakeluri_read_exact and wakeluri_read_raw of its first row, with an output of some text
-abbrev pub exact : String → ℕ → ℕ → String → Told
-exact s a e out = regionTold (exactRead (text s) (numbersIn (filled s .bytes)) (filled s .answer .count) 0 (boundOf 1 a) (boundOf 1 e) (text out))
+abbrev pub exact : String → ℕ → ℕ → String → Outcome Answer
+exact s a e out = writtenTold (exactRead (text s) (numbersIn (filled s .output)) (filled s .answer .count) 0 (boundOf 1 a) (boundOf 1 e) (text out))
 
-abbrev pub raw : String → ℕ → ℕ → String → Told
-raw s a e out = regionTold (rawRead (text s) (numbersIn (filled s .bytes)) (filled s .answer .count) 0 (boundOf 1 a) (boundOf 1 e) (text out))
+abbrev pub raw : String → ℕ → ℕ → String → Outcome Answer
+raw s a e out = writtenTold (rawRead (text s) (numbersIn (filled s .output)) (filled s .answer .count) 0 (boundOf 1 a) (boundOf 1 e) (text out))
 
 -- wakeluri_check, which leaves no bytes
-abbrev pub checked : String → String → Told
-checked file index = tells (verdictAnswer (checkOf (text file) (text index))) []
+abbrev pub checked : String → String → Outcome Answer
+checked file index = leaves (verdictAnswer (checkOf (text file) (text index))) []
 
 -- wakeluri_reverse_complement
-abbrev pub reversed : String → String → Told
-reversed s out = complementTold (text s) (reverseComplementOf (text s)) (text out)
+abbrev pub reversed : String → String → Outcome Answer
+reversed s out = writtenTold (complementWritten (text s) (reverseComplementOf (text s)) (text out))
 
 -- ---- the table
 
-unfoldable pub asked : List Told
+unfoldable pub asked : List (Outcome Answer)
 asked =
     -- M1 to M8
     indexed ">sq0\nACGT\n>sq1\nNNNN\nNNNN\nNN\n"
@@ -110,7 +111,7 @@ asked =
     ∷ reversed "ACGU" "....."
     ∷ []
 
-unfoldable pub answers : List Told
+unfoldable pub answers : List (Outcome Answer)
 answers =
     fineWith 2 "sq0\t4\t5\t4\t5\nsq1\t10\t15\t4\t5\n"
     ∷ fineWith 1 "s\t4\t3\t4\t5\n"
@@ -131,5 +132,5 @@ answers =
     ∷ []
 
 pub marked : asked ≡ answers
-unfolding asked answers joined numbersOf overLimit lines chop ends contentOf seqOf sumBases sumWidths upFrom basesAt groups sameBytes partner firstOr faults reverseComplementOf sized complementIs outputOf isSpace run keep refusalOf definition.contentSays definition.definitionSays placeOf placesFrom offsetOf hasPlace addressOf wordsOf words rowCount rowAt soundRow heldAt namedIn namedAt endsLine skipped scanFrom scanAt scanAll heldIn firstWhere allDigits valueFrom numberFrom digitsOf numberOf plainNumber digits widthFrom width decimalOf cutAt fieldSays numbersFrom tabbed textOf frontWritten textWritten fieldsOf plainEnd nameOf nameIn writtenAs index.contentSays index.indexLineSays fitsLast restOf judge sequenceBy groupsBy fileBy callBy refuses gives isZero crossed badBounds boundedRow startOf endOf inFile pastLength bytesAt basesFrom regionOf exactIn exactOf exactRead scanTo pours rawAt rawIn rawOf rawRead firstElsewhere checker.sequenceSays entrySays againstLines recordSays recordsSay checkOf fromBytes toBytes firstNumbers numbersIn rest bytesOf withNumbers boundOf regionAnswer writtenAnswer complementAnswer filledAnswer verdictAnswer regionTold writtenTold complementTold filledTold
+unfolding asked answers joined numbersOf overLimit lines chop ends contentOf seqOf sumBases sumWidths upFrom basesAt groups sameBytes partner firstOr faults reverseComplementOf sized poured complementWritten isSpace run keep refusalOf definition.contentSays definition.definitionSays placeOf placesFrom offsetOf hasPlace addressOf wordsOf words rowCount rowAt soundRow heldAt namedIn namedAt endsLine skipped scanFrom scanAt scanAll heldIn firstWhere allDigits valueFrom numberFrom digitsOf numberOf plainNumber digits widthFrom width decimalOf cutAt fieldSays numbersFrom tabbed textOf pours textWritten fieldsOf plainEnd nameOf nameIn writtenAs index.contentSays index.indexLineSays fitsLast restOf judge sequenceBy groupsBy fileBy callBy isZero crossed badBounds boundedRow startOf endOf inFile pastLength bytesAt basesFrom regionOf exactIn exactOf exactRead scanTo rawAt rawIn rawOf rawRead firstElsewhere checker.sequenceSays entrySays againstLines recordSays recordsSay checkOf fromBytes toBytes firstNumbers numbersIn rest bytesOf withNumbers boundOf writtenAnswer filledAnswer verdictAnswer writtenTold filledTold
 marked = refl

@@ -1,5 +1,5 @@
 -- How an exercise is written.
-use Prim.Native.Nat.{ℕ, _+_, _/_, _%_, _≤_}
+use Prim.Native.Nat.{ℕ, _+_, _/_, _%_, _≤_, _<_}
 use mathlib.Core.Path.{_≡_, refl, sym, ap, _∙_}
 use native.Mathlib.Omega.{arith}
 use mathlib.Core.Bool.{Bool, cond}
@@ -13,8 +13,10 @@ use Rattle.refusal.specs.Numbers.{overLimit}
 use Rattle.refusal.specs.declared.Refusal.the-variants.{TooLong, MalformedExercise, UnknownEdition, NoRoom}
 use Rattle.exercise.specs.Numbers.{bigBytes, length-bigBytes, eight}
 use Rattle.exercise.specs.Reading.{knownTo}
-use Rattle.exercise.specs.declared.Written.{Written}
-use Rattle.exercise.specs.declared.Written.the-variants.{Bytes, Refused}
+use Rattle.output.specs.declared.Written.{Written}
+use Rattle.output.specs.declared.Written.the-variants.{Bytes}
+use Rattle.output.specs.Outcome.{Outcome, leaves, refuses, pours}
+use Rattle.output.specs.Laws.{pours-short, pours-fits}
 
 abbrev pub nameHead : ℕ → List ℕ
 nameHead n = 1 ∷ n / 256 ∷ n % 256 ∷ []
@@ -33,23 +35,26 @@ textOf name start end edition = nameHead (length name) ++ (name ++ (numberField 
 unfoldable pub front : List ℕ → List ℕ → List ℕ
 front s out = s ++ drop (length s) out
 
--- an answer, and the output afterwards
-pub record Wrote : Type 0 where
-  pub answer : Written
-  pub out : List ℕ
-
-abbrev pub wrote : Written → List ℕ → Wrote
-wrote answer out = record { answer = answer; out = out }
-
 -- writing: 1, 31, 33, 14
-unfoldable pub writtenAs : ℕ → List ℕ → ℕ → ℕ → ℕ → List ℕ → Wrote
+unfoldable pub writtenAs : ℕ → List ℕ → ℕ → ℕ → ℕ → List ℕ → Outcome Written
 writtenAs newest name start end edition out =
-    cond (overLimit (length name)) (wrote (Refused TooLong) out)
-    (cond (ltb 65535 (length name)) (wrote (Refused (MalformedExercise 0)) out)
-    (cond (knownTo newest edition)
-    (cond (ltb (length out) (length name + 29)) (wrote (Refused (NoRoom (length name + 29))) out)
-    (wrote (Bytes (length name + 29)) (front (textOf name start end edition) out)))
-    (wrote (Refused (UnknownEdition (length name + 25))) out)))
+    cond (overLimit (length name)) (refuses TooLong out)
+    (cond (ltb 65535 (length name)) (refuses (MalformedExercise 0) out)
+    (cond (knownTo newest edition) (pours (textOf name start end edition) out) (refuses (UnknownEdition (length name + 25)) out)))
+
+-- by how much room there is
+module _ (name : List ℕ) (start end edition : ℕ) (out : List ℕ) where
+  text-length : length (textOf name start end edition) ≡ length name + 29
+  unfolding textOf
+  text-length = simp (length-append, length-bigBytes) (omega arith)
+
+  pub text-no-room : length out < length name + 29 → refuses (NoRoom (length name + 29)) out ≡ pours (textOf name start end edition) out
+  text-no-room h = rw (← text-length) (pours-short _ out (rw (← text-length) at h))
+
+  pub text-poured : length name + 29 ≤ length out → (after : List ℕ) → after ≡ front (textOf name start end edition) out
+      → leaves (Bytes (length name + 29)) after ≡ pours (textOf name start end edition) out
+  unfolding front
+  text-poured h after e = rw (e, ← text-length) (pours-fits _ out (rw (← text-length) at h))
 
 -- ---- the bytes laid one piece behind another
 

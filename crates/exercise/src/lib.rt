@@ -2,6 +2,7 @@
 // bytes, high byte first, and so many bytes. Tags 1 to 4 stand once each, in rising order; another below 128 is passed over wherever it
 // stands. Refused in reading: 1, then from the front 32, an unknown tag from 128 on; 31, a malformed field or one that is missing; 33, an
 // unknown edition. In writing: 1; 31, a name over 65,535 bytes; 33; 14, no room.
+use output::Written;
 use refusal::Refusal;
 ghost use mathlib.Core.Path.{_≡_};
 ghost use mathlib.Core.List.{_∷_};
@@ -10,7 +11,8 @@ ghost use lib.ListN.{length, take, drop, getD};
 ghost use Rattle.copying.specs.Copied.{afterCopy};
 ghost use Rattle.exercise.specs.Numbers.{bigFrom, bigBytes};
 ghost use Rattle.exercise.specs.Reading.{knownTo, bad, nameField, startField, endField, editionField, valued, judge, ended, saysFrom, readAs};
-ghost use Rattle.exercise.specs.Writing.{nameHead, numberField, editionBytes, textOf, front, Wrote, wrote, writtenAs};
+ghost use Rattle.exercise.specs.Writing.{nameHead, numberField, editionBytes, textOf, front, writtenAs};
+ghost use Rattle.output.specs.Outcome.{leaves};
 
 // An exercise read from some bytes: where its name lies in them, its bounds, its edition.
 pub struct Exercise {
@@ -23,12 +25,6 @@ pub struct Exercise {
 
 pub enum ExerciseRead {
     Read(Exercise),
-    Refused(Refusal),
-}
-
-// How many bytes were written, or why none.
-pub enum Written {
-    Bytes(usize),
     Refused(Refusal),
 }
 
@@ -329,7 +325,7 @@ fn put_text(name: &[u8], start: u64, end: u64, edition: u8, out: &mut [u8])
 
 // Writes an exercise to the front of the output.
 pub fn write_exercise(name: &[u8], start: u64, end: u64, edition: u64, out: &mut [u8]) -> Written
-    ensures { λ r. ⌜ wrote r (now (out .exit)) ≡ writtenAs 2 (now (name .entry)) start end edition (now (out .entry)) ⌝ }
+    ensures { λ r. ⌜ leaves r (now (out .exit)) ≡ writtenAs 2 (now (name .entry)) start end edition (now (out .entry)) ⌝ }
 {
     if refusal::over_limit(name.len()) {
         return Written::Refused(Refusal::TooLong);

@@ -2,9 +2,9 @@
 // and for a refusal one line, as `refused 6 0 4`, behind those of the records before it. Longer input gives only `refused 1 0 0`.
 // It reads standard input, or each file named, of which `-` is standard input.
 use fitting::Rule;
-use index_line::Written;
 use libc::STDIN_FILENO;
 use libc::STDOUT_FILENO;
+use output::Written;
 use refusal::Refusal;
 use table::Stop;
 

@@ -11,8 +11,8 @@ use Rattle.index_line.specs.Bytes.{is, firstWhere}
 use Rattle.index_line.specs.Decimal.{numberOf, plainNumber, decimalOf}
 use Rattle.index_line.specs.declared.Number.{Number}
 use Rattle.index_line.specs.declared.Number.the-variants.{Value, Bad}
-use Rattle.index_line.specs.declared.Written.{Written}
-use Rattle.index_line.specs.declared.Written.the-variants.{Bytes, Refused}
+use Rattle.output.specs.declared.Written.{Written}
+use Rattle.output.specs.Outcome.{Outcome, refuses, pours}
 use Rattle.index_line.specs.declared.fields.FieldRead.{FieldRead}
 use Rattle.index_line.specs.declared.fields.FieldRead.the-variants as field
 
@@ -73,18 +73,6 @@ textOf name ns = name ++ (numbersText ns ++ (10 ∷ []))
 abbrev pub splits : ℕ → Bool
 splits b = is 9 b || is 10 b
 
--- an answer of writing, and the output afterwards
-pub record Wrote : Type 0 where
-  pub answer : Written
-  pub out : List ℕ
-
-abbrev pub wrote : Written → List ℕ → Wrote
-wrote answer out = record { answer = answer; out = out }
-
--- a text at the front of the output, if there is room for all of it; the bytes behind it stay. A refusal leaves the output as it was
-unfoldable pub frontWritten : List ℕ → List ℕ → Wrote
-frontWritten text out = cond (ltb (length out) (length text)) (wrote (Refused (NoRoom (length text))) out) (wrote (Bytes (length text)) (text ++ drop (length text) out))
-
 -- a name and numbers: a name with a tab or an LF is refused, with the first place of one
-unfoldable pub textWritten : List ℕ → List ℕ → List ℕ → Wrote
-textWritten name ns out = cond (ltb (firstWhere splits name) (length name)) (wrote (Refused (NameSplit (firstWhere splits name))) out) (frontWritten (textOf name ns) out)
+unfoldable pub textWritten : List ℕ → List ℕ → List ℕ → Outcome Written
+textWritten name ns out = cond (ltb (firstWhere splits name) (length name)) (refuses (NameSplit (firstWhere splits name)) out) (pours (textOf name ns) out)

@@ -11,9 +11,10 @@ use Rattle.record.specs.declared.Record.{Record}
 use Rattle.record.specs.declared.Held.{Held}
 use Rattle.record.specs.declared.Held.the-variants as held
 use Rattle.record.specs.Row.{namedAt}
-use Rattle.index_line.specs.Fields.{cutAt, Numbers, numbersFrom, textOf, Wrote, wrote, textWritten}
+use Rattle.output.specs.Outcome.{Outcome, refuses}
+use Rattle.index_line.specs.Fields.{cutAt, Numbers, numbersFrom, textOf, textWritten}
 use Rattle.index_line.specs.Fields.Numbers.{Are, Not}
-use Rattle.index_line.specs.declared.Written.the-variants.{Refused}
+use Rattle.output.specs.declared.Written.{Written}
 use Rattle.index_line.specs.declared.Entry.{Entry}
 use Rattle.index_line.specs.declared.LineRead.{LineRead}
 use Rattle.index_line.specs.declared.LineRead.the-variants as read
@@ -102,10 +103,10 @@ unfoldable pub nameIn : List ℕ → Record → List ℕ
 nameIn names x = take (x .«name_length») (drop (x .«name_start») names)
 
 -- the line of a row that holds a record
-abbrev pub rowWritten : List ℕ → List ℕ → Held → Wrote
-rowWritten names out (held.Refused r) = wrote (Refused r) out
+abbrev pub rowWritten : List ℕ → List ℕ → Held → Outcome Written
+rowWritten names out (held.Refused r) = refuses r out
 rowWritten names out (held.Row x) = textWritten (nameIn names x) (columnsOf x) out
 
 -- writing the line of row r of a table with n rows in use, whose names are spans of `names`: 1, 25, 13, 14
-unfoldable pub writtenAs : List ℕ → List ℕ → ℕ → ℕ → List ℕ → Wrote
-writtenAs names t n r out = cond (overLimit (length names)) (wrote (Refused TooLong) out) (rowWritten names out (namedAt t n r (length names)))
+unfoldable pub writtenAs : List ℕ → List ℕ → ℕ → ℕ → List ℕ → Outcome Written
+writtenAs names t n r out = cond (overLimit (length names)) (refuses TooLong out) (rowWritten names out (namedAt t n r (length names)))

@@ -10,7 +10,8 @@ use Rattle.record.specs.declared.Held.the-variants as held
 use Rattle.record.specs.Row.{namedAt, rowCount, rowAt, withRow}
 use Rattle.record.specs.Laws.{length-withRow, row-stored}
 use Rattle.index_line.specs.Bytes.{firstWhere}
-use Rattle.index_line.specs.Fields.{splits, wrote, textWritten, frontWritten}
+use Rattle.output.specs.Outcome.{gives, pours}
+use Rattle.index_line.specs.Fields.{splits, textWritten}
 use Rattle.index_line.specs.Lacks.{Lacks}
 use Rattle.index_line.specs.Numbers.{both}
 use Rattle.index_line.specs.IndexLine.{oneLine, readLine, lineOf, nameIn, writtenAs}
@@ -18,13 +19,12 @@ use Rattle.index_line.specs.Laws.{line-sound}
 use Rattle.index_line.specs.RoundTrip.{plain-writes}
 use Rattle.index_line.specs.declared.Entry.{Entry}
 use Rattle.index_line.specs.declared.LineRead.the-variants as read
-use Rattle.index_line.specs.declared.Written.the-variants as written
 use Rattle.index_line.specs.PlainAgainLaws.{read-alone, unsplit, row-named}
 
 -- a table that has the record in row r, one of n rows in use
 pub plain-row : (l : List ℕ) (e : Entry) (t : List ℕ) (n r : ℕ) (out : List ℕ) → readLine l ≡ read.Row e → e .plain ≡ true
-    → n ≤ rowCount t → r < n → rowAt t r ≡ e .«record» → length l ≤ length out → writtenAs l t n r out ≡ wrote (written.Bytes (length l)) (l ++ drop (length l) out)
-unfolding writtenAs nameIn textWritten frontWritten lineOf
+    → n ≤ rowCount t → r < n → rowAt t r ≡ e .«record» → length l ≤ length out → writtenAs l t n r out ≡ gives l out
+unfolding writtenAs nameIn textWritten pours lineOf
 plain-row l e t n r out h p some used row room =
     let w = read-alone l e h in
     let x = w .entry .«record» in
@@ -37,7 +37,7 @@ plain-row l e t n r out h p some used row room =
 
 -- the same, where the record was stored there
 pub plain-again : (l : List ℕ) (e : Entry) (t : List ℕ) (n r : ℕ) (out : List ℕ) → readLine l ≡ read.Row e → e .plain ≡ true
-    → n ≤ rowCount t → r < n → length l ≤ length out → writtenAs l (withRow t r (e .«record»)) n r out ≡ wrote (written.Bytes (length l)) (l ++ drop (length l) out)
+    → n ≤ rowCount t → r < n → length l ≤ length out → writtenAs l (withRow t r (e .«record»)) n r out ≡ gives l out
 unfolding rowCount
 plain-again l e t n r out h p some used room =
     plain-row l e (withRow t r (e .«record»)) n r out h p (rw (length-withRow t r (e .«record»)) some) used (row-stored t r (e .«record») (omega arith)) room

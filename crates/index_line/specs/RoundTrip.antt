@@ -16,7 +16,8 @@ use Rattle.record.specs.Row.{namedAt}
 use Rattle.record.specs.Laws.{held-known, named-known}
 use Rattle.index_line.specs.Bytes.{is}
 use Rattle.index_line.specs.Decimal.{decimalOf}
-use Rattle.index_line.specs.Fields.{tabbed, numbersText, textOf, wrote}
+use Rattle.output.specs.Outcome.{leaves}
+use Rattle.index_line.specs.Fields.{tabbed, numbersText, textOf}
 use Rattle.index_line.specs.Lacks.{Lacks, splits-tab}
 use Rattle.index_line.specs.OneLine.{line-one}
 use Rattle.index_line.specs.Numbers.{both, reads-text, reads-count}
@@ -26,7 +27,7 @@ use Rattle.index_line.specs.IndexLine.{entryOf, plainEnd, indexLineSays,
 use Rattle.index_line.specs.Laws.{Lined, line-known, fields-cut}
 use Rattle.index_line.specs.declared.Entry.{Entry}
 use Rattle.index_line.specs.declared.LineRead.the-variants as read
-use Rattle.index_line.specs.declared.Written.the-variants as written
+use Rattle.output.specs.declared.Written.the-variants as written
 use Rattle.index_line.specs.RoundTripLaws.{content-written, ends-digit, line-written, row-lined, line-front, line-text}
 
 -- a line that is written reads back as the same name bytes and the same four numbers, and is plain
@@ -45,7 +46,7 @@ pub record ReadBack (names t : List ℕ) (n r k : ℕ) (after : List ℕ) : Type
   pub name : take (row .«name_length») after ≡ nameIn names row
 
 pub reads-back : (names t : List ℕ) (n r : ℕ) (out : List ℕ) (k : ℕ) (after : List ℕ) → ((i : ℕ) → getD t i 0 < 2 ^ 64)
-    → writtenAs names t n r out ≡ wrote (written.Bytes k) after → k ≤ 1099511627776 → ReadBack names t n r k after
+    → writtenAs names t n r out ≡ leaves (written.Bytes k) after → k ≤ 1099511627776 → ReadBack names t n r k after
 unfolding readLine overLimit lineOf
 reads-back names t n r out k after f h m =
     let w = line-written names t n r out k after h in

@@ -18,8 +18,10 @@ use Rattle.record.specs.Row.{namedAt, rowAt}
 use Rattle.record.specs.Laws.{HeldRow, named-known}
 use Rattle.index_line.specs.Bytes.{is}
 use Rattle.index_line.specs.Decimal.{decimalOf}
-use Rattle.index_line.specs.Fields.{cutAt, tabbed, numbersText, textOf, wrote}
-use Rattle.index_line.specs.Writing.{TextPut, no-bytes, text-known}
+use Rattle.output.specs.Outcome.{leaves, refuses}
+use Rattle.output.specs.Laws.{no-bytes}
+use Rattle.index_line.specs.Fields.{cutAt, tabbed, numbersText, textOf}
+use Rattle.index_line.specs.Writing.{TextPut, text-known}
 use Rattle.index_line.specs.Lacks.{Lacks, lacks-ends, text-lacks}
 use Rattle.index_line.specs.Numbers.{Allowed, text-reads, reads-say}
 use Rattle.index_line.specs.Cut.{text-cut}
@@ -27,7 +29,7 @@ use Rattle.index_line.specs.Ends.{ends-behind}
 use Rattle.index_line.specs.IndexLine.{entryOf, fieldsOf, recordOf, contentSays, columnsOf, lineOf, nameIn, rowWritten, writtenAs}
 use Rattle.index_line.specs.Laws.{Lined}
 use Rattle.index_line.specs.declared.LineRead.the-variants as read
-use Rattle.index_line.specs.declared.Written.the-variants as written
+use Rattle.output.specs.declared.Written.the-variants as written
 
 pub lined-allowed : (x : Record) → Lined x → (i : ℕ) → i < 4 → Allowed (2 + i) (getD (columnsOf x) i 0)
 lined-allowed x p zero h = (p .fits-length, and-false (eqb (x .length) 0))
@@ -65,12 +67,12 @@ pub record LineWritten (names t : List ℕ) (n r : ℕ) (out : List ℕ) (k : �
   pub name : length (nameIn names row) ≡ row .«name_length»
   pub put : TextPut (nameIn names row) (columnsOf row) out k after
 
-pub line-written : (names t : List ℕ) (n r : ℕ) (out : List ℕ) (k : ℕ) (after : List ℕ) → writtenAs names t n r out ≡ wrote (written.Bytes k) after
+pub line-written : (names t : List ℕ) (n r : ℕ) (out : List ℕ) (k : ℕ) (after : List ℕ) → writtenAs names t n r out ≡ leaves (written.Bytes k) after
     → LineWritten names t n r out k after
 unfolding writtenAs
 line-written names t n r out k after h = go (overLimit (length names)) (namedAt t n r (length names)) refl h
   where
-    go : (u : Bool) (o : Held) → namedAt t n r (length names) ≡ o → cond u (wrote (written.Refused TooLong) out) (rowWritten names out o) ≡ wrote (written.Bytes k) after
+    go : (u : Bool) (o : Held) → namedAt t n r (length names) ≡ o → cond u (refuses TooLong out) (rowWritten names out o) ≡ leaves (written.Bytes k) after
         → LineWritten names t n r out k after
     go true o e q = absurd (no-bytes _ out k after q)
     go false (held.Refused f) e q = absurd (no-bytes _ out k after q)

@@ -6,14 +6,15 @@ use mathlib.Core.Bool.{Bool, true, false, cond, _||_}
 use native.Mathlib.Omega.{arith}
 use native.Mathlib.Numerals.{add-one}
 use lib.ListN.{length, getD, take, drop, set, length-append, take-append-drop}
-use lib.Seq.{take-suc, take-at, drop-at, append-snoc}
+use lib.Seq.{take-suc, append-snoc}
 use lib.Dec.{ltb}
 use borrow.Author.Tests.{lt-ltb, le-ltb, ltb-false}
 use Rattle.index_line.specs.Bytes.{is, firstWhere, first-le, overlaid, laidAt, overlaid-length, overlaid-next, overlaid-more, overlaid-zero, laid-all}
 use Rattle.index_line.specs.Decimal.{decimalOf}
-use Rattle.index_line.specs.Fields.{tabbed, numbersText, textOf, splits, Wrote, wrote, frontWritten, textWritten}
-use Rattle.index_line.specs.declared.Written.the-variants.{Bytes, Refused}
-use Rattle.refusal.specs.declared.Refusal.{Refusal}
+use Rattle.output.specs.Outcome.{leaves, refuses, pours}
+use Rattle.output.specs.Laws.{no-bytes, poured-known}
+use Rattle.index_line.specs.Fields.{tabbed, numbersText, textOf, splits, textWritten}
+use Rattle.output.specs.declared.Written.the-variants.{Bytes, Refused}
 use Rattle.refusal.specs.declared.Refusal.the-variants.{NameSplit, NoRoom}
 
 -- numbers put from a place on: the place behind them, and the output afterwards
@@ -91,17 +92,17 @@ put-line name ns out h =
     ∙ rw append-assoc)
 
 module _ (name ns out : List ℕ) where
-  pub text-split : firstWhere splits name < length name → wrote (Refused (NameSplit (firstWhere splits name))) out ≡ textWritten name ns out
+  pub text-split : firstWhere splits name < length name → leaves (Refused (NameSplit (firstWhere splits name))) out ≡ textWritten name ns out
   unfolding textWritten
   text-split h = rw (lt-ltb _ _ h)
 
   module _ (h : length name ≤ firstWhere splits name) where
-    pub text-no-room : length out < length (textOf name ns) → wrote (Refused (NoRoom (length (textOf name ns)))) out ≡ textWritten name ns out
-    unfolding textWritten frontWritten
+    pub text-no-room : length out < length (textOf name ns) → leaves (Refused (NoRoom (length (textOf name ns)))) out ≡ textWritten name ns out
+    unfolding textWritten pours
     text-no-room r = rw (le-ltb _ _ h, lt-ltb _ _ r)
 
-    pub text-put : length (textOf name ns) ≤ length out → wrote (Bytes (length (textOf name ns))) (overlaid out 0 (textOf name ns)) ≡ textWritten name ns out
-    unfolding textWritten frontWritten
+    pub text-put : length (textOf name ns) ≤ length out → leaves (Bytes (length (textOf name ns))) (overlaid out 0 (textOf name ns)) ≡ textWritten name ns out
+    unfolding textWritten pours
     text-put r = rw (overlaid-zero out (textOf name ns), le-ltb _ _ h, le-ltb _ _ r)
 
 -- what is known of a text that was written: k bytes at the front of the output
@@ -110,27 +111,13 @@ pub record TextPut (name ns out : List ℕ) (k : ℕ) (after : List ℕ) : Type 
   pub front : take k after ≡ textOf name ns
   pub rest : drop k after ≡ drop k out
 
-pub no-bytes : (f : Refusal) (out : List ℕ) (k : ℕ) (after : List ℕ) → wrote (Refused f) out ≡ wrote (Bytes k) after → ⊥
-no-bytes f out k after q = let a = ap (λ (w : Wrote). w .answer) q in let z : _≡_ {A = ℕ} 0 1 = cc in omega arith
-
-pub text-known : (name ns out : List ℕ) (k : ℕ) (after : List ℕ) → textWritten name ns out ≡ wrote (Bytes k) after → TextPut name ns out k after
-unfolding textWritten frontWritten
-text-known name ns out k after h = go (ltb (firstWhere splits name) (length name)) refl (ltb (length out) (length text)) h
+pub text-known : (name ns out : List ℕ) (k : ℕ) (after : List ℕ) → textWritten name ns out ≡ leaves (Bytes k) after → TextPut name ns out k after
+unfolding textWritten
+text-known name ns out k after h = go (ltb (firstWhere splits name) (length name)) refl h
   where
-    text : List ℕ
-    text = textOf name ns
-
-    go : (t : Bool) → ltb (firstWhere splits name) (length name) ≡ t → (u : Bool)
-        → cond t (wrote (Refused (NameSplit (firstWhere splits name))) out) (cond u (wrote (Refused (NoRoom (length text))) out) (wrote (Bytes (length text)) (text ++ drop (length text) out))) ≡ wrote (Bytes k) after
-        → TextPut name ns out k after
-    go true e u q = absurd (no-bytes _ out k after q)
-    go false e true q = absurd (no-bytes _ out k after q)
-    go false e false q =
-        let a = ap (λ (w : Wrote). w .answer) q in
-        let b : length text ≡ k = cc in
-        let o : text ++ drop (length text) out ≡ after = ap (λ (w : Wrote). w .out) q in
-        record {
-          whole = omega (arith, ltb-false (firstWhere splits name) (length name) e, first-le splits name);
-          front = ap (take k) (sym o) ∙ take-at text (drop (length text) out) k b;
-          rest = ap (drop k) (sym o) ∙ (drop-at text (drop (length text) out) k b ∙ ap (λ (i : ℕ). drop i out) b);
-        }
+    go : (t : Bool) → ltb (firstWhere splits name) (length name) ≡ t
+        → cond t (refuses (NameSplit (firstWhere splits name)) out) (pours (textOf name ns) out) ≡ leaves (Bytes k) after → TextPut name ns out k after
+    go true e q = absurd (no-bytes _ out k after q)
+    go false e q =
+        let f = poured-known (textOf name ns) out k after q in
+        record { whole = omega (arith, ltb-false (firstWhere splits name) (length name) e, first-le splits name); front = f .front; rest = f .rest }

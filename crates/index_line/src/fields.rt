@@ -1,15 +1,16 @@
 // A line of a name and numbers with tabs between, read by fields from the left, and written. How many numbers a line has is the
 // caller's to say, by the table of numbers that it lends.
 use crate::Number;
-use crate::Written;
 use crate::decimal;
+use output::Written;
 use refusal::Refusal;
 ghost use mathlib.Core.Path.{_≡_};
 ghost use mathlib.Core.Bool.{true};
 ghost use Prim.Native.Nat.{_+_, _*_, _^_, _<_, _≤_};
 ghost use lib.ListN.{length, take, drop};
 ghost use Rattle.index_line.specs.Bytes.{is, firstWhere, overlaid};
-ghost use Rattle.index_line.specs.Fields.{zeroBarred, fieldSays, numbersFrom, numbersText, textOf, splits, wrote, textWritten};
+ghost use Rattle.output.specs.Outcome.{leaves};
+ghost use Rattle.index_line.specs.Fields.{zeroBarred, fieldSays, numbersFrom, numbersText, textOf, splits, textWritten};
 ghost use Rattle.index_line.specs.Reading.{fieldLen, behind, told};
 ghost use Rattle.index_line.specs.Quick.{FrontDigits, endsAt, Quick, ReadAll};
 ghost use Rattle.index_line.specs.Writing.{NumbersPut};
@@ -289,7 +290,7 @@ fn put_text(name: &[u8], numbers: &[u64], out: &mut [u8])
 // The same, if the name has no tab and no LF, and if there is room.
 pub(crate) fn write_text(name: &[u8], numbers: &[u64], out: &mut [u8]) -> Written
     requires { ⌜ length (now name) + 21 * length (now numbers) + 1 < 2 ^ 64 ⌝ }
-    ensures { λ r. ⌜ wrote r (now (out .exit)) ≡ textWritten (now (name .entry)) (now (numbers .entry)) (now (out .entry)) ⌝ }
+    ensures { λ r. ⌜ leaves r (now (out .exit)) ≡ textWritten (now (name .entry)) (now (numbers .entry)) (now (out .entry)) ⌝ }
 {
     let place = name_split(name);
     if place < name.len() {

@@ -6,13 +6,14 @@ mod decimal;
 mod fields;
 
 use fields::NumbersRead;
+use output::Written;
 use record::Held;
 use record::Offset;
 use record::Record;
 use refusal::Refusal;
 ghost use mathlib.Core.Path.{_≡_};
 ghost use Rattle.index_line.specs.IndexLine.{contentSays, onlyIf, indexLineSays, readContent, readLine, writtenAs};
-ghost use Rattle.index_line.specs.Fields.{wrote};
+ghost use Rattle.output.specs.Outcome.{leaves};
 
 // A number read: its value, or that it is none.
 pub enum Number {
@@ -30,12 +31,6 @@ pub struct Entry {
 // A line read, or why it is refused.
 pub enum LineRead {
     Row(Entry),
-    Refused(Refusal),
-}
-
-// How many bytes were written, or why none.
-pub enum Written {
-    Bytes(usize),
     Refused(Refusal),
 }
 
@@ -110,7 +105,7 @@ pub fn read_line(l: &[u8]) -> LineRead
 
 // Writes the line of row `row` to the front of the output. The table has `in_use` rows in use, and its names are spans of `names`.
 pub fn write_line(names: &[u8], table: &[u64], in_use: usize, row: usize, out: &mut [u8]) -> Written
-    ensures { λ r. ⌜ wrote r (now (out .exit)) ≡ writtenAs (now (names .entry)) (now (table .entry)) in_use row (now (out .entry)) ⌝ }
+    ensures { λ r. ⌜ leaves r (now (out .exit)) ≡ writtenAs (now (names .entry)) (now (table .entry)) in_use row (now (out .entry)) ⌝ }
 {
     if refusal::over_limit(names.len()) {
         return Written::Refused(Refusal::TooLong);

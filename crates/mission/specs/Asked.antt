@@ -7,8 +7,10 @@ use lib.ListN.{length, take, drop}
 use Rattle.lines.specs.Lines.{lines, allBases}
 use Rattle.lines.specs.Groups.{groups}
 use Rattle.region.specs.declared.Bound.{Bound}
-use Rattle.region.specs.declared.RegionRead.the-variants.{Bytes}
-use Rattle.region.specs.Region.{Outcome, leaves, badBounds, startOf, endOf, basesTo}
+use Rattle.output.specs.declared.Written.the-variants.{Bytes}
+use Rattle.output.specs.declared.Written.{Written}
+use Rattle.output.specs.Outcome.{Outcome, leaves}
+use Rattle.region.specs.Region.{badBounds, startOf, endOf, basesTo}
 use Rattle.checker.specs.Accepts.{recordAt}
 use Rattle.mission.specs.TableOf.{recordCount, baseCount}
 
@@ -37,5 +39,5 @@ pub record Asked (f : List ℕ) (r : ℕ) (a e : Bound) (out : List ℕ) : Type 
   pub room : askedCount f r a e ≤ length out
 
 -- just those bases: how many they are, and they at the front of the output, what was behind them as it was
-abbrev pub givesAsked : List ℕ → ℕ → Bound → Bound → List ℕ → Outcome
+abbrev pub givesAsked : List ℕ → ℕ → Bound → Bound → List ℕ → Outcome Written
 givesAsked f r a e out = leaves (Bytes (askedCount f r a e)) (askedBases f r a e ++ drop (askedCount f r a e) out)

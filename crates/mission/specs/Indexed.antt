@@ -14,8 +14,7 @@ use native.Mathlib.Nat.{zero-add}
 use Rattle.record.specs.Row.{rowCount, withRows}
 use Rattle.record.specs.declared.Record.{Record}
 use Rattle.table.specs.declared.Stop.the-variants.{Ended}
-use Rattle.index_line.specs.Fields.{wrote}
-use Rattle.index_line.specs.declared.Written.the-variants.{Bytes}
+use Rattle.output.specs.Outcome.{gives}
 use Rattle.index_line.specs.IndexLine.{writtenAs}
 use Rattle.indexer.specs.Index.{ported}
 use Rattle.indexer.specs.File.{fileAt, fileIn}
@@ -47,7 +46,7 @@ module _ (f : List ℕ) where
 
   -- each index line is what the call writes of its row, if the table has all the rows and the output has room; the bytes behind it stay
   pub line-written : (t out : List ℕ) (k : ℕ) → length f ≤ limit → length rows ≤ rowCount t → k < length rows → length (lineIn f (rowIn rows k)) ≤ length out
-      → writtenAs f (withRows t 0 rows) (length rows) k out ≡ wrote (Bytes (length (lineIn f (rowIn rows k)))) (lineIn f (rowIn rows k) ++ drop (length (lineIn f (rowIn rows k))) out)
+      → writtenAs f (withRows t 0 rows) (length rows) k out ≡ gives (lineIn f (rowIn rows k)) out
   line-written = leading-written f rows (fileAt f 0 .stop) (file-leads f)
 
   -- the index lines read back to rows with the same names and the same four numbers

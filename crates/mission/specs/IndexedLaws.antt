@@ -36,8 +36,9 @@ use Rattle.table.specs.Laws.{held-all}
 use Rattle.table.specs.declared.Stop.{Stop}
 use Rattle.table.specs.declared.Stop.the-variants as stop
 use Rattle.index_line.specs.Bytes.{is, firstWhere}
-use Rattle.index_line.specs.Fields.{numbersText, textOf, splits, wrote, frontWritten, textWritten}
-use Rattle.index_line.specs.declared.Written.the-variants.{Bytes}
+use Rattle.output.specs.Outcome.{gives, pours}
+use Rattle.index_line.specs.Fields.{numbersText, textOf, splits, textWritten}
+use Rattle.output.specs.declared.Written.the-variants.{Bytes}
 use Rattle.index_line.specs.Lacks.{Lacks, lacks-head, lacks-tail, lacks-cons, lacks-less, text-lacks}
 use Rattle.index_line.specs.IndexLine.{entryOf, columnsOf, nameOf, nameIn}
 use Rattle.index_line.specs.IndexLine as index
@@ -360,15 +361,15 @@ index-whole t n h k = rw (le-ltb _ _ h) (held-all n n (indexAt t 1 0) k)
 -- ---- writing the line of a row
 
 -- a name without whitespace has no tab and no LF, so it and some numbers are written, where there is room
-pub text-fronted : (name ns out : List ℕ) → Lacks isSpace name → textWritten name ns out ≡ frontWritten (textOf name ns) out
+pub text-fronted : (name ns out : List ℕ) → Lacks isSpace name → textWritten name ns out ≡ pours (textOf name ns) out
 unfolding isSpace textWritten
 text-fronted name ns out h =
     let s : Lacks splits name = lacks-less isSpace splits (λ b e. rw (not-space 9 b refl e, not-space 10 b refl e)) name h in
     rw (le-ltb (firstWhere splits name) (length name) (omega arith))
 
 pub text-written : (name ns out : List ℕ) → Lacks isSpace name → length (textOf name ns) ≤ length out
-    → textWritten name ns out ≡ wrote (Bytes (length (textOf name ns))) (textOf name ns ++ drop (length (textOf name ns)) out)
-unfolding frontWritten
+    → textWritten name ns out ≡ gives (textOf name ns) out
+unfolding pours
 text-written name ns out h r = text-fronted name ns out h ∙ rw (le-ltb _ _ r)
 
 -- a row of a table that was filled with some holds its record, if its name lies in the bytes

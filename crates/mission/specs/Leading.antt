@@ -23,8 +23,7 @@ use Rattle.table.specs.declared.Stop.{Stop}
 use Rattle.table.specs.declared.Stop.the-variants.{Ended}
 use Rattle.index_line.specs.Bytes.{is}
 use Rattle.index_line.specs.Lacks.{Lacks}
-use Rattle.index_line.specs.Fields.{wrote}
-use Rattle.index_line.specs.declared.Written.the-variants.{Bytes}
+use Rattle.output.specs.Outcome.{gives}
 use Rattle.index_line.specs.IndexLine.{entryOf, columnsOf, lineOf, nameIn, writtenAs}
 use Rattle.index_line.specs.IndexLine as index
 use Rattle.index_line.specs.declared.LineRead.the-variants.{Row}
@@ -151,7 +150,7 @@ module _ (f : List ℕ) (xs : List Record) (s : Stop) (h : Along (LeadsTo f) 0 (
 
   -- each index line is what the call writes of its row, if the table has all the rows and the output has room; the bytes behind it stay
   pub leading-written : (t out : List ℕ) (k : ℕ) → length f ≤ limit → length xs ≤ rowCount t → k < length xs → length (lineIn f (rowIn xs k)) ≤ length out
-      → writtenAs f (withRows t 0 xs) (length xs) k out ≡ wrote (Bytes (length (lineIn f (rowIn xs k)))) (lineIn f (rowIn xs k) ++ drop (length (lineIn f (rowIn xs k))) out)
+      → writtenAs f (withRows t 0 xs) (length xs) k out ≡ gives (lineIn f (rowIn xs k)) out
   unfolding writtenAs overLimit lineOf
   leading-written t out k m e q r =
       let d = leading-at k q in

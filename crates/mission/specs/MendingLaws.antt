@@ -15,7 +15,9 @@ use Rattle.record.specs.Bases.{byteAt}
 use Rattle.record.specs.Place.{placeIn}
 use Rattle.record.specs.Row.{heldAt}
 use Rattle.region.specs.declared.Bound.{Bound}
-use Rattle.region.specs.Region.{Outcome, refuses, startOf, endOf}
+use Rattle.output.specs.declared.Written.{Written}
+use Rattle.output.specs.Outcome.{Outcome, refuses}
+use Rattle.region.specs.Region.{startOf, endOf}
 use Rattle.region.specs.Exact.{exactOf, exactRead}
 use Rattle.region.specs.Dependence.{InRegion, exact-same}
 use Rattle.region.specs.Changed.{changedAt, changed-refused, exact-changed}
@@ -68,7 +70,7 @@ module _ (f : List ℕ) (k j o b : ℕ) (base : BaseAt f k j o) (plain : Plain b
     unfolding exactRead
     read-elsewhere m =
         rw (length-set f o b)
-        (ap (λ (y : Outcome). cond (overLimit (length f)) (refuses TooLong out) y)
+        (ap (λ (y : Outcome Written). cond (overLimit (length f)) (refuses TooLong out) y)
         (exact-same (length f) (heldAt t n r) a e out (byteAt (set f o b)) (byteAt f)
         (λ x h p i z. byte-kept x h p i (λ u v. m (covers x h p i u v)))))
       where
@@ -96,5 +98,5 @@ module _ (f : List ℕ) (k j o b : ℕ) (base : BaseAt f k j o) (plain : Plain b
 
         go : (q : Bool) → cond q (refuses TooLong out) (exactOf (length f) (byteAt (set f o b)) (heldAt t n r) a e out)
             ≡ changedAt (suc j - startOf a) b (cond q (refuses TooLong out) (exactOf (length f) (byteAt f) (heldAt t n r) a e out))
-        go true = unfold refuses in changed-refused TooLong out (suc j - startOf a) b
+        go true = changed-refused TooLong out (suc j - startOf a) b
         go false = read

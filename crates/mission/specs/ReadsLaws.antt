@@ -18,8 +18,9 @@ use Rattle.record.specs.Bases.{byteAt, bases-bytes}
 use Rattle.record.specs.EvenLines.{length-upFrom, getD-upFrom, length-basesAt}
 use Rattle.record.specs.Laws.{length-places, getD-places}
 use Rattle.region.specs.declared.Bound.{Bound}
-use Rattle.region.specs.declared.RegionRead.the-variants.{Bytes}
-use Rattle.region.specs.Region.{leaves, startOf, endOf, basesTo}
+use Rattle.output.specs.declared.Written.the-variants.{Bytes}
+use Rattle.output.specs.Outcome.{leaves}
+use Rattle.region.specs.Region.{startOf, endOf, basesTo}
 use Rattle.region.specs.Exact.{offsetsOf, exactOf}
 use Rattle.region.specs.Laws.{good-bounds}
 use Rattle.region.specs.Dependence.{exact-reads}

@@ -26,7 +26,8 @@ use Rattle.fitting.specs.declared.Rule.{Rule}
 use Rattle.fitting.specs.declared.Rule.the-variants.{Strict, Complete}
 use Rattle.fitting.specs.Rules.{ruleOf, rowsBy, rowsIn}
 use Rattle.region.specs.declared.Bound.{Bound}
-use Rattle.region.specs.Region.{Outcome, refuses}
+use Rattle.output.specs.declared.Written.{Written}
+use Rattle.output.specs.Outcome.{Outcome, refuses}
 use Rattle.region.specs.Exact.{exactOf, exactRead}
 use Rattle.region.specs.Dependence.{exact-alike}
 use Rattle.checker.specs.Accepts.{recordAt, Accepts}
@@ -86,7 +87,7 @@ pub tables-agree : (f t u : List ℕ) (n m : ℕ) → TableOf f t n → TableOf 
 unfolding exactRead
 tables-agree f t u n m x y r a e out =
     let q : m ≡ n = y .rows ∙ sym (x .rows) in
-    rw q (ap (λ (o : Outcome). cond (overLimit (length f)) (refuses TooLong out) o) (held-alike f t u n x (rw q at y) r a e out))
+    rw q (ap (λ (o : Outcome Written). cond (overLimit (length f)) (refuses TooLong out) o) (held-alike f t u n x (rw q at y) r a e out))
 
 -- R56 of docs/RULES.md: two indexes accepted for one file give equal exact reads, for every row, bounds and output
 pub indexes-agree : (f i j t t′ u u′ : List ℕ) (told said : Filled) → Accepts f i → Accepts f j

@@ -11,7 +11,8 @@ use Rattle.index.specs.declared.Found.{Found}
 use Rattle.index.specs.declared.Found.the-variants as found
 use Rattle.index.specs.Find.{rowRead}
 use Rattle.region.specs.declared.Bound.{Bound}
-use Rattle.region.specs.Region.{Outcome, refuses}
+use Rattle.output.specs.declared.Written.{Written}
+use Rattle.output.specs.Outcome.{Outcome, refuses}
 use Rattle.region.specs.Exact.{exactRead}
 use Rattle.region.specs.Raw.{rawRead}
 use Rattle.region.specs.Refusals.{OfLookUp, ReadRefuses}
@@ -21,20 +22,20 @@ unfoldable pub rowFor : ℕ → List ℕ → List ℕ → ℕ → List ℕ → F
 rowFor bytes names t u name = cond (overLimit bytes) (found.Refused TooLong) (rowRead names t u name)
 
 -- the row that is found is read
-unfoldable pub readFound : Found → (ℕ → Outcome) → List ℕ → Outcome
+unfoldable pub readFound : Found → (ℕ → Outcome Written) → List ℕ → Outcome Written
 readFound (found.Refused f) read out = refuses f out
 readFound (found.Row r) read out = read r
 
 -- the exact read, and the raw read, of the row that has a name
-unfoldable pub exactNamed : List ℕ → List ℕ → List ℕ → ℕ → List ℕ → Bound → Bound → List ℕ → Outcome
+unfoldable pub exactNamed : List ℕ → List ℕ → List ℕ → ℕ → List ℕ → Bound → Bound → List ℕ → Outcome Written
 exactNamed s names t u name a e out = readFound (rowFor (length s) names t u name) (λ r. exactRead s t u r a e out) out
 
-unfoldable pub rawNamed : List ℕ → List ℕ → List ℕ → ℕ → List ℕ → Bound → Bound → List ℕ → Outcome
+unfoldable pub rawNamed : List ℕ → List ℕ → List ℕ → ℕ → List ℕ → Bound → Bound → List ℕ → Outcome Written
 rawNamed s names t u name a e out = readFound (rowFor (length s) names t u name) (λ r. rawRead s t u r a e out) out
 
 -- one call's outcome is what two calls come to: a refusal of the first is its answer, and leaves the output as it was; else it is that of the
 -- second, for the row that the first gives. Each has its own refusals
-pub record Split (one : Outcome) (first : Found) (second : ℕ → Outcome) (out : List ℕ) : Type 0 where
+pub record Split (one : Outcome Written) (first : Found) (second : ℕ → Outcome Written) (out : List ℕ) : Type 0 where
   pub refused : (f : Refusal) → first ≡ found.Refused f → OfLookUp f × (one ≡ refuses f out)
   pub read : (r : ℕ) → first ≡ found.Row r → (one ≡ second r) × ReadRefuses (second r)
 

@@ -12,44 +12,45 @@ use Rattle.record.specs.declared.Held.{Held}
 use Rattle.record.specs.declared.Held.the-variants as held
 use Rattle.record.specs.Place.{placeIn}
 use Rattle.region.specs.declared.Bound.{Bound}
-use Rattle.region.specs.declared.RegionRead.{RegionRead}
-use Rattle.region.specs.declared.RegionRead.the-variants.{Bytes, Refused}
-use Rattle.region.specs.Region.{Outcome, leaves, startOf, endOf}
+use Rattle.output.specs.declared.Written.{Written}
+use Rattle.output.specs.declared.Written.the-variants.{Bytes, Refused}
+use Rattle.output.specs.Outcome.{Outcome, leaves}
+use Rattle.region.specs.Region.{startOf, endOf}
 use Rattle.region.specs.Exact.{exactOf}
 use Rattle.region.specs.Inside.{length-offsets}
 use Rattle.region.specs.Laws.{good-bounds}
 use Rattle.region.specs.Dependence.{regionOffsets, regionCount, InRegion, map-same, offset-at, exact-reads, Refusing, Reading, exact-either}
 
-abbrev changed : RegionRead → List ℕ → ℕ → ℕ → Outcome
+abbrev changed : Written → List ℕ → ℕ → ℕ → Outcome Written
 changed (Bytes n) out q b = leaves (Bytes n) (set out q b)
 changed (Refused f) out q b = leaves (Refused f) out
 
 -- what a read leaves, with byte number q of what it gave replaced; a refusal stays as it is
-unfoldable pub changedAt : ℕ → ℕ → Outcome → Outcome
+unfoldable pub changedAt : ℕ → ℕ → Outcome Written → Outcome Written
 changedAt q b o = changed (o .answer) (o .output) q b
 
 -- its answer and every other byte of its output are the same
-pub changed-answer : (q b : ℕ) (o : Outcome) → changedAt q b o .answer ≡ o .answer
+pub changed-answer : (q b : ℕ) (o : Outcome Written) → changedAt q b o .answer ≡ o .answer
 unfolding changedAt
 changed-answer q b o = go (o .answer)
   where
-    go : (r : RegionRead) → changed r (o .output) q b .answer ≡ r
+    go : (r : Written) → changed r (o .output) q b .answer ≡ r
     go (Bytes n) = refl
     go (Refused f) = refl
 
-pub changed-length : (q b : ℕ) (o : Outcome) → length (changedAt q b o .output) ≡ length (o .output)
+pub changed-length : (q b : ℕ) (o : Outcome Written) → length (changedAt q b o .output) ≡ length (o .output)
 unfolding changedAt
 changed-length q b o = go (o .answer)
   where
-    go : (r : RegionRead) → length (changed r (o .output) q b .output) ≡ length (o .output)
+    go : (r : Written) → length (changed r (o .output) q b .output) ≡ length (o .output)
     go (Bytes n) = length-set (o .output) q b
     go (Refused f) = refl
 
-pub changed-other : (q b : ℕ) (o : Outcome) (p : ℕ) → p ≢ q → getD (changedAt q b o .output) p 0 ≡ getD (o .output) p 0
+pub changed-other : (q b : ℕ) (o : Outcome Written) (p : ℕ) → p ≢ q → getD (changedAt q b o .output) p 0 ≡ getD (o .output) p 0
 unfolding changedAt
 changed-other q b o p n = go (o .answer)
   where
-    go : (r : RegionRead) → getD (changed r (o .output) q b .output) p 0 ≡ getD (o .output) p 0
+    go : (r : Written) → getD (changed r (o .output) q b .output) p 0 ≡ getD (o .output) p 0
     go (Bytes k) = getD-set-other (o .output) q p b 0 n
     go (Refused f) = refl
 

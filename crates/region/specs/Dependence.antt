@@ -19,8 +19,10 @@ use Rattle.record.specs.Place.{placeIn}
 use Rattle.record.specs.Laws.{getD-places}
 use Rattle.region.specs.declared.Bound.{Bound}
 use Rattle.region.specs.declared.Bound.the-variants.{Given}
-use Rattle.region.specs.declared.RegionRead.the-variants.{Bytes, Refused}
-use Rattle.region.specs.Region.{Outcome, leaves, refuses, isZero, crossed, badBounds, boundedRow, startOf, endOf, basesTo}
+use Rattle.output.specs.declared.Written.the-variants.{Bytes, Refused}
+use Rattle.output.specs.declared.Written.{Written}
+use Rattle.output.specs.Outcome.{Outcome, leaves, refuses}
+use Rattle.region.specs.Region.{isZero, crossed, badBounds, boundedRow, startOf, endOf, basesTo}
 use Rattle.region.specs.Exact.{offsetsOf, inFile, pastLength, bytesAt, basesFrom, regionOf, exactIn, exactOf}
 use Rattle.region.specs.Inside.{length-offsets, inside-each, inside-every}
 use Rattle.region.specs.Laws.{good-bounds, within-length, past-none, bases-read, region-within}
@@ -121,10 +123,10 @@ module _ (bytes : ℕ) (x : Record) (a e : Bound) (out : List ℕ) (b : badBound
     where
       go : (p : Bool) → pastLength (x .length) (startOf a) (endOf (x .length) e) ≡ p → (r : Bool) → ltb (length out) (regionCount x a e) ≡ r
           → (i : Bool) → ltb (inFile bytes (regionOffsets x a e)) (length (regionOffsets x a e)) ≡ i → Refusing bytes (held.Row x) a e out ⊎ Reading bytes (held.Row x) a e out
-      go true hp r hr i hi = inl (record { refusal = PastLength (x .length); always = λ byte. exact-region bytes byte x a e out b ∙ (unfold regionOf refuses in rw hp) })
-      go false hp true hr i hi = inl (record { refusal = NoRoom (regionCount x a e); always = λ byte. exact-region bytes byte x a e out b ∙ (unfold regionOf basesFrom refuses in rw (hp, hr)) })
+      go true hp r hr i hi = inl (record { refusal = PastLength (x .length); always = λ byte. exact-region bytes byte x a e out b ∙ (unfold regionOf in rw hp) })
+      go false hp true hr i hi = inl (record { refusal = NoRoom (regionCount x a e); always = λ byte. exact-region bytes byte x a e out b ∙ (unfold regionOf basesFrom in rw (hp, hr)) })
       go false hp false hr true hi =
-          inl (record { refusal = NotInFile (startOf a + inFile bytes (regionOffsets x a e)); always = λ byte. exact-region bytes byte x a e out b ∙ (unfold regionOf basesFrom bytesAt refuses in rw (hp, hr, hi)) })
+          inl (record { refusal = NotInFile (startOf a + inFile bytes (regionOffsets x a e)); always = λ byte. exact-region bytes byte x a e out b ∙ (unfold regionOf basesFrom bytesAt in rw (hp, hr, hi)) })
       go false hp false hr false hi =
           let w = within-length _ _ _ hp in
           let g = good-bounds a e (x .length) b in
@@ -144,8 +146,8 @@ pub exact-either : (bytes : ℕ) (h : Held) (a e : Bound) (out : List ℕ) → R
 exact-either bytes h a e out = go (badBounds a e) refl h
   where
     go : (t : Bool) → badBounds a e ≡ t → (h : Held) → Refusing bytes h a e out ⊎ Reading bytes h a e out
-    go true b h = inl (record { refusal = BadBounds; always = λ byte. unfold exactOf exactIn boundedRow refuses in rw b })
-    go false b (held.Refused f) = inl (record { refusal = f; always = λ byte. unfold exactOf exactIn boundedRow refuses in rw b })
+    go true b h = inl (record { refusal = BadBounds; always = λ byte. unfold exactOf exactIn boundedRow in rw b })
+    go false b (held.Refused f) = inl (record { refusal = f; always = λ byte. unfold exactOf exactIn boundedRow in rw b })
     go false b (held.Row x) = row-either bytes x a e out b
 
 -- what is known of a read that gave k bytes
@@ -165,20 +167,20 @@ module _ (bytes : ℕ) (h : Held) (a e : Bound) (out : List ℕ) where
     where
       none : Refusing bytes h a e out → ReadAs bytes byte h a e out k
       none r =
-          let n : Refused (r .refusal) ≡ Bytes k = sym (ap (λ (o : Outcome). o .answer) (r .always byte)) ∙ q in
+          let n : Refused (r .refusal) ≡ Bytes k = sym (ap (λ (o : Outcome Written). o .answer) (r .always byte)) ∙ q in
           let z : _≡_ {A = ℕ} 0 1 = cc in
           absurd (omega arith)
 
       some : Reading bytes h a e out → ReadAs bytes byte h a e out k
       some r =
           let w = ap (λ (y : Held). exactOf bytes byte y a e out) (r .holds) ∙ exact-reads bytes byte (r .row) a e out (r .readable) in
-          let n : k ≡ regionCount (r .row) a e = bytes-same (sym q ∙ ap (λ (o : Outcome). o .answer) w) in
-          record { row = r .row; holds = r .holds; readable = r .readable; count = n; output = rw n (ap (λ (o : Outcome). o .output) w) }
+          let n : k ≡ regionCount (r .row) a e = bytes-same (sym q ∙ ap (λ (o : Outcome Written). o .answer) w) in
+          record { row = r .row; holds = r .holds; readable = r .readable; count = n; output = rw n (ap (λ (o : Outcome Written). o .output) w) }
 
   module _ (f g : ℕ → ℕ) where
     -- the answer does not depend on the bytes
     pub exact-answer : exactOf bytes f h a e out .answer ≡ exactOf bytes g h a e out .answer
-    exact-answer = ⊎-elim (λ r. ap (λ (o : Outcome). o .answer) (r .always f ∙ sym (r .always g))) some (exact-either bytes h a e out)
+    exact-answer = ⊎-elim (λ r. ap (λ (o : Outcome Written). o .answer) (r .always f ∙ sym (r .always g))) some (exact-either bytes h a e out)
       where
         some : Reading bytes h a e out → exactOf bytes f h a e out .answer ≡ exactOf bytes g h a e out .answer
         some r = rw (r .holds, exact-reads bytes f (r .row) a e out (r .readable), exact-reads bytes g (r .row) a e out (r .readable))

@@ -14,7 +14,9 @@ use Rattle.record.specs.Place.{placesFrom}
 use Rattle.record.specs.Bases.{byteAt}
 use Rattle.record.specs.Row.{heldAt}
 use Rattle.region.specs.declared.Bound.{Bound}
-use Rattle.region.specs.Region.{Outcome, refuses, gives, boundedRow, startOf, endOf, basesTo}
+use Rattle.output.specs.declared.Written.{Written}
+use Rattle.output.specs.Outcome.{Outcome, refuses, gives}
+use Rattle.region.specs.Region.{boundedRow, startOf, endOf, basesTo}
 
 -- the offsets of n bases of a record, the first of which is base a
 abbrev pub offsetsOf : Record → ℕ → ℕ → List ℕ
@@ -30,28 +32,28 @@ unfoldable pub pastLength : ℕ → ℕ → ℕ → Bool
 pastLength bases a e = ltb bases a || ltb bases e
 
 -- the bytes at some offsets: 18 with the first base that is not in the file, where base a has the first of the offsets
-unfoldable pub bytesAt : ℕ → (ℕ → ℕ) → ℕ → List ℕ → List ℕ → Outcome
+unfoldable pub bytesAt : ℕ → (ℕ → ℕ) → ℕ → List ℕ → List ℕ → Outcome Written
 bytesAt bytes byte a os out =
     cond (ltb (inFile bytes os) (length os)) (refuses (NotInFile (a + inFile bytes os)) out) (gives (map byte os) out)
 
 -- n bases of a record from base a on: 14, then 18
-unfoldable pub basesFrom : ℕ → (ℕ → ℕ) → Record → ℕ → ℕ → List ℕ → Outcome
+unfoldable pub basesFrom : ℕ → (ℕ → ℕ) → Record → ℕ → ℕ → List ℕ → Outcome Written
 basesFrom bytes byte x a n out = cond (ltb (length out) n) (refuses (NoRoom n) out) (bytesAt bytes byte a (offsetsOf x a n) out)
 
 -- the bases from a to e of a record: 17 first
-unfoldable pub regionOf : ℕ → (ℕ → ℕ) → Record → ℕ → ℕ → List ℕ → Outcome
+unfoldable pub regionOf : ℕ → (ℕ → ℕ) → Record → ℕ → ℕ → List ℕ → Outcome Written
 regionOf bytes byte x a e out =
     cond (pastLength (x .length) a e) (refuses (PastLength (x .length)) out) (basesFrom bytes byte x a (basesTo a e) out)
 
 -- the region of a row, if there is one
-unfoldable pub exactIn : ℕ → (ℕ → ℕ) → Held → Bound → Bound → List ℕ → Outcome
+unfoldable pub exactIn : ℕ → (ℕ → ℕ) → Held → Bound → Bound → List ℕ → Outcome Written
 exactIn bytes byte (held.Refused f) a e out = refuses f out
 exactIn bytes byte (held.Row x) a e out = regionOf bytes byte x (startOf a) (endOf (x .length) e) out
 
 -- the exact read of a file of so many bytes, by the byte at an offset: 16, then 25, then the rest
-unfoldable pub exactOf : ℕ → (ℕ → ℕ) → Held → Bound → Bound → List ℕ → Outcome
+unfoldable pub exactOf : ℕ → (ℕ → ℕ) → Held → Bound → Bound → List ℕ → Outcome Written
 exactOf bytes byte h a e out = exactIn bytes byte (boundedRow a e h) a e out
 
 -- the exact read of row r of a table with u rows in use: 1 first
-unfoldable pub exactRead : List ℕ → List ℕ → ℕ → ℕ → Bound → Bound → List ℕ → Outcome
+unfoldable pub exactRead : List ℕ → List ℕ → ℕ → ℕ → Bound → Bound → List ℕ → Outcome Written
 exactRead s t u r a e out = cond (overLimit (length s)) (refuses TooLong out) (exactOf (length s) (byteAt s) (heldAt t u r) a e out)

@@ -11,10 +11,11 @@ use Rattle.refusal.specs.declared.Refusal.{Refusal}
 use Rattle.refusal.specs.declared.Refusal.the-variants.{NoRoom, PastLength, NotInFile}
 use Rattle.record.specs.declared.Record.{Record}
 use Rattle.record.specs.Place.{placeIn}
-use Rattle.region.specs.declared.RegionRead.the-variants.{Bytes, Refused}
+use Rattle.output.specs.declared.Written.the-variants.{Bytes, Refused}
 use Rattle.region.specs.declared.exact.Judged.{Judged}
 use Rattle.region.specs.declared.exact.Judged.the-variants as judged
-use Rattle.region.specs.Region.{leaves, basesTo}
+use Rattle.output.specs.Outcome.{leaves}
+use Rattle.region.specs.Region.{basesTo}
 use Rattle.region.specs.Exact.{offsetsOf, inFile, pastLength, basesFrom, regionOf}
 use Rattle.region.specs.Inside.{length-offsets, inside-le}
 use Rattle.region.specs.Copy.{Starts}

@@ -21,14 +21,15 @@ use Rattle.record.specs.Row.{heldAt}
 use Rattle.sequence.specs.declared.SequenceRead.{SequenceRead}
 use Rattle.sequence.specs.declared.SequenceRead.the-variants as scanned
 use Rattle.sequence.specs.Scan.{Scan, scanAt, scanAll}
-use Rattle.sequence.specs.Read.{Left, leaves as scanned-leaves, written, poured, scanInto}
+use Rattle.output.specs.Outcome.{Outcome, leaves, refuses, gives, pours}
+use Rattle.sequence.specs.Read.{written, poured, scanInto}
 use Rattle.region.specs.declared.Bound.{Bound}
 use Rattle.region.specs.declared.Bound.the-variants.{Given, Absent}
-use Rattle.region.specs.declared.RegionRead.{RegionRead}
-use Rattle.region.specs.declared.RegionRead.the-variants.{Bytes, Refused}
-use Rattle.region.specs.Region.{Outcome, leaves, refuses, gives, isZero, crossed, badBounds, boundedRow, startOf, endOf, basesTo}
+use Rattle.output.specs.declared.Written.{Written}
+use Rattle.output.specs.declared.Written.the-variants.{Bytes, Refused}
+use Rattle.region.specs.Region.{isZero, crossed, badBounds, boundedRow, startOf, endOf, basesTo}
 use Rattle.region.specs.Exact.{offsetsOf, inFile, pastLength, bytesAt, basesFrom, regionOf, exactIn, exactOf, exactRead}
-use Rattle.region.specs.Raw.{scanTo, pours, rawAt, rawOf, rawIn, rawRead}
+use Rattle.region.specs.Raw.{scanTo, rawAt, rawOf, rawIn, rawRead}
 use Rattle.region.specs.Inside.{length-offsets}
 
 -- ---- bounds
@@ -84,21 +85,21 @@ past-none bases a e h k = rw (le-ltb _ _ h, le-ltb _ _ k)
 module _ (bytes : ℕ) (byte : ℕ → ℕ) where
   module _ (x : Record) (a n : ℕ) (out : List ℕ) where
     pub bases-no-room : length out < n → leaves (Refused (NoRoom n)) out ≡ basesFrom bytes byte x a n out
-    unfolding basesFrom refuses
+    unfolding basesFrom
     bases-no-room h = rw (lt-ltb _ _ h)
 
     module _ (room : n ≤ length out) (k : ℕ) (e : k ≡ inFile bytes (offsetsOf x a n)) where
       pub bases-outside : k < n → leaves (Refused (NotInFile (a + k))) out ≡ basesFrom bytes byte x a n out
-      unfolding basesFrom bytesAt refuses
+      unfolding basesFrom bytesAt
       bases-outside h = rw (le-ltb _ _ room, length-offsets x a n, ← e, lt-ltb _ _ h)
 
       pub bases-read : n ≤ k → leaves (Bytes n) (map byte (offsetsOf x a n) ++ drop n out) ≡ basesFrom bytes byte x a n out
-      unfolding basesFrom bytesAt gives
+      unfolding basesFrom bytesAt
       bases-read h = rw (le-ltb _ _ room, length-offsets x a n, ← e, le-ltb _ _ h, length-map (offsetsOf x a n) byte, length-offsets x a n)
 
   module _ (x : Record) (a e : ℕ) (out : List ℕ) where
     pub region-past : pastLength (x .length) a e ≡ true → leaves (Refused (PastLength (x .length))) out ≡ regionOf bytes byte x a e out
-    unfolding regionOf refuses
+    unfolding regionOf
     region-past h = rw h
 
     pub region-within : pastLength (x .length) a e ≡ false → basesFrom bytes byte x a (basesTo a e) out ≡ regionOf bytes byte x a e out
@@ -107,7 +108,7 @@ module _ (bytes : ℕ) (byte : ℕ → ℕ) where
 
 module _ (s t : List ℕ) (u r : ℕ) (a e : Bound) (out : List ℕ) where
   pub exact-long : overLimit (length s) ≡ true → leaves (Refused TooLong) out ≡ exactRead s t u r a e out
-  unfolding exactRead refuses
+  unfolding exactRead
   exact-long h = rw h
 
   module _ (h : overLimit (length s) ≡ false) where
@@ -117,7 +118,7 @@ module _ (s t : List ℕ) (u r : ℕ) (a e : Bound) (out : List ℕ) where
     exact-within = rw h
 
     pub exact-refused : (f : Refusal) → boundedRow a e (heldAt t u r) ≡ held.Refused f → leaves (Refused f) out ≡ exactRead s t u r a e out
-    unfolding exactRead exactOf exactIn refuses
+    unfolding exactRead exactOf exactIn
     exact-refused f q = rw (h, q)
 
     pub exact-row : (x : Record) → boundedRow a e (heldAt t u r) ≡ held.Row x → regionOf (length s) (byteAt s) x (startOf a) (endOf (x .length) e) out ≡ exactRead s t u r a e out
@@ -137,11 +138,11 @@ scan-limit s at a (Given e) = refl
 scan-limit s at a Absent = refl
 
 -- what a scan leaves, as a region's read
-abbrev pub regionRead : SequenceRead → RegionRead
+abbrev pub regionRead : SequenceRead → Written
 regionRead (scanned.Bases n next) = Bytes n
 regionRead (scanned.Refused f) = Refused f
 
-abbrev pub regionLeft : Left → Outcome
+abbrev pub regionLeft : Outcome SequenceRead → Outcome Written
 regionLeft l = leaves (regionRead (l .answer)) (l .output)
 
 left-poured : (c : Scan) (out : List ℕ) → regionLeft (poured c out) ≡ pours (c .bases) out
@@ -149,19 +150,19 @@ unfolding poured pours
 left-poured c out = go (leb (length (c .bases)) (length out)) refl
   where
     go : (t : Bool) → leb (length (c .bases)) (length out) ≡ t
-        → regionLeft (cond t (written c out) (scanned-leaves (scanned.Refused (NoRoom (length (c .bases)))) out))
+        → regionLeft (cond t (written c out) (leaves (scanned.Refused (NoRoom (length (c .bases)))) out))
         ≡ cond (ltb (length out) (length (c .bases))) (refuses (NoRoom (length (c .bases))) out) (gives (c .bases) out)
-    go true h = unfold written gives in rw (le-ltb _ _ (leb-true _ _ h))
-    go false h = unfold refuses in rw (lt-ltb _ _ (leb-false _ _ h))
+    go true h = unfold written in rw (le-ltb _ _ (leb-true _ _ h))
+    go false h = rw (lt-ltb _ _ (leb-false _ _ h))
 
 module _ (s : List ℕ) (at a : ℕ) (e : Bound) (before out : List ℕ) where
-  pub scan-read : (r : SequenceRead) → scanned-leaves r out ≡ scanInto s (limitOf (length s) a e) at before → leaves (regionRead r) out ≡ pours (scanTo s at a e .bases) before
+  pub scan-read : (r : SequenceRead) → leaves r out ≡ scanInto s (limitOf (length s) a e) at before → leaves (regionRead r) out ≡ pours (scanTo s at a e .bases) before
   unfolding scanInto
   scan-read r h = ap regionLeft h ∙ left-poured (scanAt s (limitOf (length s) a e) at) before ∙ ap (λ (c : Scan). pours (c .bases) before) (scan-limit s at a e)
 
 module _ (s : List ℕ) (x : Record) (a : ℕ) (e : Bound) (out : List ℕ) where
   pub raw-nowhere : addressOf x (record { 0 = a }) ≡ Nowhere → leaves (Refused (NotInFile a)) out ≡ rawAt s (addressOf x (record { 0 = a })) a e out
-  unfolding rawAt refuses
+  unfolding rawAt
   raw-nowhere h = rw h
 
   pub raw-at : (o : Offset) → addressOf x (record { 0 = a }) ≡ At o → pours (scanTo s (o .0) a e .bases) out ≡ rawAt s (addressOf x (record { 0 = a })) a e out
@@ -170,12 +171,12 @@ module _ (s : List ℕ) (x : Record) (a : ℕ) (e : Bound) (out : List ℕ) wher
 
 module _ (s t : List ℕ) (u r : ℕ) (a e : Bound) (out : List ℕ) where
   pub raw-long : overLimit (length s) ≡ true → leaves (Refused TooLong) out ≡ rawRead s t u r a e out
-  unfolding rawRead refuses
+  unfolding rawRead
   raw-long h = rw h
 
   module _ (h : overLimit (length s) ≡ false) where
     pub raw-refused : (f : Refusal) → boundedRow a e (heldAt t u r) ≡ held.Refused f → leaves (Refused f) out ≡ rawRead s t u r a e out
-    unfolding rawRead rawOf rawIn refuses
+    unfolding rawRead rawOf rawIn
     raw-refused f q = rw (h, q)
 
     pub raw-row : (x : Record) → boundedRow a e (heldAt t u r) ≡ held.Row x → rawAt s (addressOf x (record { 0 = startOf a })) (startOf a) e out ≡ rawRead s t u r a e out

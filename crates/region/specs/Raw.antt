@@ -4,9 +4,8 @@ use Prim.Native.Nat.{ℕ}
 use mathlib.Core.List.{List}
 use mathlib.Core.Bool.{cond}
 use lib.ListN.{length}
-use lib.Dec.{ltb}
 use Rattle.refusal.specs.Numbers.{overLimit}
-use Rattle.refusal.specs.declared.Refusal.the-variants.{TooLong, NoRoom, NotInFile}
+use Rattle.refusal.specs.declared.Refusal.the-variants.{TooLong, NotInFile}
 use Rattle.record.specs.declared.Address.{Address}
 use Rattle.record.specs.declared.Address.the-variants.{At, Nowhere}
 use Rattle.record.specs.declared.Held.{Held}
@@ -16,31 +15,29 @@ use Rattle.record.specs.Row.{heldAt}
 use Rattle.sequence.specs.Scan.{Scan, scanAt, scanAll}
 use Rattle.region.specs.declared.Bound.{Bound}
 use Rattle.region.specs.declared.Bound.the-variants.{Given, Absent}
-use Rattle.region.specs.Region.{Outcome, refuses, gives, boundedRow, startOf, basesTo}
+use Rattle.output.specs.declared.Written.{Written}
+use Rattle.output.specs.Outcome.{Outcome, refuses, pours}
+use Rattle.region.specs.Region.{boundedRow, startOf, basesTo}
 
 -- the scan from an offset, which is that of base a, up to the end; without a limit where the end is absent
 unfoldable pub scanTo : List ℕ → ℕ → ℕ → Bound → Scan
 scanTo s at a (Given e) = scanAt s (basesTo a (e .0)) at
 scanTo s at a Absent = scanAll s at
 
--- some bases at the front of the output: 14 with how many they are
-unfoldable pub pours : List ℕ → List ℕ → Outcome
-pours bs out = cond (ltb (length out) (length bs)) (refuses (NoRoom (length bs)) out) (gives bs out)
-
 -- the scan from where base a lies: 18 where no offset of 64 bits is its own
-unfoldable pub rawAt : List ℕ → Address → ℕ → Bound → List ℕ → Outcome
+unfoldable pub rawAt : List ℕ → Address → ℕ → Bound → List ℕ → Outcome Written
 rawAt s Nowhere a e out = refuses (NotInFile a) out
 rawAt s (At o) a e out = pours (scanTo s (o .0) a e .bases) out
 
 -- the scan of a row, if there is one
-unfoldable pub rawIn : List ℕ → Held → Bound → Bound → List ℕ → Outcome
+unfoldable pub rawIn : List ℕ → Held → Bound → Bound → List ℕ → Outcome Written
 rawIn s (held.Refused f) a e out = refuses f out
 rawIn s (held.Row x) a e out = rawAt s (addressOf x (record { 0 = startOf a })) (startOf a) e out
 
 -- the raw read: 16, then 25, then the rest
-unfoldable pub rawOf : List ℕ → Held → Bound → Bound → List ℕ → Outcome
+unfoldable pub rawOf : List ℕ → Held → Bound → Bound → List ℕ → Outcome Written
 rawOf s h a e out = rawIn s (boundedRow a e h) a e out
 
 -- the raw read of row r of a table with u rows in use: 1 first
-unfoldable pub rawRead : List ℕ → List ℕ → ℕ → ℕ → Bound → Bound → List ℕ → Outcome
+unfoldable pub rawRead : List ℕ → List ℕ → ℕ → ℕ → Bound → Bound → List ℕ → Outcome Written
 rawRead s t u r a e out = cond (overLimit (length s)) (refuses TooLong out) (rawOf s (heldAt t u r) a e out)

@@ -21,10 +21,12 @@ use Rattle.record.specs.Row.{rowCount, rowAt, badRow, soundRow, heldAt, namedIn
 use Rattle.index.specs.declared.Found.the-variants as found
 use Rattle.index.specs.Find.{named, judged, rowFrom, rowNamed, rowRead}
 use Rattle.region.specs.declared.Bound.{Bound}
-use Rattle.region.specs.declared.RegionRead.the-variants.{Refused}
-use Rattle.region.specs.Region.{Outcome, refuses, gives, badBounds, boundedRow, startOf, endOf, basesTo}
+use Rattle.output.specs.declared.Written.the-variants.{Refused}
+use Rattle.output.specs.declared.Written.{Written}
+use Rattle.output.specs.Outcome.{Outcome, refuses, gives, pours}
+use Rattle.region.specs.Region.{badBounds, boundedRow, startOf, endOf, basesTo}
 use Rattle.region.specs.Exact.{offsetsOf, inFile, pastLength, bytesAt, basesFrom, regionOf, exactIn, exactOf, exactRead}
-use Rattle.region.specs.Raw.{scanTo, pours, rawAt, rawIn, rawOf, rawRead}
+use Rattle.region.specs.Raw.{scanTo, rawAt, rawIn, rawOf, rawRead}
 
 -- the refusals of looking up: 25, 15
 pub data OfLookUp : Refusal → Type 0 where
@@ -39,7 +41,7 @@ pub data OfRead : Refusal → Type 0 where
   not-in-file : (base : ℕ) → OfRead (NotInFile base)
 
 -- whatever an outcome refuses is one of these
-abbrev pub ReadRefuses : Outcome → Type 0
+abbrev pub ReadRefuses : Outcome Written → Type 0
 ReadRefuses o = (f : Refusal) → o .answer ≡ Refused f → OfRead f
 
 -- ---- looking up
@@ -93,14 +95,12 @@ module _ (names t : List ℕ) (n : ℕ) (name : List ℕ) (f : Refusal) where
 -- ---- reading a sound row
 
 by-refusal : (g : Refusal) (out : List ℕ) → OfRead g → ReadRefuses (refuses g out)
-unfolding refuses
 by-refusal g out p f q = let e : g ≡ f = cc in rw (← e) p
 
 by-bytes : (bs out : List ℕ) → ReadRefuses (gives bs out)
-unfolding gives
 by-bytes bs out f q = let z : _≡_ {A = ℕ} 0 1 = cc in absurd (omega arith)
 
-by-test : (b : Bool) (o p : Outcome) → ReadRefuses o → ReadRefuses p → ReadRefuses (cond b o p)
+by-test : (b : Bool) (o p : Outcome Written) → ReadRefuses o → ReadRefuses p → ReadRefuses (cond b o p)
 by-test true o p h k = h
 by-test false o p h k = k
 

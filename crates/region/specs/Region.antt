@@ -1,37 +1,12 @@
--- What every read of a region has in common: its bounds, what it leaves, and the refusals of the bounds.
+-- What every read of a region has in common: its bounds, and the refusals of the bounds.
 use Prim.Native.Nat.{ℕ, _+_, _-_}
-use mathlib.Core.List.{List, _++_}
 use mathlib.Core.Bool.{Bool, false, cond, _||_}
-use lib.ListN.{length, drop}
 use lib.Dec.{eqb, ltb}
-use Rattle.refusal.specs.declared.Refusal.{Refusal}
 use Rattle.refusal.specs.declared.Refusal.the-variants.{BadBounds}
 use Rattle.record.specs.declared.Held.{Held}
 use Rattle.record.specs.declared.Held.the-variants as held
 use Rattle.region.specs.declared.Bound.{Bound}
 use Rattle.region.specs.declared.Bound.the-variants.{Given, Absent}
-use Rattle.region.specs.declared.RegionRead.{RegionRead}
-use Rattle.region.specs.declared.RegionRead.the-variants.{Bytes, Refused}
-
--- ---- what a read leaves
-
--- an answer, and the output afterwards
-pub record Outcome : Type 0 where
-  pub answer : RegionRead
-  pub output : List ℕ
-
-abbrev pub leaves : RegionRead → List ℕ → Outcome
-leaves r out = record { answer = r; output = out }
-
--- refused: the output is as it was
-unfoldable pub refuses : Refusal → List ℕ → Outcome
-refuses f out = leaves (Refused f) out
-
--- some bytes at the front of the output, what was behind them as it was
-unfoldable pub gives : List ℕ → List ℕ → Outcome
-gives bs out = leaves (Bytes (length bs)) (bs ++ drop (length bs) out)
-
--- ---- bounds
 
 -- is a bound given, and 0
 unfoldable pub isZero : Bound → Bool

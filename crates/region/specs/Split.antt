@@ -16,7 +16,7 @@ use Rattle.refusal.specs.declared.Refusal.the-variants.{TooLong, NameUnknown}
 use Rattle.index.specs.declared.Found.the-variants as found
 use Rattle.index.specs.Find.{rowFrom, rowNamed, rowRead}
 use Rattle.region.specs.declared.Bound.{Bound}
-use Rattle.region.specs.Region.{refuses}
+use Rattle.output.specs.Outcome.{refuses}
 use Rattle.region.specs.Exact.{exactRead}
 use Rattle.region.specs.Raw.{rawRead}
 use Rattle.region.specs.Refusals.{exact-refuses, raw-refuses}

@@ -15,7 +15,8 @@ use Rattle.index.specs.declared.Found.the-variants as found
 use Rattle.index.specs.Find.{rowRead}
 use Rattle.index.specs.FirstNamed.{wins-only-if}
 use Rattle.region.specs.declared.Bound.{Bound}
-use Rattle.region.specs.Region.{Outcome, refuses}
+use Rattle.output.specs.declared.Written.{Written}
+use Rattle.output.specs.Outcome.{Outcome, refuses}
 use Rattle.region.specs.Refusals.{ReadRefuses, look-up-refuses}
 use Rattle.region.specs.ByName.{rowFor, readFound, Split, Small}
 
@@ -24,11 +25,11 @@ module _ (s names t : List ℕ) (u : ℕ) (name : List ℕ) (a e : Bound) (out :
   unfolding rowFor
   row-for h = rw h
 
-  read-refused : (d : Found) (second : ℕ → Outcome) (f : Refusal) → d ≡ found.Refused f → readFound d second out ≡ refuses f out
+  read-refused : (d : Found) (second : ℕ → Outcome Written) (f : Refusal) → d ≡ found.Refused f → readFound d second out ≡ refuses f out
   unfolding readFound
   read-refused d second f q = rw q
 
-  read-row : (d : Found) (second : ℕ → Outcome) (r : ℕ) → d ≡ found.Row r → readFound d second out ≡ second r
+  read-row : (d : Found) (second : ℕ → Outcome Written) (r : ℕ) → d ≡ found.Row r → readFound d second out ≡ second r
   unfolding readFound
   read-row d second r q = rw q
 
@@ -37,7 +38,7 @@ module _ (s names t : List ℕ) (u : ℕ) (name : List ℕ) (a e : Bound) (out :
   found-sound r q = let w = wins-only-if names t u name r q .is-first .here in (w .row, named-known t u r (length names) (w .row) (w .sound) .0)
 
   module _ (small : Small s names name) where
-    pub split : (second : ℕ → Outcome) → ((r : ℕ) (x : Record) → heldAt t u r ≡ held.Row x → ReadRefuses (second r))
+    pub split : (second : ℕ → Outcome Written) → ((r : ℕ) (x : Record) → heldAt t u r ≡ held.Row x → ReadRefuses (second r))
         → Split (readFound (rowFor (length s) names t u name) second out) (rowRead names t u name) second out
     split second refuse =
         let same = row-for (small .file) in

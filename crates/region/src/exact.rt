@@ -2,8 +2,8 @@
 // copied. Room is judged before places, so no walk is longer than the output. Where offsets never go back one place is judged, and a
 // copy goes from line to line without the rule.
 use crate::Bound;
-use crate::RegionRead;
 use crate::bounds;
+use output::Written;
 use record::Address;
 use record::Position;
 use record::Record;
@@ -15,7 +15,8 @@ ghost use lib.ListN.{length};
 ghost use lib.Dec.{leb, ltb};
 ghost use Rattle.record.specs.Bases.{byteAt};
 ghost use Rattle.record.specs.Place.{placeIn};
-ghost use Rattle.region.specs.Region.{leaves, badBounds, startOf, endOf, basesTo};
+ghost use Rattle.output.specs.Outcome.{leaves};
+ghost use Rattle.region.specs.Region.{badBounds, startOf, endOf, basesTo};
 ghost use Rattle.region.specs.Exact.{offsetsOf, inFile, regionOf};
 ghost use Rattle.region.specs.Judge.{placesJudged, basesJudged, regionJudged};
 ghost use Rattle.region.specs.Inside.{Addressable};
@@ -217,16 +218,16 @@ pub(crate) fn read_region(
     start: Bound,
     end: Bound,
     out: &mut [u8],
-) -> RegionRead
+) -> Written
     requires { ⌜ (0 < x .«line_bases») × (0 < x .«line_width») × (badBounds start end ≡ false) ⌝ }
     ensures { λ r. ⌜ leaves r (now (out .exit)) ≡ regionOf (length (now (file .entry))) (byteAt (now (file .entry))) x (startOf start) (endOf (x .length) end) (now (out .entry)) ⌝ }
 {
     let judged = judge_region(file.len(), x, start, end, out.len());
     match judged {
-        Judged::Refused(f) => RegionRead::Refused(f),
+        Judged::Refused(f) => Written::Refused(f),
         Judged::Bases { at, run, count } => {
             copy_bases(file, x, at, run, count, out);
-            RegionRead::Bytes(count)
+            Written::Bytes(count)
         }
     }
 }

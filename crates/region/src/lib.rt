@@ -11,13 +11,15 @@ mod bounds;
 mod exact;
 mod raw;
 
+use output::Written;
 use record::Held;
 use record::Position;
 use record::Record;
 use refusal::Refusal;
 ghost use mathlib.Core.Path.{_≡_};
 ghost use Rattle.record.specs.Row.{heldAt};
-ghost use Rattle.region.specs.Region.{leaves, boundedRow};
+ghost use Rattle.output.specs.Outcome.{leaves};
+ghost use Rattle.region.specs.Region.{boundedRow};
 ghost use Rattle.region.specs.Exact.{exactRead};
 ghost use Rattle.region.specs.Raw.{rawRead};
 
@@ -25,12 +27,6 @@ ghost use Rattle.region.specs.Raw.{rawRead};
 pub enum Bound {
     Given(Position),
     Absent,
-}
-
-// How many bytes were read, or why none.
-pub enum RegionRead {
-    Bytes(usize),
-    Refused(Refusal),
 }
 
 // The row that a region is read from, if its bounds are not bad.
@@ -52,15 +48,15 @@ pub fn read_exact(
     start: Bound,
     end: Bound,
     out: &mut [u8],
-) -> RegionRead
+) -> Written
     ensures { λ r. ⌜ leaves r (now (out .exit)) ≡ exactRead (now (file .entry)) (now (table .entry)) «in_use» row start end (now (out .entry)) ⌝ }
 {
     if refusal::over_limit(file.len()) {
-        return RegionRead::Refused(Refusal::TooLong);
+        return Written::Refused(Refusal::TooLong);
     }
     let held = bounded_row(table, in_use, row, start, end);
     match held {
-        Held::Refused(f) => RegionRead::Refused(f),
+        Held::Refused(f) => Written::Refused(f),
         Held::Row(x) => exact::read_region(file, x, start, end, out),
     }
 }
@@ -75,15 +71,15 @@ pub fn read_raw(
     start: Bound,
     end: Bound,
     out: &mut [u8],
-) -> RegionRead
+) -> Written
     ensures { λ r. ⌜ leaves r (now (out .exit)) ≡ rawRead (now (file .entry)) (now (table .entry)) «in_use» row start end (now (out .entry)) ⌝ }
 {
     if refusal::over_limit(file.len()) {
-        return RegionRead::Refused(Refusal::TooLong);
+        return Written::Refused(Refusal::TooLong);
     }
     let held = bounded_row(table, in_use, row, start, end);
     match held {
-        Held::Refused(f) => RegionRead::Refused(f),
+        Held::Refused(f) => Written::Refused(f),
         Held::Row(x) => raw::scan_region(file, x, start, end, out),
     }
 }

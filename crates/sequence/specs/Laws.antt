@@ -15,7 +15,9 @@ use Rattle.lines.specs.Lines.{lines, lineLen, onto, chop, basesOf, begins, seqO
 use Rattle.lines.specs.Sums.{widths-lines}
 use Rattle.lines.specs.Laws.{chop-front, chop-le, bases-front, lines-cut, bases-le, first-within, seqAt-end}
 use Rattle.sequence.specs.Scan.{endsLine, skipped, skipTo, runAt, Scan, nothing, joined, bare, upTo, scanFrom, scanAt, scanAll}
-use Rattle.sequence.specs.Read.{Left, leaves, written}
+use Rattle.sequence.specs.declared.SequenceRead.{SequenceRead}
+use Rattle.output.specs.Outcome.{Outcome, leaves}
+use Rattle.sequence.specs.Read.{written}
 use Rattle.sequence.specs.declared.SequenceRead.the-variants.{Bases}
 
 -- the smaller of two numbers
@@ -311,7 +313,7 @@ piece-full s limit n i h = ap (λ (m : ℕ). scanAt s m i) full ∙ scan-zero s 
 -- ---- what a read leaves
 
 -- a scan's bases written behind n bytes of the output
-unfoldable pub filled : ℕ → List ℕ → Scan → Left
+unfoldable pub filled : ℕ → List ℕ → Scan → Outcome SequenceRead
 filled n out c = leaves (Bases (n + length (c .bases)) (record { at = c .place })) (take n out ++ c .bases ++ drop (n + length (c .bases)) out)
 
 pub filled-start : (out : List ℕ) (c : Scan) → filled 0 out c ≡ written c out

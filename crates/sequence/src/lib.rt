@@ -11,7 +11,8 @@ ghost use mathlib.Core.Path.{_≡_};
 ghost use lib.ListN.{length};
 ghost use lib.Dec.{leb};
 ghost use Rattle.sequence.specs.Scan.{endsLine, skipTo, runAt, scanAt};
-ghost use Rattle.sequence.specs.Read.{leaves, written, scanInto, readLimit, readWhole, readRun};
+ghost use Rattle.output.specs.Outcome.{leaves};
+ghost use Rattle.sequence.specs.Read.{written, scanInto, readLimit, readWhole, readRun};
 ghost use Rattle.sequence.specs.Laws.{pieceAt};
 
 // How many bases were read, and the place that is left: just behind the last of them where as many were given as were wanted, and

@@ -19,8 +19,8 @@ use Rattle.table.specs.declared.Stop.{Stop}
 use Rattle.table.specs.declared.Stop.the-variants as stop
 use Rattle.index_line.specs.declared.LineRead.{LineRead}
 use Rattle.index_line.specs.declared.LineRead.the-variants as read
-use Rattle.index_line.specs.declared.Written.{Written}
-use Rattle.index_line.specs.declared.Written.the-variants as written
+use Rattle.output.specs.declared.Written.{Written}
+use Rattle.output.specs.declared.Written.the-variants as written
 use Rattle.indexer.specs.declared.Indexed.{Indexed}
 use Rattle.indexer.specs.declared.Indexed.the-variants as indexed
 use Rattle.indexer.specs.declared.Step as step
@@ -28,12 +28,8 @@ use Rattle.index.specs.declared.Found.{Found}
 use Rattle.index.specs.declared.Found.the-variants as found
 use Rattle.region.specs.declared.Bound.{Bound}
 use Rattle.region.specs.declared.Bound.the-variants.{Given, Absent}
-use Rattle.region.specs.declared.RegionRead.{RegionRead}
-use Rattle.region.specs.declared.RegionRead.the-variants as region
 use Rattle.checker.specs.declared.Verdict.{Verdict}
 use Rattle.checker.specs.declared.Verdict.the-variants as verdict
-use Rattle.complement.specs.declared.Complemented.{Complemented}
-use Rattle.complement.specs.declared.Complemented.the-variants as complement
 use Rattle.wakeluri.specs.declared.answer.Answer.{Answer}
 use Rattle.wakeluri.specs.declared.answer.DefinitionAnswer.{DefinitionAnswer}
 use Rattle.wakeluri.specs.declared.answer.SpanAnswer.{SpanAnswer}
@@ -102,18 +98,10 @@ rowTold n found next plain x = record {
 
 -- ---- a count and a place
 
--- how many bytes were read, written or complemented; which row was found
-unfoldable pub regionAnswer : RegionRead → Answer
-regionAnswer (region.Bytes n) = answerOf fine n 0
-regionAnswer (region.Refused f) = answerOf (numbersOf f) 0 0
-
+-- how many bytes were written; which row was found
 unfoldable pub writtenAnswer : Written → Answer
 writtenAnswer (written.Bytes n) = answerOf fine n 0
 writtenAnswer (written.Refused f) = answerOf (numbersOf f) 0 0
-
-unfoldable pub complementAnswer : Complemented → Answer
-complementAnswer (complement.Bytes n) = answerOf fine n 0
-complementAnswer (complement.Refused f) = answerOf (numbersOf f) 0 0
 
 unfoldable pub foundAnswer : Found → Answer
 foundAnswer (found.Row r) = answerOf fine r 0

@@ -17,49 +17,36 @@ use Rattle.sequence.specs.declared.SequenceRead.{SequenceRead}
 use Rattle.sequence.specs.declared.RunRead.{RunRead}
 use Rattle.sequence.specs.declared.RunRead.the-variants as run
 use Rattle.sequence.specs.Scan.{runAt}
-use Rattle.sequence.specs.Read as sequence
+use Rattle.sequence.specs.Read.{readRun}
 use Rattle.table.specs.Fill.{Found}
 use Rattle.table.specs.declared.Filled.{Filled}
-use Rattle.index_line.specs.declared.Written.{Written}
-use Rattle.index_line.specs.Fields.{Wrote, wrote}
-use Rattle.region.specs.declared.RegionRead.{RegionRead}
-use Rattle.region.specs.Region.{Outcome, leaves}
-use Rattle.complement.specs.declared.Complemented.{Complemented}
-use Rattle.complement.specs.Complement as complement
+use Rattle.output.specs.declared.Written.{Written}
+use Rattle.output.specs.Outcome.{Outcome, leaves}
 use Rattle.byte_table.specs.Fill.{FilledBytes}
 use Rattle.wakeluri.specs.declared.answer.Answer.{Answer}
-use Rattle.wakeluri.specs.Answer.{regionAnswer, writtenAnswer, complementAnswer, sequenceAnswer, filledAnswer}
-use Rattle.wakeluri.specs.Told.{tells, regionTold, sequenceTold, writtenTold, complementTold, filledTold}
+use Rattle.wakeluri.specs.Answer.{writtenAnswer, sequenceAnswer, filledAnswer}
+use Rattle.wakeluri.specs.Told.{sequenceTold, writtenTold, filledTold}
 
 -- ---- answers with what is left
 
 module _ (a : Answer) (out : List ℕ) where
-  pub region-told : (r : RegionRead) (o : Outcome) → leaves r out ≡ o → a ≡ regionAnswer r → tells a out ≡ regionTold o
-  unfolding regionTold
-  region-told r o e q = rw (← e, q)
-
-  pub sequence-told : (r : SequenceRead) (l : sequence.Left) → sequence.leaves r out ≡ l → a ≡ sequenceAnswer r → tells a out ≡ sequenceTold l
-  unfolding sequenceTold
-  sequence-told r l e q = rw (← e, q)
-
-  pub written-told : (r : Written) (w : Wrote) → wrote r out ≡ w → a ≡ writtenAnswer r → tells a out ≡ writtenTold w
+  pub written-told : (r : Written) (o : Outcome Written) → leaves r out ≡ o → a ≡ writtenAnswer r → leaves a out ≡ writtenTold o
   unfolding writtenTold
-  written-told r w e q = rw (← e, q)
+  written-told r o e q = rw (← e, q)
 
-  pub complement-told : (r : Complemented) (s before : List ℕ) (o : complement.Outcome) → complement.Told s o before out r → a ≡ complementAnswer r
-      → tells a out ≡ complementTold s o before
-  unfolding complementTold
-  complement-told r s before o t q = rw (q, t .answer, t .output)
+  pub sequence-told : (r : SequenceRead) (o : Outcome SequenceRead) → leaves r out ≡ o → a ≡ sequenceAnswer r → leaves a out ≡ sequenceTold o
+  unfolding sequenceTold
+  sequence-told r o e q = rw (← e, q)
 
-  pub filled-told : (r : Filled) (before : List ℕ) (f : Found) → FilledBytes f before out r → a ≡ filledAnswer (r .rows) (r .stop) → tells a out ≡ filledTold f before
+  pub filled-told : (r : Filled) (before : List ℕ) (f : Found) → FilledBytes f before out r → a ≡ filledAnswer (r .rows) (r .stop) → leaves a out ≡ filledTold f before
   unfolding filledTold
   filled-told r before f t q = rw (q, t .filled .rows, t .filled .stop, ← t .filled .table, ← t .bytes)
 
 -- ---- a run
 
 -- a run that is told is the one at the place
-run-told : (s : List ℕ) (c : Cursor) (x : Span) → sequence.readRun s c ≡ run.Run x → x ≡ runAt s (c .at)
-unfolding sequence.readRun
+run-told : (s : List ℕ) (c : Cursor) (x : Span) → readRun s c ≡ run.Run x → x ≡ runAt s (c .at)
+unfolding readRun
 run-told s c x e = go (overLimit (length s)) e
   where
     go : (t : Bool) → cond t (run.Refused TooLong) (run.Run (runAt s (c .at))) ≡ run.Run x → x ≡ runAt s (c .at)
@@ -67,7 +54,7 @@ run-told s c x e = go (overLimit (length s)) e
     go false q = cc
 
 -- it begins at an offset, and ends inside the file where it has bases
-pub run-fits : (s : List ℕ) (c : Cursor) (r : RunRead) (x : Span) → r ≡ sequence.readRun s c → r ≡ run.Run x → length s < 2 ^ 64 → x .start < 2 ^ 64 → x .start + x .length < 2 ^ 64
+pub run-fits : (s : List ℕ) (c : Cursor) (r : RunRead) (x : Span) → r ≡ readRun s c → r ≡ run.Run x → length s < 2 ^ 64 → x .start < 2 ^ 64 → x .start + x .length < 2 ^ 64
 unfolding runAt
 run-fits s c r x e q h m = go (leb (x .start) (length s)) refl
   where

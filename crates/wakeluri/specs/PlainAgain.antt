@@ -9,14 +9,15 @@ use Rattle.index_line.specs.IndexLine.{readLine, writtenAs}
 use Rattle.index_line.specs.PlainAgain.{plain-row}
 use Rattle.byte_table.specs.Numbers.{numbersIn}
 use Rattle.wakeluri.specs.Answer.{fine, answerOf, entryAnswer, writtenAnswer}
-use Rattle.wakeluri.specs.Told.{tells, writtenTold}
+use Rattle.output.specs.Outcome.{leaves}
+use Rattle.wakeluri.specs.Told.{writtenTold}
 use Rattle.wakeluri.specs.Told.{toldRow}
 use Rattle.wakeluri.specs.PlainAgainLaws.{told-plain}
 
 -- the bytes of a table of which n rows are in use, with the told numbers in row r; there is room for the line
 pub plain-again : (line table : List ℕ) (n r : ℕ) (out : List ℕ) → entryAnswer (readLine line) .plain ≡ 1
     → n ≤ rowCount (numbersIn table) → r < n → rowAt (numbersIn table) r ≡ toldRow (entryAnswer (readLine line)) → length line ≤ length out
-    → writtenTold (writtenAs line (numbersIn table) n r out) ≡ tells (answerOf fine (length line) 0) (line ++ drop (length line) out)
+    → writtenTold (writtenAs line (numbersIn table) n r out) ≡ leaves (answerOf fine (length line) 0) (line ++ drop (length line) out)
 unfolding writtenTold writtenAnswer
 plain-again line table n r out h some used row room =
     let x = told-plain line h in

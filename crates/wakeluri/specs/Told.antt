@@ -8,44 +8,27 @@ use Rattle.refusal.specs.Numbers.{numbersOf, overLimit}
 use Rattle.lines.specs.Lines.{readLine}
 use Rattle.record.specs.declared.Record.{Record}
 use Rattle.record.specs.Row.{withRows}
-use Rattle.sequence.specs.Read.{Left}
+use Rattle.output.specs.declared.Written.{Written}
+use Rattle.output.specs.Outcome.{Outcome, leaves}
+use Rattle.sequence.specs.declared.SequenceRead.{SequenceRead}
 use Rattle.table.specs.Fill.{Found}
-use Rattle.index_line.specs.Fields.{Wrote}
-use Rattle.region.specs.Region.{Outcome}
-use Rattle.complement.specs.Complement as complement
 use Rattle.byte_table.specs.Numbers.{numbersIn, withNumbers}
 use Rattle.wakeluri.specs.declared.answer.Answer.{Answer}
 use Rattle.wakeluri.specs.declared.answer.RowAnswer.{RowAnswer}
 use Rattle.wakeluri.specs.declared.answer.SpanAnswer.{SpanAnswer}
-use Rattle.wakeluri.specs.Answer.{noSpan, spanOf, regionAnswer, writtenAnswer, complementAnswer, sequenceAnswer, filledAnswer, lineAnswer}
+use Rattle.wakeluri.specs.Answer.{noSpan, spanOf, writtenAnswer, sequenceAnswer, filledAnswer, lineAnswer}
 
--- an answer, and the lent bytes afterwards
-pub record Told : Type 0 where
-  pub answer : Answer
-  pub bytes : List ℕ
-
-abbrev pub tells : Answer → List ℕ → Told
-tells a bytes = record { answer = a; bytes = bytes }
-
--- a read of a region
-unfoldable pub regionTold : Outcome → Told
-regionTold o = tells (regionAnswer (o .answer)) (o .output)
+-- so many bytes, or a refusal
+unfoldable pub writtenTold : Outcome Written → Outcome Answer
+writtenTold o = leaves (writtenAnswer (o .answer)) (o .output)
 
 -- a read of a sequence
-unfoldable pub sequenceTold : Left → Told
-sequenceTold l = tells (sequenceAnswer (l .answer)) (l .output)
-
--- an index line written
-unfoldable pub writtenTold : Wrote → Told
-writtenTold w = tells (writtenAnswer (w .answer)) (w .out)
-
--- the complement of the bytes s, which come to o
-unfoldable pub complementTold : List ℕ → complement.Outcome → List ℕ → Told
-complementTold s o out = tells (complementAnswer (complement.answerOf (complement.sized s (length out) o))) (complement.outputOf (complement.sized s (length out) o) out)
+unfoldable pub sequenceTold : Outcome SequenceRead → Outcome Answer
+sequenceTold o = leaves (sequenceAnswer (o .answer)) (o .output)
 
 -- a table filled with rows, from its first
-unfoldable pub filledTold : Found → List ℕ → Told
-filledTold f t = tells (filledAnswer (length (f .rows)) (f .stop)) (withNumbers t (withRows (numbersIn t) 0 (f .rows)))
+unfoldable pub filledTold : Found → List ℕ → Outcome Answer
+filledTold f t = leaves (filledAnswer (length (f .rows)) (f .stop)) (withNumbers t (withRows (numbersIn t) 0 (f .rows)))
 
 -- a line read: the size limit first
 unfoldable pub lineTold : List ℕ → ℕ → SpanAnswer

@@ -1,21 +1,19 @@
 // Answers as a host is told them, and each call's answer as one of them.
 use checker::Verdict;
-use complement::Complemented;
 use definition::DefinitionRead;
 use index::Found;
 use index_line::LineRead;
-use index_line::Written;
 use indexer::Indexed;
 use lines::Span;
+use output::Written;
 use record::Offset;
 use record::Record;
 use refusal::Numbers;
-use region::RegionRead;
 use sequence::SequenceRead;
 use table::Filled;
 use table::Stop;
 ghost use mathlib.Core.Path.{_≡_};
-ghost use Rattle.wakeluri.specs.Answer.{fine, noSpan, noRecord, flagOf, answerOf, definitionOf, spanOf, rowTold, regionAnswer, writtenAnswer, complementAnswer, foundAnswer, sequenceAnswer, filledAnswer, verdictAnswer, definitionAnswer, lineAnswer, entryAnswer, stepAnswer};
+ghost use Rattle.wakeluri.specs.Answer.{fine, noSpan, noRecord, flagOf, answerOf, definitionOf, spanOf, rowTold, writtenAnswer, foundAnswer, sequenceAnswer, filledAnswer, verdictAnswer, definitionAnswer, lineAnswer, entryAnswer, stepAnswer};
 
 // A refusal, 0 where there is none; a count (of bytes or of rows, or a row's number), and the place that a read leaves.
 #[repr(C)]
@@ -164,16 +162,6 @@ fn row_answer(n: Numbers, found: u64, next: usize, plain: u64, x: Record) -> Row
     }
 }
 
-// How many bytes were read.
-pub(crate) fn region_answer(r: RegionRead) -> Answer
-    ensures { λ a. ⌜ a ≡ regionAnswer r ⌝ }
-{
-    match r {
-        RegionRead::Bytes(n) => count_answer(fine(), n, 0),
-        RegionRead::Refused(f) => count_answer(f.numbers(), 0, 0),
-    }
-}
-
 // How many bytes were written.
 pub(crate) fn written_answer(r: Written) -> Answer
     ensures { λ a. ⌜ a ≡ writtenAnswer r ⌝ }
@@ -181,16 +169,6 @@ pub(crate) fn written_answer(r: Written) -> Answer
     match r {
         Written::Bytes(n) => count_answer(fine(), n, 0),
         Written::Refused(f) => count_answer(f.numbers(), 0, 0),
-    }
-}
-
-// How many bytes were complemented.
-pub(crate) fn complement_answer(r: Complemented) -> Answer
-    ensures { λ a. ⌜ a ≡ complementAnswer r ⌝ }
-{
-    match r {
-        Complemented::Bytes(n) => count_answer(fine(), n, 0),
-        Complemented::Refused(f) => count_answer(f.numbers(), 0, 0),
     }
 }
 

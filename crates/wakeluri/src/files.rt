@@ -14,7 +14,8 @@ ghost use Rattle.index.specs.Index.{indexIn};
 ghost use Rattle.checker.specs.Check.{checkOf};
 ghost use Rattle.byte_table.specs.Numbers.{numbersIn};
 ghost use Rattle.wakeluri.specs.Answer.{stepAnswer, verdictAnswer};
-ghost use Rattle.wakeluri.specs.Told.{tells, filledTold};
+ghost use Rattle.output.specs.Outcome.{leaves};
+ghost use Rattle.wakeluri.specs.Told.{filledTold};
 
 // The row of the record at an offset, and the offset behind it.
 #[no_mangle]
@@ -27,7 +28,7 @@ pub extern "C" fn wakeluri_index_record(file: &[u8], at: u64) -> RowAnswer
 // A row for each record of a file, by the original's rule, from the table's first on.
 #[no_mangle]
 pub extern "C" fn wakeluri_index_file(file: &[u8], table: &mut [u8]) -> Answer
-    ensures { λ a. ⌜ tells a (now (table .exit)) ≡ filledTold (fileIn (now (file .entry)) (rowCount (numbersIn (now (table .entry))))) (now (table .entry)) ⌝ }
+    ensures { λ a. ⌜ leaves a (now (table .exit)) ≡ filledTold (fileIn (now (file .entry)) (rowCount (numbersIn (now (table .entry))))) (now (table .entry)) ⌝ }
 {
     let filled = byte_table::index_file(file, table, Rule::Strict);
     answer::filled_answer(filled)
@@ -36,7 +37,7 @@ pub extern "C" fn wakeluri_index_file(file: &[u8], table: &mut [u8]) -> Answer
 // The same by the complete rule: every file that any index leads through is taken.
 #[no_mangle]
 pub extern "C" fn wakeluri_index_complete(file: &[u8], table: &mut [u8]) -> Answer
-    ensures { λ a. ⌜ tells a (now (table .exit)) ≡ filledTold (rowsIn Complete (now (file .entry)) (rowCount (numbersIn (now (table .entry))))) (now (table .entry)) ⌝ }
+    ensures { λ a. ⌜ leaves a (now (table .exit)) ≡ filledTold (rowsIn Complete (now (file .entry)) (rowCount (numbersIn (now (table .entry))))) (now (table .entry)) ⌝ }
 {
     let filled = byte_table::index_file(file, table, Rule::Complete);
     answer::filled_answer(filled)
@@ -45,7 +46,7 @@ pub extern "C" fn wakeluri_index_complete(file: &[u8], table: &mut [u8]) -> Answ
 // A row for each line of an index, from the table's first on.
 #[no_mangle]
 pub extern "C" fn wakeluri_read_index(index: &[u8], table: &mut [u8]) -> Answer
-    ensures { λ a. ⌜ tells a (now (table .exit)) ≡ filledTold (indexIn (now (index .entry)) (rowCount (numbersIn (now (table .entry))))) (now (table .entry)) ⌝ }
+    ensures { λ a. ⌜ leaves a (now (table .exit)) ≡ filledTold (indexIn (now (index .entry)) (rowCount (numbersIn (now (table .entry))))) (now (table .entry)) ⌝ }
 {
     let filled = byte_table::read_index(index, table);
     answer::filled_answer(filled)

@@ -10,7 +10,8 @@ ghost use Rattle.region.specs.Exact.{exactRead};
 ghost use Rattle.region.specs.Raw.{rawRead};
 ghost use Rattle.byte_table.specs.Numbers.{numbersIn};
 ghost use Rattle.wakeluri.specs.Answer.{boundOf, foundAnswer};
-ghost use Rattle.wakeluri.specs.Told.{tells, writtenTold, regionTold};
+ghost use Rattle.output.specs.Outcome.{leaves};
+ghost use Rattle.wakeluri.specs.Told.{writtenTold};
 
 // A bound as a host gives it: absent where its flag is 0.
 fn bound(flag: u64, p: u64) -> Bound
@@ -39,7 +40,7 @@ pub extern "C" fn wakeluri_write_index_line(
     row: u64,
     out: &mut [u8],
 ) -> Answer
-    ensures { λ a. ⌜ tells a (now (out .exit)) ≡ writtenTold (writtenAs (now (names .entry)) (numbersIn (now (table .entry))) «in_use» row (now (out .entry))) ⌝ }
+    ensures { λ a. ⌜ leaves a (now (out .exit)) ≡ writtenTold (writtenAs (now (names .entry)) (numbersIn (now (table .entry))) «in_use» row (now (out .entry))) ⌝ }
 {
     let written = byte_table::write_line(names, table, in_use as usize, row as usize, out);
     answer::written_answer(written)
@@ -58,12 +59,12 @@ pub extern "C" fn wakeluri_read_exact(
     end: u64,
     out: &mut [u8],
 ) -> Answer
-    ensures { λ a. ⌜ tells a (now (out .exit)) ≡ regionTold (exactRead (now (file .entry)) (numbersIn (now (table .entry))) «in_use» row (boundOf «has_start» start) (boundOf «has_end» end) (now (out .entry))) ⌝ }
+    ensures { λ a. ⌜ leaves a (now (out .exit)) ≡ writtenTold (exactRead (now (file .entry)) (numbersIn (now (table .entry))) «in_use» row (boundOf «has_start» start) (boundOf «has_end» end) (now (out .entry))) ⌝ }
 {
     let a = bound(has_start, start);
     let e = bound(has_end, end);
     let read = byte_table::read_exact(file, table, in_use as usize, row as usize, a, e, out);
-    answer::region_answer(read)
+    answer::written_answer(read)
 }
 
 // The bases that a scan finds from the start of a region of a row's record on.
@@ -79,10 +80,10 @@ pub extern "C" fn wakeluri_read_raw(
     end: u64,
     out: &mut [u8],
 ) -> Answer
-    ensures { λ a. ⌜ tells a (now (out .exit)) ≡ regionTold (rawRead (now (file .entry)) (numbersIn (now (table .entry))) «in_use» row (boundOf «has_start» start) (boundOf «has_end» end) (now (out .entry))) ⌝ }
+    ensures { λ a. ⌜ leaves a (now (out .exit)) ≡ writtenTold (rawRead (now (file .entry)) (numbersIn (now (table .entry))) «in_use» row (boundOf «has_start» start) (boundOf «has_end» end) (now (out .entry))) ⌝ }
 {
     let a = bound(has_start, start);
     let e = bound(has_end, end);
     let read = byte_table::read_raw(file, table, in_use as usize, row as usize, a, e, out);
-    answer::region_answer(read)
+    answer::written_answer(read)
 }

@@ -7,7 +7,8 @@ use sequence::RunRead;
 ghost use mathlib.Core.Path.{_≡_};
 ghost use Rattle.sequence.specs.Read.{readRun, readWhole, readLimit};
 ghost use Rattle.wakeluri.specs.Answer.{runAnswer};
-ghost use Rattle.wakeluri.specs.Told.{tells, sequenceTold};
+ghost use Rattle.output.specs.Outcome.{leaves};
+ghost use Rattle.wakeluri.specs.Told.{sequenceTold};
 
 // The next run of bases from an offset on, and the place behind it.
 #[no_mangle]
@@ -23,7 +24,7 @@ pub extern "C" fn wakeluri_read_run(file: &[u8], at: u64) -> SpanAnswer
 // The bases from an offset on.
 #[no_mangle]
 pub extern "C" fn wakeluri_read_sequence(file: &[u8], at: u64, out: &mut [u8]) -> Answer
-    ensures { λ a. ⌜ tells a (now (out .exit)) ≡ sequenceTold (readWhole (now (file .entry)) (record { at = at }) (now (out .entry))) ⌝ }
+    ensures { λ a. ⌜ leaves a (now (out .exit)) ≡ sequenceTold (readWhole (now (file .entry)) (record { at = at }) (now (out .entry))) ⌝ }
 {
     let read = sequence::read_sequence(file, Cursor { at: at as usize }, out);
     answer::sequence_answer(read)
@@ -37,7 +38,7 @@ pub extern "C" fn wakeluri_read_sequence_limit(
     limit: u64,
     out: &mut [u8],
 ) -> Answer
-    ensures { λ a. ⌜ tells a (now (out .exit)) ≡ sequenceTold (readLimit (now (file .entry)) limit (record { at = at }) (now (out .entry))) ⌝ }
+    ensures { λ a. ⌜ leaves a (now (out .exit)) ≡ sequenceTold (readLimit (now (file .entry)) limit (record { at = at }) (now (out .entry))) ⌝ }
 {
     let read = sequence::read_sequence_limit(file, Cursor { at: at as usize }, limit as usize, out);
     answer::sequence_answer(read)

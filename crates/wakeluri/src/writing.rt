@@ -2,9 +2,10 @@
 use crate::answer;
 use crate::answer::Answer;
 ghost use mathlib.Core.Path.{_≡_};
+ghost use Rattle.output.specs.Outcome.{leaves};
 ghost use Rattle.writer.specs.Text.{recordWritten, sequenceWritten};
 ghost use Rattle.wakeluri.specs.Answer.{givenBy};
-ghost use Rattle.wakeluri.specs.Told.{tells, writtenTold};
+ghost use Rattle.wakeluri.specs.Told.{writtenTold};
 
 // Is something given, by its flag.
 fn is_given(flag: u64) -> bool
@@ -23,7 +24,7 @@ pub extern "C" fn wakeluri_write_record(
     width: u64,
     out: &mut [u8],
 ) -> Answer
-    ensures { λ a. ⌜ tells a (now (out .exit)) ≡ writtenTold (recordWritten (now (name .entry)) (givenBy «has_description») (now (description .entry)) (now (bases .entry)) width (now (out .entry))) ⌝ }
+    ensures { λ a. ⌜ leaves a (now (out .exit)) ≡ writtenTold (recordWritten (now (name .entry)) (givenBy «has_description») (now (description .entry)) (now (bases .entry)) width (now (out .entry))) ⌝ }
 {
     let described = is_given(has_description);
     let written = writer::write_record(name, described, description, bases, width as usize, out);
@@ -33,7 +34,7 @@ pub extern "C" fn wakeluri_write_record(
 // Bases alone, in lines of a width: the next piece of a record whose first pieces were whole lines.
 #[no_mangle]
 pub extern "C" fn wakeluri_write_sequence(bases: &[u8], width: u64, out: &mut [u8]) -> Answer
-    ensures { λ a. ⌜ tells a (now (out .exit)) ≡ writtenTold (sequenceWritten (now (bases .entry)) width (now (out .entry))) ⌝ }
+    ensures { λ a. ⌜ leaves a (now (out .exit)) ≡ writtenTold (sequenceWritten (now (bases .entry)) width (now (out .entry))) ⌝ }
 {
     let written = writer::write_sequence(bases, width as usize, out);
     answer::written_answer(written)

@@ -9,26 +9,26 @@ use borrow.Author.Tests.{eqb-true, eqb-false, ltb-true, ltb-false}
 use native.Mathlib.Omega.{arith}
 use Rattle.refusal.specs.declared.Refusal.{Refusal}
 use Rattle.refusal.specs.declared.Refusal.the-variants.{TooLong, ZeroWidth, NameUnfit, DescriptionUnfit, BaseUnfit, NoRoom}
-use Rattle.index_line.specs.Fields.{Wrote, wrote, frontWritten}
-use Rattle.index_line.specs.declared.Written.the-variants.{Bytes, Refused}
+use Rattle.output.specs.declared.Written.{Written}
+use Rattle.output.specs.Outcome.{Outcome, refuses, gives, pours}
 use Rattle.writer.specs.Text.{recordText, anyOf, nameUnfit, descriptionUnfit, barred, tooLong, recordWritten}
 
 module _ (name : List ℕ) (t : Bool) (d bases : List ℕ) (w : ℕ) (out : List ℕ) where
   -- an answer with the output afterwards, and its case
-  pub data Case : Wrote → Type 0 where
-    over-limit : tooLong (length name) (length d) (length bases) ≡ true → Case (wrote (Refused TooLong) out)
-    no-width : tooLong (length name) (length d) (length bases) ≡ false → w ≡ 0 → Case (wrote (Refused ZeroWidth) out)
-    bad-name : tooLong (length name) (length d) (length bases) ≡ false → 0 < w → nameUnfit name ≡ true → Case (wrote (Refused NameUnfit) out)
-    bad-description : tooLong (length name) (length d) (length bases) ≡ false → 0 < w → nameUnfit name ≡ false → (t && descriptionUnfit d) ≡ true → Case (wrote (Refused DescriptionUnfit) out)
+  pub data Case : Outcome Written → Type 0 where
+    over-limit : tooLong (length name) (length d) (length bases) ≡ true → Case (refuses TooLong out)
+    no-width : tooLong (length name) (length d) (length bases) ≡ false → w ≡ 0 → Case (refuses ZeroWidth out)
+    bad-name : tooLong (length name) (length d) (length bases) ≡ false → 0 < w → nameUnfit name ≡ true → Case (refuses NameUnfit out)
+    bad-description : tooLong (length name) (length d) (length bases) ≡ false → 0 < w → nameUnfit name ≡ false → (t && descriptionUnfit d) ≡ true → Case (refuses DescriptionUnfit out)
     bad-base : tooLong (length name) (length d) (length bases) ≡ false → 0 < w → nameUnfit name ≡ false → (t && descriptionUnfit d) ≡ false → anyOf barred bases ≡ true
-        → Case (wrote (Refused BaseUnfit) out)
+        → Case (refuses BaseUnfit out)
     no-room : tooLong (length name) (length d) (length bases) ≡ false → 0 < w → nameUnfit name ≡ false → (t && descriptionUnfit d) ≡ false → anyOf barred bases ≡ false
-        → length out < length (recordText name t d bases w) → Case (wrote (Refused (NoRoom (length (recordText name t d bases w)))) out)
+        → length out < length (recordText name t d bases w) → Case (refuses (NoRoom (length (recordText name t d bases w))) out)
     put : tooLong (length name) (length d) (length bases) ≡ false → 0 < w → nameUnfit name ≡ false → (t && descriptionUnfit d) ≡ false → anyOf barred bases ≡ false
-        → length (recordText name t d bases w) ≤ length out → Case (wrote (Bytes (length (recordText name t d bases w))) (recordText name t d bases w ++ drop (length (recordText name t d bases w)) out))
+        → length (recordText name t d bases w) ≤ length out → Case (gives (recordText name t d bases w) out)
 
   pub answer-case : Case (recordWritten name t d bases w out)
-  unfolding recordWritten frontWritten
+  unfolding recordWritten pours
   answer-case = go (tooLong (length name) (length d) (length bases)) refl (eqb w 0) refl (nameUnfit name) refl (t && descriptionUnfit d) refl (anyOf barred bases) refl (ltb (length out) (length text)) refl
     where
       text : List ℕ
@@ -39,8 +39,8 @@ module _ (name : List ℕ) (t : Bool) (d bases : List ℕ) (w : ℕ) (out : List
 
       go : (l : Bool) → tooLong (length name) (length d) (length bases) ≡ l → (z : Bool) → eqb w 0 ≡ z → (n : Bool) → nameUnfit name ≡ n → (e : Bool) → (t && descriptionUnfit d) ≡ e → (b : Bool) → anyOf barred bases ≡ b
           → (r : Bool) → ltb (length out) (length text) ≡ r
-          → Case (cond l (wrote (Refused TooLong) out) (cond z (wrote (Refused ZeroWidth) out) (cond n (wrote (Refused NameUnfit) out) (cond e (wrote (Refused DescriptionUnfit) out) (cond b (wrote (Refused BaseUnfit) out)
-          (cond r (wrote (Refused (NoRoom (length text))) out) (wrote (Bytes (length text)) (text ++ drop (length text) out))))))))
+          → Case (cond l (refuses TooLong out) (cond z (refuses ZeroWidth out) (cond n (refuses NameUnfit out) (cond e (refuses DescriptionUnfit out) (cond b (refuses BaseUnfit out)
+          (cond r (refuses (NoRoom (length text)) out) (gives text out)))))))
       go true l z p n q e u b v r m = over-limit l
       go false l true p n q e u b v r m = no-width l (eqb-true _ _ p)
       go false l false p true q e u b v r m = bad-name l (some p) q

@@ -9,24 +9,25 @@ use Rattle.refusal.specs.Numbers.{overLimit}
 use Rattle.refusal.specs.declared.Refusal.{Refusal}
 use Rattle.refusal.specs.declared.Refusal.the-variants.{ZeroWidth, NameUnfit, DescriptionUnfit, BaseUnfit, NoRoom}
 use Rattle.definition.specs.Definition.{isSpace}
-use Rattle.index_line.specs.Fields.{Wrote, wrote, frontWritten}
-use Rattle.index_line.specs.declared.Written.the-variants.{Bytes, Refused}
+use Rattle.output.specs.declared.Written.{Written}
+use Rattle.output.specs.Outcome.{Outcome, leaves, refuses, pours}
+use Rattle.output.specs.declared.Written.the-variants.{Bytes}
 use Rattle.writer.specs.Text.{describedText, definitionText, rowsUpTo, rowsText, sequenceText, recordText, anyOf, nameUnfit, descriptionUnfit, barred, tooLong, recordWritten}
 
 -- a record without a description, and one with one, put in an output of some text
-abbrev plain : String → String → ℕ → String → Wrote
+abbrev plain : String → String → ℕ → String → Outcome Written
 plain name bases width out = recordWritten (text name) false [] (text bases) width (text out)
 
-abbrev described : String → String → String → ℕ → String → Wrote
+abbrev described : String → String → String → ℕ → String → Outcome Written
 described name description bases width out = recordWritten (text name) true (text description) (text bases) width (text out)
 
-abbrev bytes : ℕ → String → Wrote
-bytes n out = wrote (Bytes n) (text out)
+abbrev bytes : ℕ → String → Outcome Written
+bytes n out = leaves (Bytes n) (text out)
 
-abbrev refused : Refusal → String → Wrote
-refused x out = wrote (Refused x) (text out)
+abbrev refused : Refusal → String → Outcome Written
+refused x out = refuses x (text out)
 
-unfoldable pub asked : List Wrote
+unfoldable pub asked : List (Outcome Written)
 asked =
     described "s" "d" "ACG" 2 "..........."
     ∷ plain "s" "" 1 "..."
@@ -41,7 +42,7 @@ asked =
     ∷ plain "s" "A\r" 1 ""
     ∷ []
 
-unfoldable pub answers : List Wrote
+unfoldable pub answers : List (Outcome Written)
 answers =
     bytes 10 ">s d\nAC\nG\n."
     ∷ bytes 3 ">s\n"
@@ -55,5 +56,5 @@ answers =
     ∷ []
 
 pub examples : asked ≡ answers
-unfolding asked answers recordWritten tooLong overLimit nameUnfit descriptionUnfit barred anyOf isSpace frontWritten recordText definitionText describedText sequenceText rowsText rowsUpTo
+unfolding asked answers recordWritten tooLong overLimit nameUnfit descriptionUnfit barred anyOf isSpace pours recordText definitionText describedText sequenceText rowsText rowsUpTo
 examples = refl

@@ -13,8 +13,9 @@ use native.Mathlib.Nat.{div-eq-of-lt, div-le-self, add-div-right}
 use Rattle.copying.specs.Copied.{afterCopy}
 use Rattle.copying.specs.Laws.{copy-whole}
 use Rattle.index_line.specs.Bytes.{overlaid, overlaid-none, overlaid-length, overlaid-next, overlaid-more, overlaid-zero}
-use Rattle.index_line.specs.Fields.{wrote, frontWritten}
-use Rattle.index_line.specs.declared.Written.the-variants.{Bytes, Refused}
+use Rattle.output.specs.Outcome.{leaves, refuses, pours}
+use Rattle.output.specs.Laws.{pours-short, pours-fits}
+use Rattle.output.specs.declared.Written.the-variants.{Bytes}
 use Rattle.refusal.specs.Numbers.{overLimit}
 use Rattle.refusal.specs.declared.Refusal.the-variants.{NoRoom}
 use Rattle.writer.specs.Text.{describedText, definitionText, rowsUpTo, rowsOf, lineOf, rowsText, sequenceText, recordText, tooLong, anyOf, Put}
@@ -234,26 +235,24 @@ pub record-size : (name : List ℕ) (t : Bool) (d bases : List ℕ) (w : ℕ) �
 unfolding recordText
 record-size name t d bases w = length-append (definitionText name t d) (sequenceText w bases)
 
-pub front-no-room : (text out : List ℕ) (n : ℕ) → n ≡ length text → length out < n → wrote (Refused (NoRoom n)) out ≡ frontWritten text out
-unfolding frontWritten
-front-no-room text out n e h = rw (← e, lt-ltb _ _ h)
+pub front-no-room : (text out : List ℕ) (n : ℕ) → n ≡ length text → length out < n → refuses (NoRoom n) out ≡ pours text out
+front-no-room text out n e h = rw e (pours-short text out (rw e at h))
 
 module _ (name : List ℕ) (t : Bool) (d bases : List ℕ) (w : ℕ) (out first after : List ℕ) (end n : ℕ) where
   pub record-put : Put out 0 (definitionText name t d) end first → after ≡ overlaid first end (sequenceText w bases) → n ≡ length (recordText name t d bases w) → n ≤ length out
-      → wrote (Bytes n) after ≡ frontWritten (recordText name t d bases w) out
-  unfolding frontWritten recordText
+      → leaves (Bytes n) after ≡ pours (recordText name t d bases w) out
+  unfolding recordText
   record-put p e m h =
       let x : List ℕ = definitionText name t d in
       let y : List ℕ = sequenceText w bases in
       let a : after ≡ (x ++ y) ++ drop (length (x ++ y)) out =
       e ∙ ap (λ (o : List ℕ). overlaid o end y) (p .holds) ∙ overlaid-more out 0 end x y (omega arith) (p .place) ∙ overlaid-zero out (x ++ y) in
-      rw (a, m, le-ltb (length out) (length (x ++ y)) (omega arith))
+      rw (a, m) (pours-fits (x ++ y) out (omega arith))
 
 -- bases alone put at the front
 pub sequence-put : (w : ℕ) (bases out after : List ℕ) (n : ℕ) → n ≡ length (sequenceText w bases) → n ≤ length out → after ≡ overlaid out 0 (sequenceText w bases)
-    → wrote (Bytes n) after ≡ frontWritten (sequenceText w bases) out
-unfolding frontWritten
-sequence-put w bases out after n m h e = rw (e, overlaid-zero out (sequenceText w bases), m, le-ltb (length out) (length (sequenceText w bases)) (omega arith))
+    → leaves (Bytes n) after ≡ pours (sequenceText w bases) out
+sequence-put w bases out after n m h e = rw (e, overlaid-zero out (sequenceText w bases), m) (pours-fits (sequenceText w bases) out (omega arith))
 
 -- what is not over the limit is within it
 pub not-over : (n : ℕ) → overLimit n ≡ false → n ≤ 1099511627776

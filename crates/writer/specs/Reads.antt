@@ -16,9 +16,10 @@ use Rattle.definition.specs.Laws.{described-some}
 use Rattle.definition.specs.declared.Definition.{Definition}
 use Rattle.definition.specs.declared.Parsed.the-variants.{Named}
 use Rattle.index_line.specs.Bytes.{is}
-use Rattle.index_line.specs.Fields.{Wrote, wrote, frontWritten}
-use Rattle.index_line.specs.Writing.{no-bytes}
-use Rattle.index_line.specs.declared.Written.the-variants.{Bytes, Refused}
+use Rattle.output.specs.declared.Written.{Written}
+use Rattle.output.specs.Outcome.{leaves, refuses, pours}
+use Rattle.output.specs.Laws.{no-bytes, poured-known}
+use Rattle.output.specs.declared.Written.the-variants.{Bytes}
 use Rattle.refusal.specs.declared.Refusal.the-variants.{TooLong, ZeroWidth, NameUnfit, DescriptionUnfit, BaseUnfit, NoRoom}
 use Rattle.writer.specs.Text.{describedText, definitionText, rowsOf, lineOf, rowsText, sequenceText, recordText, anyOf, nameUnfit, descriptionUnfit, barred, tooLong, recordWritten}
 use Rattle.writer.specs.Rows.{either-false, none-both, none-at, none-less, lines-line, good-rows, rows-joined, good-lines, good-seq, good-bases}
@@ -258,32 +259,23 @@ pub record RecordPut (name : List ℕ) (t : Bool) (d bases : List ℕ) (w : ℕ)
   pub rest : drop k after ≡ drop k out
 
 pub call-put : (name : List ℕ) (t : Bool) (d bases : List ℕ) (w : ℕ) (out : List ℕ) (k : ℕ) (after : List ℕ)
-    → recordWritten name t d bases w out ≡ wrote (Bytes k) after → RecordPut name t d bases w out k after
-unfolding recordWritten frontWritten
+    → recordWritten name t d bases w out ≡ leaves (Bytes k) after → RecordPut name t d bases w out k after
+unfolding recordWritten
 call-put name t d bases w out k after h =
-    go (tooLong (length name) (length d) (length bases)) (eqb w 0) refl (nameUnfit name) refl (t && descriptionUnfit d) refl (anyOf barred bases) refl (ltb (length out) (length text)) h
+    go (tooLong (length name) (length d) (length bases)) (eqb w 0) refl (nameUnfit name) refl (t && descriptionUnfit d) refl (anyOf barred bases) refl h
   where
     text : List ℕ
     text = recordText name t d bases w
 
-    go : (l z : Bool) → eqb w 0 ≡ z → (n : Bool) → nameUnfit name ≡ n → (e : Bool) → (t && descriptionUnfit d) ≡ e → (b : Bool) → anyOf barred bases ≡ b → (r : Bool)
-        → cond l (wrote (Refused TooLong) out) (cond z (wrote (Refused ZeroWidth) out) (cond n (wrote (Refused NameUnfit) out) (cond e (wrote (Refused DescriptionUnfit) out) (cond b (wrote (Refused BaseUnfit) out)
-        (cond r (wrote (Refused (NoRoom (length text))) out) (wrote (Bytes (length text)) (text ++ drop (length text) out))))))) ≡ wrote (Bytes k) after
+    go : (l z : Bool) → eqb w 0 ≡ z → (n : Bool) → nameUnfit name ≡ n → (e : Bool) → (t && descriptionUnfit d) ≡ e → (b : Bool) → anyOf barred bases ≡ b
+        → cond l (refuses TooLong out) (cond z (refuses ZeroWidth out) (cond n (refuses NameUnfit out) (cond e (refuses DescriptionUnfit out) (cond b (refuses BaseUnfit out) (pours text out))))) ≡ leaves (Bytes k) after
         → RecordPut name t d bases w out k after
-    go false false p false q false u false v false m =
+    go false false p false q false u false v m =
         let y : w ≡ 0 → ⊥ = eqb-false _ _ p in
-        let a = ap (λ (x : Wrote). x .answer) m in
-        let c : length text ≡ k = cc in
-        let o : text ++ drop (length text) out ≡ after = ap (λ (x : Wrote). x .out) m in
-        record {
-          writable = record { named = q; told = u; based = v; wide = omega arith };
-          size = c;
-          front = ap (take k) (sym o) ∙ take-at text (drop (length text) out) k c;
-          rest = ap (drop k) (sym o) ∙ (drop-at text (drop (length text) out) k c ∙ ap (λ (i : ℕ). drop i out) c);
-        }
-    go true z p n q e u b v r m = absurd (no-bytes _ out k after m)
-    go false true p n q e u b v r m = absurd (no-bytes _ out k after m)
-    go false false p true q e u b v r m = absurd (no-bytes _ out k after m)
-    go false false p false q true u b v r m = absurd (no-bytes _ out k after m)
-    go false false p false q false u true v r m = absurd (no-bytes _ out k after m)
-    go false false p false q false u false v true m = absurd (no-bytes _ out k after m)
+        let f = poured-known text out k after m in
+        record { writable = record { named = q; told = u; based = v; wide = omega arith }; size = f .size; front = f .front; rest = f .rest }
+    go true z p n q e u b v m = absurd (no-bytes _ out k after m)
+    go false true p n q e u b v m = absurd (no-bytes _ out k after m)
+    go false false p true q e u b v m = absurd (no-bytes _ out k after m)
+    go false false p false q true u b v m = absurd (no-bytes _ out k after m)
+    go false false p false q false u true v m = absurd (no-bytes _ out k after m)

@@ -9,8 +9,8 @@ use Rattle.refusal.specs.Numbers.{overLimit}
 use Rattle.refusal.specs.declared.Refusal.the-variants.{TooLong, ZeroWidth, NameUnfit, DescriptionUnfit, BaseUnfit}
 use Rattle.definition.specs.Definition.{isSpace}
 use Rattle.index_line.specs.Bytes.{is, overlaid}
-use Rattle.index_line.specs.Fields.{Wrote, wrote, frontWritten}
-use Rattle.index_line.specs.declared.Written.the-variants.{Refused}
+use Rattle.output.specs.declared.Written.{Written}
+use Rattle.output.specs.Outcome.{Outcome, refuses, pours}
 
 -- ---- the text
 
@@ -76,20 +76,20 @@ tooLong name d bases = overLimit name || (overLimit d || overLimit bases)
 -- ---- the call
 
 -- the refusals in their order; then the text at the front of the output, if it has room for all of it, and 14 else
-unfoldable pub recordWritten : List ℕ → Bool → List ℕ → List ℕ → ℕ → List ℕ → Wrote
+unfoldable pub recordWritten : List ℕ → Bool → List ℕ → List ℕ → ℕ → List ℕ → Outcome Written
 recordWritten name described d bases w out =
-    cond (tooLong (length name) (length d) (length bases)) (wrote (Refused TooLong) out)
-    (cond (eqb w 0) (wrote (Refused ZeroWidth) out)
-    (cond (nameUnfit name) (wrote (Refused NameUnfit) out)
-    (cond (described && descriptionUnfit d) (wrote (Refused DescriptionUnfit) out)
-    (cond (anyOf barred bases) (wrote (Refused BaseUnfit) out) (frontWritten (recordText name described d bases w) out)))))
+    cond (tooLong (length name) (length d) (length bases)) (refuses TooLong out)
+    (cond (eqb w 0) (refuses ZeroWidth out)
+    (cond (nameUnfit name) (refuses NameUnfit out)
+    (cond (described && descriptionUnfit d) (refuses DescriptionUnfit out)
+    (cond (anyOf barred bases) (refuses BaseUnfit out) (pours (recordText name described d bases w) out)))))
 
 -- the bases alone: 1, 27, 30, 14
-unfoldable pub sequenceWritten : List ℕ → ℕ → List ℕ → Wrote
+unfoldable pub sequenceWritten : List ℕ → ℕ → List ℕ → Outcome Written
 sequenceWritten bases w out =
-    cond (overLimit (length bases)) (wrote (Refused TooLong) out)
-    (cond (eqb w 0) (wrote (Refused ZeroWidth) out)
-    (cond (anyOf barred bases) (wrote (Refused BaseUnfit) out) (frontWritten (sequenceText w bases) out)))
+    cond (overLimit (length bases)) (refuses TooLong out)
+    (cond (eqb w 0) (refuses ZeroWidth out)
+    (cond (anyOf barred bases) (refuses BaseUnfit out) (pours (sequenceText w bases) out)))
 
 -- some bytes put at a place of an output: the place behind them, and the output afterwards
 pub record Put (out : List ℕ) (at : ℕ) (s : List ℕ) (behind : ℕ) (after : List ℕ) : Type 0 where

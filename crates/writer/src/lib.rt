@@ -3,7 +3,7 @@
 // description that is there and is empty, has an LF, or begins or ends in whitespace; 30, a base that is LF, CR or '>'; 14, no room.
 // A record that is longer than the memory at hand is written in pieces: `write_record` with the first of its bases, then `write_sequence`
 // with the next ones. Pieces of whole lines join to the record that one call would write (specs/Pieces.antt).
-use index_line::Written;
+use output::Written;
 use refusal::Refusal;
 ghost use mathlib.Core.Path.{_≡_};
 ghost use mathlib.Core.Bool.{_&&_};
@@ -11,7 +11,7 @@ ghost use Prim.Native.Nat.{_+_, _≤_, _<_, min};
 ghost use lib.ListN.{length};
 ghost use Rattle.definition.specs.Definition.{isSpace};
 ghost use Rattle.index_line.specs.Bytes.{is, overlaid};
-ghost use Rattle.index_line.specs.Fields.{wrote};
+ghost use Rattle.output.specs.Outcome.{leaves};
 ghost use Rattle.writer.specs.Text.{anyOf, nameUnfit, descriptionUnfit, barred, describedText, definitionText, sequenceText, tooLong, recordWritten, sequenceWritten, Put};
 
 // Is a byte no base: LF, CR or '>'.
@@ -198,7 +198,7 @@ pub fn write_record(
     width: usize,
     out: &mut [u8],
 ) -> Written
-    ensures { λ r. ⌜ wrote r (now (out .exit)) ≡ recordWritten (now (name .entry)) described (now (description .entry)) (now (bases .entry)) width (now (out .entry)) ⌝ }
+    ensures { λ r. ⌜ leaves r (now (out .exit)) ≡ recordWritten (now (name .entry)) described (now (description .entry)) (now (bases .entry)) width (now (out .entry)) ⌝ }
 {
     if too_long(name.len(), description.len(), bases.len()) {
         return Written::Refused(Refusal::TooLong);
@@ -228,7 +228,7 @@ pub fn write_record(
 
 // Writes bases alone to the front of the output, in lines of a width, each with LF; the bytes behind them stay. It refuses 1, 27, 30, 14.
 pub fn write_sequence(bases: &[u8], width: usize, out: &mut [u8]) -> Written
-    ensures { λ r. ⌜ wrote r (now (out .exit)) ≡ sequenceWritten (now (bases .entry)) width (now (out .entry)) ⌝ }
+    ensures { λ r. ⌜ leaves r (now (out .exit)) ≡ sequenceWritten (now (bases .entry)) width (now (out .entry)) ⌝ }
 {
     if refusal::over_limit(bases.len()) {
         return Written::Refused(Refusal::TooLong);

@@ -11,8 +11,8 @@ use Rattle.lines.specs.Lines.{seqAt, allBases}
 use Rattle.definition.specs.Definition.{definitionSays, readAs, lineRead}
 use Rattle.definition.specs.declared.DefinitionRead.the-variants as read
 use Rattle.record.specs.declared.Record.{Record}
-use Rattle.index_line.specs.Fields.{wrote}
-use Rattle.index_line.specs.declared.Written.the-variants.{Bytes}
+use Rattle.output.specs.Outcome.{leaves}
+use Rattle.output.specs.declared.Written.the-variants.{Bytes}
 use Rattle.indexer.specs.Index.{recordRead}
 use Rattle.indexer.specs.declared.Indexed.the-variants as indexed
 use Rattle.indexer.specs.Rule.{callBy}
@@ -29,7 +29,7 @@ within : (n : ℕ) → n ≤ limit → overLimit n ≡ false
 unfolding overLimit
 within n h = le-ltb 1099511627776 n h
 
-module _ (name : List ℕ) (t : Bool) (d bases : List ℕ) (w : ℕ) (out : List ℕ) (k : ℕ) (after : List ℕ) (h : recordWritten name t d bases w out ≡ wrote (Bytes k) after) (m : k ≤ limit) where
+module _ (name : List ℕ) (t : Bool) (d bases : List ℕ) (w : ℕ) (out : List ℕ) (k : ℕ) (after : List ℕ) (h : recordWritten name t d bases w out ≡ leaves (Bytes k) after) (m : k ≤ limit) where
   -- the definition line reads by its call, and the bases of what follows it are those given
   pub call-reads : (lineRead (definitionText name t d) ≡ read.Named (definitionOf name t d)) × (allBases (seqAt (take k after) (length (definitionText name t d))) ≡ bases)
   unfolding lineRead readAs

@@ -6,8 +6,8 @@ use borrow.Author.Needs.{needs}
 use native.Mathlib.Omega.{arith}
 use native.Mathlib.Numerals.{add-one}
 use lib.ListN.{length, drop, length-map}
-use Rattle.complement.specs.declared.Complemented.the-variants.{Bytes}
-use Rattle.complement.specs.Complement.{faults, firstOr, complementOf, answerOf}
+use Rattle.output.specs.declared.Written.the-variants.{Bytes}
+use Rattle.complement.specs.Complement.{faults, firstOr, complementOf, poured}
 use Rattle.complement.specs.Laws.{first-bad, first-good, none-from}
 use Rattle.complement.specs.KindLaws.{tested-bad, tested-good}
 use Rattle.complement.proofs.first_fault.Statement.{statement}
@@ -32,7 +32,7 @@ no-complement-requires : tie.Need-no-complement-requires Inv-loop μ-loop
 no-complement-requires c κs = search needs
 
 returns : tie.Need-returns Inv-loop μ-loop
-unfolding complementOf answerOf
+unfolding complementOf poured
 returns c =
     let t = c .before .before .before .before in
     rw (first-bad _ _ (t .loop-test .taken) (t .before .loop .inv .1) (tested-bad _ _ (c .before .before .is-paired .ensures) (c .before .if1 .taken)) _) (c .no-complement .ensures)
@@ -49,7 +49,7 @@ loop-again c =
     (search needs, rw add-one (first-good _ _ (t .loop-test .taken) (t .before .loop .inv .1) (tested-good _ _ (c .before .is-paired .ensures) (c .if1 .left))))
 
 returns-2 : tie.Need-returns-2 Inv-loop μ-loop
-unfolding complementOf firstOr answerOf
+unfolding complementOf firstOr poured
 returns-2 c = rw (← c .before .loop .inv .1, none-from _ _ (c .loop-test .left), length-map) (ap Bytes (omega arith))
 
 pub first-fault-spec : {M : Type 1} → statement M

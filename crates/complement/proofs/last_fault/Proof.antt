@@ -6,7 +6,7 @@ use borrow.Author.Needs.{needs}
 use native.Mathlib.Omega.{arith}
 use lib.ListN.{length, take, length-map, length-reverse}
 use lib.Seq.{take-length}
-use Rattle.complement.specs.Complement.{faults, firstOr, reverseComplementOf, answerOf}
+use Rattle.complement.specs.Complement.{faults, firstOr, reverseComplementOf, poured}
 use Rattle.complement.specs.Laws.{last-bad, last-good}
 use Rattle.complement.specs.KindLaws.{tested-bad, tested-good}
 use Rattle.complement.proofs.last_fault.Statement.{statement}
@@ -34,7 +34,7 @@ no-complement-requires : tie.Need-no-complement-requires Inv-loop μ-loop
 no-complement-requires c κs = search needs
 
 returns : tie.Need-returns Inv-loop μ-loop
-unfolding reverseComplementOf answerOf
+unfolding reverseComplementOf poured
 returns c =
     let l = c .before .before .before .before .before in
     rw (last-bad _ _ (omega arith) (l .loop .i) (omega arith) (l .loop .inv .1) (tested-bad _ _ (c .before .before .is-paired .ensures) (c .before .if1 .taken)) _)
@@ -49,7 +49,7 @@ loop-again c =
     (search needs, last-good _ _ (omega arith) (l .loop .i) (omega arith) (l .loop .inv .1) (tested-good _ _ (c .before .is-paired .ensures) (c .if1 .left)))
 
 returns-2 : tie.Need-returns-2 Inv-loop μ-loop
-unfolding reverseComplementOf faults firstOr answerOf
+unfolding reverseComplementOf faults firstOr poured
 returns-2 c =
     let z : c .before .loop .i ≡ 0 = omega arith in
     rw (← (rw z at (c .before .loop .inv .1)), length-reverse, length-map)

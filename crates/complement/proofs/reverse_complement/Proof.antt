@@ -1,7 +1,7 @@
 -- `complement::reverse_complement` meets its contract: it is what `complement_all` tells, this way.
 -- Assumes nothing.
 use borrow.Author.Needs.{needs}
-use Rattle.complement.specs.Kinds.{outcomeOf}
+use Rattle.complement.specs.Kinds.{judgedOf}
 use Rattle.complement.proofs.reverse_complement.Statement.{statement}
 use Rattle.complement.proofs.reverse_complement.Tie as tie
 
@@ -12,7 +12,7 @@ same-length : tie.Need-same-length
 same-length c = search needs
 
 returns : tie.Need-returns
-unfolding outcomeOf
+unfolding judgedOf
 returns c = c .before .before .complement-all .ensures
 
 pub reverse-complement-spec : {M : Type 1} → statement M

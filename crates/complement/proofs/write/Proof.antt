@@ -9,7 +9,8 @@ use native.Mathlib.Numerals.{add-one}
 use lib.ListN.{length, take, length-set}
 use lib.Seq.{take-all}
 use Rattle.letters.specs.Letters.{partner}
-use Rattle.complement.specs.Complement.{outputOf, given}
+use Rattle.complement.specs.Kinds.{outputOf}
+use Rattle.complement.specs.Complement.{given, poured}
 use Rattle.complement.specs.Laws.{write-turn}
 use Rattle.complement.specs.KindLaws.{all-at}
 use Rattle.complement.proofs.write.Statement.{statement}
@@ -26,7 +27,7 @@ partners-requires : tie.Need-partners-requires Inv-loop μ-loop
 partners-requires c κs = search needs
 
 loop-holds : tie.Need-loop-holds Inv-loop μ-loop
-unfolding outputOf
+unfolding poured
 loop-holds c = search needs
 
 shared-slice-read-complement-base : tie.Need-shared-slice-read-complement-base Inv-loop μ-loop

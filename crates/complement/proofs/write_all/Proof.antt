@@ -1,11 +1,10 @@
 -- `complement::write_all` meets its contract: bytes that are all of a kind have nothing against them, and all are written.
 -- Assumes nothing.
-use mathlib.Core.Path.{refl}
 use borrow.Author.Needs.{needs}
 use lib.ListN.{length-map, length-reverse}
-use Rattle.complement.specs.Complement.{answerOf}
-use Rattle.complement.specs.Kinds.{outcomeOf}
+use Rattle.complement.specs.Kinds.{judgedOf}
 use Rattle.complement.specs.KindLaws.{all-given, all-given-reversed}
+use Rattle.complement.specs.Laws.{poured-given}
 use Rattle.complement.proofs.write_all.Statement.{statement}
 use Rattle.complement.proofs.write_all.Tie as tie
 
@@ -16,11 +15,11 @@ same-length : tie.Need-same-length
 same-length c = search needs
 
 returns : tie.Need-returns
-unfolding outcomeOf answerOf
+unfolding judgedOf
 returns c =
     let t = c .before .before .before .before in
     let s = t .before .before .before in
-    rw (t .if1 .taken, all-given-reversed _ _ (s .pre .1), length-reverse, length-map) (refl, c .before .before .write-reversed .ensures)
+    rw (t .if1 .taken, all-given-reversed _ _ (s .pre .1)) (poured-given _ _ _ _ (rw (length-reverse, length-map)) (c .before .before .write-reversed .ensures))
 
 write-requires : tie.Need-write-requires
 write-requires c κs = search needs
@@ -29,11 +28,11 @@ same-length-2 : tie.Need-same-length-2
 same-length-2 c = search needs
 
 returns-2 : tie.Need-returns-2
-unfolding outcomeOf answerOf
+unfolding judgedOf
 returns-2 c =
     let t = c .before .before .before .before in
     let s = t .before .before .before in
-    rw (t .if1 .left, all-given _ _ (s .pre .1), length-map) (refl, c .before .before .write .ensures)
+    rw (t .if1 .left, all-given _ _ (s .pre .1)) (poured-given _ _ _ _ (rw length-map) (c .before .before .write .ensures))
 
 pub write-all-spec : {M : Type 1} → statement M
 write-all-spec =

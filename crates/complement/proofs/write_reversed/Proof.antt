@@ -8,7 +8,8 @@ use native.Mathlib.Omega.{arith}
 use lib.ListN.{length, drop, length-set}
 use lib.Seq.{drop-length}
 use Rattle.letters.specs.Letters.{partner}
-use Rattle.complement.specs.Complement.{outputOf, given}
+use Rattle.complement.specs.Kinds.{outputOf}
+use Rattle.complement.specs.Complement.{given, poured}
 use Rattle.complement.specs.Laws.{write-reversed-turn}
 use Rattle.complement.specs.KindLaws.{all-at}
 use Rattle.complement.proofs.write_reversed.Statement.{statement}
@@ -25,7 +26,7 @@ partners-requires : tie.Need-partners-requires Inv-loop μ-loop
 partners-requires c κs = search needs
 
 loop-holds : tie.Need-loop-holds Inv-loop μ-loop
-unfolding outputOf
+unfolding poured
 loop-holds c = (search needs, (refl, rw (drop-length (c .before .before .before .args .bases .now))))
 
 sub-i : tie.Need-sub-i Inv-loop μ-loop

@@ -4,7 +4,7 @@ use mathlib.Core.Path.{_≡_, refl, sym, ap, _∙_}
 use native.Mathlib.Omega.{arith}
 use borrow.Author.Tests.{lt-ltb, le-ltb}
 use Prim.Native.Nat.{_≤_}
-use Rattle.exercise.specs.Writing.{writtenAs}
+use Rattle.exercise.specs.Writing.{writtenAs, text-no-room, text-poured}
 use Rattle.exercise.specs.Laws.{known-most}
 use borrow.Author.Needs.{needs}
 use Rattle.exercise.proofs.write_exercise.Statement.{statement}
@@ -34,7 +34,7 @@ add-needed c = search needs
 
 returns-3 : tie.Need-returns-3
 unfolding writtenAs
-returns-3 c = let k = c .before .before in let e = k .before .before in rw (sym (e .before .over-limit .ensures) ∙ e .if1 .left, le-ltb 65535 _ (k .before .if2 .left), sym (k .known .ensures) ∙ c .before .if3 .taken, lt-ltb _ _ (c .if4 .taken))
+returns-3 c = let k = c .before .before in let e = k .before .before in rw (sym (e .before .over-limit .ensures) ∙ e .if1 .left, le-ltb 65535 _ (k .before .if2 .left), sym (k .known .ensures) ∙ c .before .if3 .taken) (text-no-room _ _ _ _ _ (c .if4 .taken))
 
 cast-put-text : tie.Need-cast-put-text
 cast-put-text c = let k = c .before .before in omega (arith, known-most 2 _ (sym (k .known .ensures) ∙ c .before .if3 .taken))
@@ -47,7 +47,7 @@ same-length c = search needs
 
 returns-4 : tie.Need-returns-4
 unfolding writtenAs
-returns-4 c = let f = c .before .before .before .before in let k = f .before .before in let e = k .before .before in rw (sym (e .before .over-limit .ensures) ∙ e .if1 .left, le-ltb 65535 _ (k .before .if2 .left), sym (k .known .ensures) ∙ f .before .if3 .taken, le-ltb _ _ (f .if4 .left), c .before .before .put-text .ensures)
+returns-4 c = let f = c .before .before .before .before in let k = f .before .before in let e = k .before .before in rw (sym (e .before .over-limit .ensures) ∙ e .if1 .left, le-ltb 65535 _ (k .before .if2 .left), sym (k .known .ensures) ∙ f .before .if3 .taken) (text-poured _ _ _ _ _ (f .if4 .left) _ (c .before .before .put-text .ensures))
 
 add-t21 : tie.Need-add-t21
 add-t21 c = search needs

@@ -2,8 +2,8 @@
 -- Assumes nothing.
 use mathlib.Core.Path.{_≡_}
 use borrow.Author.Needs.{needs}
-use Rattle.region.specs.Region.{leaves}
-use Rattle.region.specs.Raw.{scanTo, pours}
+use Rattle.output.specs.Outcome.{leaves, pours}
+use Rattle.region.specs.Raw.{scanTo}
 use Rattle.region.specs.Laws.{regionRead, scan-read}
 use Rattle.region.proofs.raw.scan_from.Statement.{statement}
 use Rattle.region.proofs.raw.scan_from.Tie as tie

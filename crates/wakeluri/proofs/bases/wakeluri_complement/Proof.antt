@@ -1,6 +1,6 @@
 -- `wakeluri::bases::wakeluri_complement` meets its contract: what the call answers is told, and what it leaves is left.
 -- Assumes nothing.
-use Rattle.wakeluri.specs.Laws.{complement-told}
+use Rattle.wakeluri.specs.Laws.{written-told}
 use borrow.Author.Needs.{needs}
 use Rattle.wakeluri.proofs.bases.wakeluri_complement.Statement.{statement}
 use Rattle.wakeluri.proofs.bases.wakeluri_complement.Tie as tie
@@ -8,15 +8,15 @@ use Rattle.wakeluri.proofs.bases.wakeluri_complement.Tie as tie
 complement-requires : tie.Need-complement-requires
 complement-requires c κs = search needs
 
-complement-answer-requires : tie.Need-complement-answer-requires
-complement-answer-requires c κs = search needs
+written-answer-requires : tie.Need-written-answer-requires
+written-answer-requires c κs = search needs
 
 same-length : tie.Need-same-length
 same-length c = search needs
 
 returns : tie.Need-returns
-returns c = complement-told _ _ _ _ _ _ (c .before .before .before .complement .ensures) (c .complement-answer .ensures)
+returns c = written-told _ _ _ _ (c .before .before .before .complement .ensures) (c .written-answer .ensures)
 
 pub wakeluri-complement-spec : {M : Type 1} → statement M
 wakeluri-complement-spec =
-    tie.close (tie.spec complement-requires complement-answer-requires same-length returns)
+    tie.close (tie.spec complement-requires written-answer-requires same-length returns)

@@ -1,6 +1,6 @@
 -- `wakeluri::rows::wakeluri_read_raw` meets its contract: what the call answers is told, and what it leaves is left; a bound is absent by its flag.
 -- Assumes nothing.
-use Rattle.wakeluri.specs.Laws.{region-told}
+use Rattle.wakeluri.specs.Laws.{written-told}
 use borrow.Author.Needs.{needs}
 use Rattle.wakeluri.proofs.rows.wakeluri_read_raw.Statement.{statement}
 use Rattle.wakeluri.proofs.rows.wakeluri_read_raw.Tie as tie
@@ -14,8 +14,8 @@ bound-requires-2 c κs = search needs
 read-raw-requires : tie.Need-read-raw-requires
 read-raw-requires c κs = search needs
 
-region-answer-requires : tie.Need-region-answer-requires
-region-answer-requires c κs = search needs
+written-answer-requires : tie.Need-written-answer-requires
+written-answer-requires c κs = search needs
 
 same-length : tie.Need-same-length
 same-length c = search needs
@@ -24,7 +24,7 @@ returns : tie.Need-returns
 returns c =
     let r = c .before .before .before in
     let b = r .before .before in
-    region-told _ _ _ _ (rw (b .before .bound .ensures, b .bound2 .ensures) at (r .read-raw .ensures)) (c .region-answer .ensures)
+    written-told _ _ _ _ (rw (b .before .bound .ensures, b .bound2 .ensures) at (r .read-raw .ensures)) (c .written-answer .ensures)
 
 pub wakeluri-read-raw-spec : {M : Type 1} → statement M
 wakeluri-read-raw-spec =
@@ -33,6 +33,6 @@ wakeluri-read-raw-spec =
     bound-requires
     bound-requires-2
     read-raw-requires
-    region-answer-requires
+    written-answer-requires
     same-length
     returns)
