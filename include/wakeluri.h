@@ -6,6 +6,9 @@
  * Every answer begins with the refusal's number, 0 for none, and its two numbers. A refusal leaves outputs as they were; rows that
  * were indexed or read before it stay, and are counted. Every call takes any bytes and any numbers. An output or a table that a call
  * changes may not overlap other bytes that are lent to the same call.
+ *
+ * A definition line that does not read is refused with 2 (empty), 3 (no '>') or 4 (no name), and with the offset at which reading it
+ * failed: where the line begins, plus 0 for 2 and 3, 1 for 4. wakeluri_check tells the record first and that offset second.
  */
 #ifndef WAKELURI_H
 #define WAKELURI_H
@@ -44,7 +47,7 @@ struct wakeluri_row {
     uint64_t name_start, name_length, length, position, line_bases, line_width;
 };
 
-/* What a definition line says, given with its end. Refuses 1 to 4. */
+/* What a definition line says, given with its end. Refuses 1 to 4; the line begins at 0, so `first` is the place in it. */
 struct wakeluri_definition wakeluri_definition_line(const uint8_t *line, size_t line_length);
 
 /* What the content of a definition line says, without its end. Refuses 1 to 4. */

@@ -27,9 +27,13 @@ bytesOf (g ∷ gs) = length (g .def) + sumWidths (g .seq) + bytesOf gs
 abbrev pub recordAt : List Group → ℕ → Group
 recordAt gs k = getD gs k (record { def = []; seq = [] })
 
--- where the sequence of record k begins: behind the records before it, and behind its definition line
+-- where record k begins, which is where its definition line does: behind the records before it
+abbrev pub definitionAt : List Group → ℕ → ℕ
+definitionAt gs k = bytesOf (take k gs)
+
+-- where the sequence of record k begins: behind its definition line
 abbrev pub sequenceAt : List Group → ℕ → ℕ
-sequenceAt gs k = bytesOf (take k gs) + length (recordAt gs k .def)
+sequenceAt gs k = definitionAt gs k + length (recordAt gs k .def)
 
 -- ---- a record and its line
 

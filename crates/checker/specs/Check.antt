@@ -10,7 +10,7 @@ use Rattle.lines.specs.Lines.{lines, tailOf, sumBases, sumWidths, basesAt}
 use Rattle.lines.specs.Groups.{Group, groups}
 use Rattle.lines.specs.Same.{sameBytes}
 use Rattle.lines.specs.declared.Span.{Span}
-use Rattle.definition.specs.Definition.{refusalOf}
+use Rattle.definition.specs.Definition.{refusalIn}
 use Rattle.definition.specs.Definition as definition
 use Rattle.definition.specs.declared.Parsed.{Parsed}
 use Rattle.definition.specs.declared.Parsed.the-variants.{Named, Bad}
@@ -56,12 +56,12 @@ againstLines n start name seq (l ∷ ls) = lineJudged n start name seq l (index.
 
 -- 2 to 4
 abbrev pub definedSays : ℕ → ℕ → Group → List (List ℕ) → Parsed → Verdict
-definedSays n start g ls (Bad f) = Refused (refusalOf f n)
-definedSays n start g ls (Named d) = againstLines n start (spanOf (g .def) (d .name)) (g .seq) ls
+definedSays n at g ls (Bad f) = Refused (refusalIn f n at)
+definedSays n at g ls (Named d) = againstLines n (at + length (g .def)) (spanOf (g .def) (d .name)) (g .seq) ls
 
--- record n, whose sequence begins at an offset, against the lines that are left
+-- record n, which begins at an offset, against the lines that are left
 unfoldable pub recordSays : ℕ → ℕ → Group → List (List ℕ) → Verdict
-recordSays n start g ls = definedSays n start g ls (definition.definitionSays (g .def))
+recordSays n at g ls = definedSays n at g ls (definition.definitionSays (g .def))
 
 -- the first refusal of two
 abbrev pub andThen : Verdict → Verdict → Verdict
@@ -73,7 +73,7 @@ unfoldable pub recordsSay : ℕ → ℕ → List Group → List (List ℕ) → V
 recordsSay k at [] [] = Accepted
 recordsSay k at [] (l ∷ ls) = Refused (refusal.BytesLeft k)
 recordsSay k at (g ∷ gs) ls =
-    andThen (recordSays (suc k) (at + length (g .def)) g ls) (recordsSay (suc k) (at + length (g .def) + sumWidths (g .seq)) gs (tailOf ls))
+    andThen (recordSays (suc k) at g ls) (recordsSay (suc k) (at + length (g .def) + sumWidths (g .seq)) gs (tailOf ls))
 
 -- a file and an index: the size limit first, then every record
 unfoldable pub checkOf : List ℕ → List ℕ → Verdict

@@ -9,3 +9,5 @@ pub mod Sequences
 pub mod Mend
 pub mod MendedLaws
 pub mod Mended
+pub mod BadDefinitionLaws
+pub mod BadDefinition

@@ -28,7 +28,7 @@ use Rattle.walking.specs.Places.{firstElsewhere}
 use Rattle.walking.specs.PlaceLaws.{PlacesSaid, places-said, places-only}
 use Rattle.walking.specs.PlaceLaws.PlacesSaid.{all, one}
 use Rattle.checker.specs.Check.{spanOf, placesSay, sequenceSays, entrySays, lineJudged, againstLines, definedSays, recordSays, andThen, recordsSay, checkOf}
-use Rattle.checker.specs.Accepts.{bytesOf, recordAt, sequenceAt, BothRead, SameName, SameLength, Matches, limit, Fit, MatchesAt, Accepts}
+use Rattle.checker.specs.Accepts.{bytesOf, recordAt, definitionAt, sequenceAt, BothRead, SameName, SameLength, Matches, limit, Fit, MatchesAt, Accepts}
 use Rattle.checker.specs.FirstFault.{LineFault, RecordFault, FirstFault}
 use Rattle.checker.specs.FirstFault.LineFault.{bad-line, other-name, other-length, other-place}
 use Rattle.checker.specs.FirstFault.RecordFault.{bad-definition, no-line, wrong-line}
@@ -89,22 +89,22 @@ module _ (n start : ℕ) (g : Group) (l : List ℕ) where
 
   -- ---- and nothing else is said
 
-  module _ (left : List (List ℕ)) where
+  module _ (at : ℕ) (begun : at + length (g .def) ≡ start) (left : List (List ℕ)) where
     module _ (b : BothRead n g l) where
-      both-read : recordSays n start g (l ∷ left) ≡ entrySays n start (spanOf (g .def) (b .said .name)) (g .seq) (nameOf l) (b .entry .«record»)
+      both-read : recordSays n at g (l ∷ left) ≡ entrySays n start (spanOf (g .def) (b .said .name)) (g .seq) (nameOf l) (b .entry .«record»)
       unfolding recordSays againstLines
-      both-read = rw (b .defined, b .reads)
+      both-read = rw (b .defined, b .reads, begun)
 
-      same-name : SameName b → recordSays n start g (l ∷ left) ≡ sequenceSays n start (g .seq) (b .entry .«record»)
+      same-name : SameName b → recordSays n at g (l ∷ left) ≡ sequenceSays n start (g .seq) (b .entry .«record»)
       unfolding entrySays
       same-name s = both-read ∙ rw (same-equal _ _ s)
 
       same-length : SameName b → SameLength b → (p : Placed) → PlacesSaid (placeIn (b .entry .«record»)) 0 (basesAt start (g .seq)) p
-          → recordSays n start g (l ∷ left) ≡ placesSay n p
+          → recordSays n at g (l ∷ left) ≡ placesSay n p
       unfolding sequenceSays
       same-length s c p h = same-name s ∙ rw (eq-eqb _ _ c, ← places-only _ _ _ _ h)
 
-    line-only : (v : Verdict) (d : Definition) → definition.definitionSays (g .def) ≡ Named d → LineSaid n start g l v → recordSays n start g (l ∷ left) ≡ v
+    line-only : (v : Verdict) (d : Definition) → definition.definitionSays (g .def) ≡ Named d → LineSaid n start g l v → recordSays n at g (l ∷ left) ≡ v
     unfolding recordSays againstLines entrySays sequenceSays
     line-only v d h (matches m) = same-length (m .both) (m .name) (m .count) There (all (λ j k. rw zero-add (m .places j (rw length-basesAt at k))))
     line-only v d h (faulty (bad-line x e)) = rw (h, e)
@@ -117,29 +117,29 @@ module _ (n start : ℕ) (g : Group) (l : List ℕ) where
 -- ---- one record
 
 -- a record and the next line match, or are wrong
-pub data RecordSaid (n start : ℕ) (g : Group) : List (List ℕ) → Verdict → Type 0 where
-  matching : {l : List ℕ} {left : List (List ℕ)} → Matches n start g l → RecordSaid n start g (l ∷ left) Accepted
-  wrong : {left : List (List ℕ)} {x : Refusal} → RecordFault n start g left x → RecordSaid n start g left (Refused x)
+pub data RecordSaid (n at : ℕ) (g : Group) : List (List ℕ) → Verdict → Type 0 where
+  matching : {l : List ℕ} {left : List (List ℕ)} → Matches n (at + length (g .def)) g l → RecordSaid n at g (l ∷ left) Accepted
+  wrong : {left : List (List ℕ)} {x : Refusal} → RecordFault n at g left x → RecordSaid n at g left (Refused x)
 
-record-said : (n start : ℕ) (g : Group) (left : List (List ℕ)) → RecordSaid n start g left (recordSays n start g left)
+record-said : (n at : ℕ) (g : Group) (left : List (List ℕ)) → RecordSaid n at g left (recordSays n at g left)
 unfolding recordSays againstLines
-record-said n start g left = go (definition.definitionSays (g .def)) refl left
+record-said n at g left = go (definition.definitionSays (g .def)) refl left
   where
-    line : (d : Definition) → definition.definitionSays (g .def) ≡ Named d → (l : List ℕ) (left : List (List ℕ)) (v : Verdict) → LineSaid n start g l v → RecordSaid n start g (l ∷ left) v
+    line : (d : Definition) → definition.definitionSays (g .def) ≡ Named d → (l : List ℕ) (left : List (List ℕ)) (v : Verdict) → LineSaid n (at + length (g .def)) g l v → RecordSaid n at g (l ∷ left) v
     line d h l left v (matches m) = matching m
     line d h l left v (faulty e) = wrong (wrong-line d h e)
 
-    go : (p : Parsed) → definition.definitionSays (g .def) ≡ p → (left : List (List ℕ)) → RecordSaid n start g left (definedSays n start g left p)
+    go : (p : Parsed) → definition.definitionSays (g .def) ≡ p → (left : List (List ℕ)) → RecordSaid n at g left (definedSays n at g left p)
     go (Bad e) h left = wrong (bad-definition e h)
     go (Named d) h [] = wrong (no-line d h)
-    go (Named d) h (l ∷ left) = line d h l left _ (line-said n start g l d h)
+    go (Named d) h (l ∷ left) = line d h l left _ (line-said n (at + length (g .def)) g l d h)
 
-record-only : (n start : ℕ) (g : Group) (left : List (List ℕ)) (v : Verdict) → RecordSaid n start g left v → recordSays n start g left ≡ v
+record-only : (n at : ℕ) (g : Group) (left : List (List ℕ)) (v : Verdict) → RecordSaid n at g left v → recordSays n at g left ≡ v
 unfolding recordSays againstLines
-record-only n start g _ v (matching {l} {left} m) = line-only n start g l left v (m .both .said) (m .both .defined) (matches m)
-record-only n start g left v (wrong (bad-definition e h)) = rw h
-record-only n start g left v (wrong (no-line d h)) = rw h
-record-only n start g _ v (wrong (wrong-line {l} {left} d h e)) = line-only n start g l left v d h (faulty e)
+record-only n at g _ v (matching {l} {left} m) = line-only n (at + length (g .def)) g l at refl left v (m .both .said) (m .both .defined) (matches m)
+record-only n at g left v (wrong (bad-definition e h)) = rw h
+record-only n at g left v (wrong (no-line d h)) = rw h
+record-only n at g _ v (wrong (wrong-line {l} {left} d h e)) = line-only n (at + length (g .def)) g l at refl left v d h (faulty e)
 
 -- ---- all records: those behind k others, the first of which begins at an offset
 
@@ -152,7 +152,7 @@ pub data AllSaid (k at : ℕ) (gs : List Group) (ls : List (List ℕ)) : Verdict
   all-match : length ls ≡ length gs → ((j : ℕ) → j < length gs → MatchesFrom k at gs ls j) → AllSaid k at gs ls Accepted
   some-left : (n : ℕ) → n ≡ k + length gs → ((j : ℕ) → j < length gs → MatchesFrom k at gs ls j) → length gs < length ls → AllSaid k at gs ls (Refused (BytesLeft n))
   one-wrong : {x : Refusal} → (r : ℕ) → r < length gs → ((j : ℕ) → j < r → MatchesFrom k at gs ls j)
-      → RecordFault (suc (k + r)) (at + sequenceAt gs r) (recordAt gs r) (drop r ls) x → AllSaid k at gs ls (Refused x)
+      → RecordFault (suc (k + r)) (at + definitionAt gs r) (recordAt gs r) (drop r ls) x → AllSaid k at gs ls (Refused x)
 
 -- one record more in front
 module _ (k at : ℕ) (g : Group) (gs : List Group) where
@@ -166,12 +166,20 @@ module _ (k at : ℕ) (g : Group) (gs : List Group) where
   unfolding bytesOf behind
   place j = omega arith
 
+  begin : (j : ℕ) → behind + definitionAt gs j ≡ at + definitionAt (g ∷ gs) (suc j)
+  unfolding bytesOf behind
+  begin j = omega arith
+
   number-first : suc k ≡ suc (k + 0)
   number-first = omega arith
 
   place-first : at + length (g .def) ≡ at + sequenceAt (g ∷ gs) 0
   unfolding bytesOf
   place-first = omega arith
+
+  begin-first : at ≡ at + definitionAt (g ∷ gs) 0
+  unfolding bytesOf
+  begin-first = omega arith
 
   -- the first, and those behind it
   join : (l : List ℕ) (ls : List (List ℕ)) (n : ℕ) → Matches (suc k) (at + length (g .def)) g l → ((j : ℕ) → j < n → MatchesFrom (suc k) behind gs ls j)
@@ -182,11 +190,11 @@ module _ (k at : ℕ) (g : Group) (gs : List Group) where
   more : (l : List ℕ) (ls : List (List ℕ)) (v : Verdict) → Matches (suc k) (at + length (g .def)) g l → AllSaid (suc k) behind gs ls v → AllSaid k at (g ∷ gs) (l ∷ ls) v
   more l ls v m (all-match c h) = all-match (ap suc c) (join l ls (length gs) m h)
   more l ls v m (some-left n e h q) = some-left n (omega arith) (join l ls (length gs) m h) (omega arith)
-  more l ls v m (one-wrong r q h e) = one-wrong (suc r) (omega arith) (join l ls r m h) (rw (number r, place r) at e)
+  more l ls v m (one-wrong r q h e) = one-wrong (suc r) (omega arith) (join l ls r m h) (rw (number r, begin r) at e)
 
   onward : (l : List ℕ) (ls : List (List ℕ)) (v : Verdict) → MatchesFrom k at (g ∷ gs) (l ∷ ls) 0 → recordsSay (suc k) behind gs ls ≡ v → recordsSay k at (g ∷ gs) (l ∷ ls) ≡ v
   unfolding recordsSay behind
-  onward l ls v m e = rw (record-only (suc k) (at + length (g .def)) g (l ∷ ls) Accepted (matching (rw (number-first, place-first) m))) e
+  onward l ls v m e = rw (record-only (suc k) at g (l ∷ ls) Accepted (matching (rw (number-first, place-first) m))) e
 
   rest : (l : List ℕ) (ls : List (List ℕ)) (n : ℕ) → ((j : ℕ) → j < suc n → MatchesFrom k at (g ∷ gs) (l ∷ ls) j) → (j : ℕ) → j < n → MatchesFrom (suc k) behind gs ls j
   rest l ls n h j q = rw (number j, place j) (h (suc j) (omega arith))
@@ -195,13 +203,13 @@ all-said : (gs : List Group) (k at : ℕ) (ls : List (List ℕ)) → AllSaid k a
 unfolding recordsSay behind
 all-said [] k at [] = all-match refl (λ j h. absurd (omega arith))
 all-said [] k at (l ∷ ls) = some-left k (omega arith) (λ j h. absurd (omega arith)) (omega arith)
-all-said (g ∷ gs) k at ls = go ls (recordSays (suc k) (at + length (g .def)) g ls) (record-said (suc k) (at + length (g .def)) g ls) (all-said gs (suc k) (behind k at g gs))
+all-said (g ∷ gs) k at ls = go ls (recordSays (suc k) at g ls) (record-said (suc k) at g ls) (all-said gs (suc k) (behind k at g gs))
   where
-    go : (ls : List (List ℕ)) (v : Verdict) → RecordSaid (suc k) (at + length (g .def)) g ls v
+    go : (ls : List (List ℕ)) (v : Verdict) → RecordSaid (suc k) at g ls v
         → ((left : List (List ℕ)) → AllSaid (suc k) (behind k at g gs) gs left (recordsSay (suc k) (behind k at g gs) gs left))
         → AllSaid k at (g ∷ gs) ls (andThen v (recordsSay (suc k) (behind k at g gs) gs (tailOf ls)))
     go (l ∷ left) v (matching m) h = more k at g gs l left _ m (h left)
-    go ls v (wrong e) h = one-wrong 0 (omega arith) (λ j q. absurd (omega arith)) (rw (number-first k at g gs, place-first k at g gs) at e)
+    go ls v (wrong e) h = one-wrong 0 (omega arith) (λ j q. absurd (omega arith)) (rw (number-first k at g gs, begin-first k at g gs) at e)
 
 -- a line without bytes does not read, so nothing matches it
 no-bytes : (n start : ℕ) (g : Group) → Matches n start g [] → ⊥
@@ -219,7 +227,7 @@ all-only [] k at [] v (some-left n e h q) = absurd (omega arith)
 all-only [] k at (l ∷ ls) v (some-left n e h q) = ap (λ (m : ℕ). Refused (BytesLeft m)) (omega arith)
 all-only [] k at ls v (one-wrong r q h e) = absurd (omega arith)
 all-only (g ∷ gs) k at ls v (one-wrong zero q h e) =
-    rw (record-only (suc k) (at + length (g .def)) g ls v (wrong (rw (← number-first k at g gs, ← place-first k at g gs) at e)))
+    rw (record-only (suc k) at g ls v (wrong (rw (← number-first k at g gs, ← begin-first k at g gs) at e)))
 all-only (g ∷ gs) k at [] v (all-match c h) = absurd (omega arith)
 all-only (g ∷ gs) k at [] v (some-left n e h q) = absurd (omega arith)
 all-only (g ∷ gs) k at [] v (one-wrong (suc r) q h e) = absurd (no-bytes _ _ g (h 0 (omega arith)))
@@ -229,7 +237,7 @@ all-only (g ∷ gs) k at (l ∷ ls) v (some-left n e h q) =
     onward k at g gs l ls v (h 0 (omega arith)) (all-only gs (suc k) (behind k at g gs) ls v (some-left n (omega arith) (rest k at g gs l ls (length gs) h) (omega arith)))
 all-only (g ∷ gs) k at (l ∷ ls) v (one-wrong (suc r) q h e) =
     onward k at g gs l ls v (h 0 (omega arith))
-    (all-only gs (suc k) (behind k at g gs) ls v (one-wrong r (omega arith) (rest k at g gs l ls r h) (rw (← number k at g gs r, ← place k at g gs r) at e)))
+    (all-only gs (suc k) (behind k at g gs) ls v (one-wrong r (omega arith) (rest k at g gs l ls r h) (rw (← number k at g gs r, ← begin k at g gs r) at e)))
 
 -- ---- a file and an index
 
@@ -251,7 +259,7 @@ module _ (f i : List ℕ) where
   all-mean : Fit f i → (v : Verdict) → AllSaid 0 0 gs (lines i) v → Means f i v
   all-mean l v (all-match c h) = record { limits = l; count = c; each = from-start (length gs) h }
   all-mean l v (some-left n e h q) = rw (e, zero-add) (lines-left l (from-start (length gs) h) q)
-  all-mean l v (one-wrong r q h e) = wrong-record l r q (from-start r h) (rw (zero-add r, zero-add (sequenceAt gs r)) at e)
+  all-mean l v (one-wrong r q h e) = wrong-record l r q (from-start r h) (rw (zero-add r, zero-add (definitionAt gs r)) at e)
 
   pub check-means : Means f i (checkOf f i)
   unfolding checkOf overLimit
@@ -272,5 +280,5 @@ module _ (f i : List ℕ) where
   check-only Accepted m = within (m .limits) Accepted (all-match (m .count) (to-start (length gs) (m .each)))
   check-only (Refused x) (long-fasta h) = unfold checkOf overLimit in rw (lt-ltb _ _ h)
   check-only (Refused x) (long-index h k) = unfold checkOf overLimit in rw (le-ltb _ _ h, lt-ltb _ _ k)
-  check-only (Refused x) (wrong-record l r q h e) = within l (Refused x) (one-wrong r q (to-start r h) (rw (zero-add r, zero-add (sequenceAt gs r)) e))
+  check-only (Refused x) (wrong-record l r q h e) = within l (Refused x) (one-wrong r q (to-start r h) (rw (zero-add r, zero-add (definitionAt gs r)) e))
   check-only (Refused x) (lines-left l h q) = within l (Refused x) (some-left (length gs) (sym (zero-add (length gs))) (to-start (length gs) h) q)

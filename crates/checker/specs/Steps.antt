@@ -19,7 +19,7 @@ use Rattle.lines.specs.Groups.{Group, groups}
 use Rattle.lines.specs.GroupLaws.{groups-cut, lines-next}
 use Rattle.lines.specs.Same.{sameBytes}
 use Rattle.lines.specs.declared.Span.{Span}
-use Rattle.definition.specs.Definition.{refusalOf}
+use Rattle.definition.specs.Definition.{refusalIn}
 use Rattle.definition.specs.Definition as definition
 use Rattle.definition.specs.declared.Definition.{Definition}
 use Rattle.definition.specs.declared.Fault.{Fault}
@@ -81,7 +81,7 @@ placeBehind f i w = record {
 -- what the record at a place leads to, against the lines from the place on
 unfoldable pub placeSays : List ℕ → List ℕ → Place → Verdict
 placeSays f i w =
-    recordSays (w .records + 1) (lineEnd f (w .fasta)) (groupOf (part f (w .fasta) (lineEnd f (w .fasta))) f (lineEnd f (w .fasta))) (lines (drop (w .index) i))
+    recordSays (w .records + 1) (w .fasta) (groupOf (part f (w .fasta) (lineEnd f (w .fasta))) f (lineEnd f (w .fasta))) (lines (drop (w .index) i))
 
 unfoldable pub stepOf : List ℕ → List ℕ → Place → Step
 stepOf f i w = steppedAs (placeSays f i w) (placeBehind f i w)
@@ -153,22 +153,22 @@ module _ (n start next : ℕ) where
           let k = line-sound n l e h in
           rw (against-line l z, h, k .start, k .name)
 
-  module _ (g : Group) (ls : List (List ℕ)) where
-    pub judged-bad : (f : Fault) → definition.definitionSays (g .def) ≡ Bad f → judged.Refused (refusalOf f n) ≡ judgedAs (recordSays n start g ls) next
-    unfolding judgedAs recordSays
-    judged-bad f e = rw e
+module _ (n at next : ℕ) (g : Group) (ls : List (List ℕ)) where
+  pub judged-bad : (f : Fault) → definition.definitionSays (g .def) ≡ Bad f → judged.Refused (refusalIn f n at) ≡ judgedAs (recordSays n at g ls) next
+  unfolding judgedAs recordSays
+  judged-bad f e = rw e
 
-    pub judged-named : (d : Definition) → definition.definitionSays (g .def) ≡ Named d
-        → judgedAs (againstLines n start (spanOf (g .def) (d .name)) (g .seq) ls) next ≡ judgedAs (recordSays n start g ls) next
-    unfolding recordSays
-    judged-named d e = rw e
+  pub judged-named : (d : Definition) → definition.definitionSays (g .def) ≡ Named d
+      → judgedAs (againstLines n (at + length (g .def)) (spanOf (g .def) (d .name)) (g .seq) ls) next ≡ judgedAs (recordSays n at g ls) next
+  unfolding recordSays
+  judged-named d e = rw e
 
 -- only the first of the lines that are left matters
-first-line : (n start : ℕ) (g : Group) (l : List ℕ) (ls : List (List ℕ)) → recordSays n start g (l ∷ []) ≡ recordSays n start g (l ∷ ls)
+first-line : (n at : ℕ) (g : Group) (l : List ℕ) (ls : List (List ℕ)) → recordSays n at g (l ∷ []) ≡ recordSays n at g (l ∷ ls)
 unfolding recordSays againstLines
-first-line n start g l ls = go (definition.definitionSays (g .def))
+first-line n at g l ls = go (definition.definitionSays (g .def))
   where
-    go : (p : Parsed) → definedSays n start g (l ∷ []) p ≡ definedSays n start g (l ∷ ls) p
+    go : (p : Parsed) → definedSays n at g (l ∷ []) p ≡ definedSays n at g (l ∷ ls) p
     go (Bad f) = refl
     go (Named d) = refl
 
@@ -199,12 +199,16 @@ module _ (i : List ℕ) (a : ℕ) where
 
 -- ---- the record at a place
 
-module _ (f i : List ℕ) (w : Place) (h : w .index ≤ length i) (start behind : ℕ) (p : start ≡ lineEnd f (w .fasta)) (q : behind ≡ lineEnd i (w .index)) (j : Judged)
-    (k : j ≡ judgedAs (recordSays (w .records + 1) start (groupOf (part f (w .fasta) start) f start) (onlyLine (part i (w .index) behind))) (start + sumWidths (seqAt f start)))
+-- a line and the offset behind it
+pub line-span : (f : List ℕ) (at : ℕ) → at < length f → at + length (part f at (lineEnd f at)) ≡ lineEnd f at
+line-span f at h = omega (arith, part-length f at (lineEnd f at) (lineEnd-le f at (omega arith)), lineEnd-gt f at h)
+
+module _ (f i : List ℕ) (w : Place) (g : w .fasta < length f) (h : w .index ≤ length i) (start behind : ℕ) (p : start ≡ lineEnd f (w .fasta)) (q : behind ≡ lineEnd i (w .index)) (j : Judged)
+    (k : j ≡ judgedAs (recordSays (w .records + 1) (w .fasta) (groupOf (part f (w .fasta) start) f (w .fasta + length (part f (w .fasta) start))) (onlyLine (part i (w .index) behind))) (behindAt f (w .fasta + length (part f (w .fasta) start))))
   where
     judged-place : j ≡ judgedAs (placeSays f i w) (placeBehind f i w .fasta)
     unfolding placeSays
-    judged-place = k ∙ rw (p, q, next-line i (w .index) h)
+    judged-place = k ∙ rw (p, q, line-span f (w .fasta) g, next-line i (w .index) h)
 
     pub stepped-refused : (r : Refusal) → j ≡ judged.Refused r → step.Refused r ≡ stepOf f i w
     unfolding stepOf judgedAs
@@ -235,9 +239,7 @@ module _ (f i : List ℕ) (w : Place) where
   unfolding checkAt stepOf placeSays recordsSay seqAt
   check-step h =
       let c = linesAt-cut f (w .fasta) h in
-      let q : w .fasta + length (part f (w .fasta) (lineEnd f (w .fasta))) ≡ lineEnd f (w .fasta) =
-      omega (arith, part-length f (w .fasta) (lineEnd f (w .fasta)) (lineEnd-le f (w .fasta) (omega arith))) in
-      rw (c, groups-cut, ← lines-next f (w .fasta) _ _ c, q, lines-tail i (w .index), ← add-one (w .records)) (go (placeSays f i w))
+      rw (c, groups-cut, ← lines-next f (w .fasta) _ _ c, line-span f (w .fasta) h, lines-tail i (w .index), ← add-one (w .records)) (go (placeSays f i w))
     where
       go : (v : Verdict) → andThen v (checkAt f i (placeBehind f i w)) ≡ after f i (steppedAs v (placeBehind f i w))
       go Accepted = refl

@@ -1,7 +1,7 @@
 // Checks an index of any program against its FASTA file: every line of the index has to describe its record, down to the place of
 // every base. Refuses inputs over the size limit (1), a definition line that does not read (2 to 4), a record without a line (19), a
 // line that does not read (9 to 12), another name (21), another length (22), a base that is not where the line says (23), and what is
-// left of the index behind the last record (20). Refusals tell the record, from 1.
+// left of the index behind the last record (20). Refusals tell the record, from 1; 2 to 4 tell the offset too.
 use definition::Parsed;
 use index_line::LineRead;
 use lines::Span;
@@ -113,15 +113,16 @@ fn judge_named(
     }
 }
 
-// A record, whose sequence begins at `start`, against its index line: 2 to 4, then the line.
-fn judge_record(fasta: &[u8], start: usize, def: &[u8], line: &[u8], record: u64) -> Judged
-    ensures { λ r. ⌜ r ≡ judgedAs (recordSays «record» start (groupOf (now (def .entry)) (now (fasta .entry)) start) (onlyLine (now (line .entry)))) (behindAt (now (fasta .entry)) start) ⌝ }
+// A record, which begins at `at` with its definition line, against its index line: 2 to 4, then the line.
+fn judge_record(fasta: &[u8], at: usize, def: &[u8], line: &[u8], record: u64) -> Judged
+    requires { ⌜ at + length (now def) ≤ length (now fasta) ⌝ }
+    ensures { λ r. ⌜ r ≡ judgedAs (recordSays «record» at (groupOf (now (def .entry)) (now (fasta .entry)) (at + length (now (def .entry)))) (onlyLine (now (line .entry)))) (behindAt (now (fasta .entry)) (at + length (now (def .entry)))) ⌝ }
 {
     match definition::parse_line(def) {
-        Parsed::Bad(f) => Judged::Refused(f.refusal(record)),
+        Parsed::Bad(f) => Judged::Refused(f.refusal(record, (at + f.place()) as u64)),
         Parsed::Named(d) => {
             let name = d.name;
-            judge_named(fasta, start, def, name, line, record)
+            judge_named(fasta, at + def.len(), def, name, line, record)
         }
     }
 }
@@ -137,13 +138,7 @@ impl Place {
         let line = self.index;
         let behind = lines::line_end(index, line);
         let record = self.records + 1;
-        match judge_record(
-            fasta,
-            start,
-            &fasta[at..start],
-            &index[line..behind],
-            record,
-        ) {
+        match judge_record(fasta, at, &fasta[at..start], &index[line..behind], record) {
             Judged::Refused(r) => Step::Refused(r),
             Judged::Behind(next) => Step::Next(Place {
                 fasta: next,

@@ -68,16 +68,30 @@ contentSays (b ∷ s) = cond (eqb b 62) (namedOf s (run (spaced false) s)) (Bad 
 unfoldable pub definitionSays : List ℕ → Parsed
 definitionSays l = contentSays (contentOf l)
 
--- the refusal of each fault, with the checker's record, or 0
-unfoldable pub refusalOf : Fault → ℕ → Refusal
-refusalOf Empty n = refused.EmptyDefinition n
-refusalOf NoPrefix n = refused.NoPrefix n
-refusalOf NoName n = refused.NoName n
+-- the place in the line at which reading it failed: its first byte, or the one behind '>'
+unfoldable pub failsAt : Fault → ℕ
+failsAt Empty = 0
+failsAt NoPrefix = 0
+failsAt NoName = 1
+
+-- the refusal of each fault, with its two numbers
+unfoldable pub refusalOf : Fault → ℕ → ℕ → Refusal
+refusalOf Empty a b = refused.EmptyDefinition a b
+refusalOf NoPrefix a b = refused.NoPrefix a b
+refusalOf NoName a b = refused.NoName a b
+
+-- in a line that begins at an offset of its file: the offset of that place, and 0
+abbrev pub refusalAt : Fault → ℕ → Refusal
+refusalAt f start = refusalOf f (start + failsAt f) 0
+
+-- in the checker's record n: the record, and that offset
+abbrev pub refusalIn : Fault → ℕ → ℕ → Refusal
+refusalIn f n start = refusalOf f n (start + failsAt f)
 
 -- the two calls: the size limit first
 unfoldable pub readAs : Parsed → DefinitionRead
 readAs (Named d) = read.Named d
-readAs (Bad f) = read.Refused (refusalOf f 0)
+readAs (Bad f) = read.Refused (refusalOf f (failsAt f) 0)
 
 unfoldable pub contentRead : List ℕ → DefinitionRead
 contentRead l = cond (overLimit (length l)) (read.Refused refused.TooLong) (readAs (contentSays l))

@@ -10,8 +10,9 @@ use borrow.Author.Tests.{eq-eqb, ne-eqb}
 use native.Mathlib.Omega.{arith}
 use Rattle.lines.specs.Lines.{part, contentOf}
 use Rattle.lines.specs.Laws.{part-none, part-snoc, part-length, content-le}
-use Rattle.definition.specs.Definition.{isSpace, spaced, run, kept, keep, described, namedOf, contentSays, definitionSays}
+use Rattle.definition.specs.Definition.{isSpace, spaced, run, kept, keep, described, namedOf, contentSays, definitionSays, failsAt}
 use Rattle.definition.specs.declared.Definition.{Definition}
+use Rattle.definition.specs.declared.Fault.{Fault}
 use Rattle.definition.specs.declared.Fault.the-variants.{Empty, NoPrefix, NoName}
 use Rattle.definition.specs.declared.Parsed.{Parsed}
 use Rattle.definition.specs.declared.Parsed.the-variants.{Named, Bad}
@@ -177,3 +178,12 @@ name-within l d h = go (contentOf l) (content-le l) h
             → (d .name .start ≡ 1) × (1 ≤ d .name .length) × (d .name .start + d .name .length ≤ length l)
         prefixed true e = some s (run (spaced false) s) (run-le (spaced false) s) a e
         prefixed false e = let z : _≡_ {A = ℕ} 0 1 = cc in absurd (omega arith)
+
+-- ---- where reading fails
+
+-- at the line's first byte, or the one behind it
+pub fails-near : (f : Fault) → failsAt f ≤ 1
+unfolding failsAt
+fails-near Empty = omega arith
+fails-near NoPrefix = omega arith
+fails-near NoName = omega arith

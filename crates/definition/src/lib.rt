@@ -3,7 +3,7 @@
 ghost use mathlib.Core.Path.{_≡_};
 ghost use Prim.Native.Nat.{_+_, _≤_};
 ghost use lib.ListN.{length, drop};
-ghost use Rattle.definition.specs.Definition.{isSpace, spaced, run, keep, contentSays, definitionSays, refusalOf, readAs, contentRead, lineRead};
+ghost use Rattle.definition.specs.Definition.{isSpace, spaced, run, keep, contentSays, definitionSays, failsAt, refusalOf, readAs, contentRead, lineRead};
 use lines::Span;
 use refusal::Refusal;
 
@@ -128,14 +128,26 @@ pub fn parse_line(l: &[u8]) -> Parsed
 }
 
 impl Fault {
-    // The refusal of a line that says no name: in a file by itself (record 0), or of the checker's record.
-    pub fn refusal(self, record: u64) -> Refusal
-        ensures { λ r. ⌜ r ≡ refusalOf self «record» ⌝ }
+    // The place in the line at which reading it failed.
+    pub fn place(self) -> usize
+        ensures { λ r. ⌜ r ≡ failsAt self ⌝ }
     {
         match self {
-            Fault::Empty => Refusal::EmptyDefinition { record },
-            Fault::NoPrefix => Refusal::NoPrefix { record },
-            Fault::NoName => Refusal::NoName { record },
+            Fault::Empty => 0,
+            Fault::NoPrefix => 0,
+            Fault::NoName => 1,
+        }
+    }
+
+    // The refusal of a line that says no name. Its two numbers are the offset of that place, and 0; or the checker's record, and that
+    // offset. The caller knows where the line begins.
+    pub fn refusal(self, first: u64, second: u64) -> Refusal
+        ensures { λ r. ⌜ r ≡ refusalOf self first second ⌝ }
+    {
+        match self {
+            Fault::Empty => Refusal::EmptyDefinition { first, second },
+            Fault::NoPrefix => Refusal::NoPrefix { first, second },
+            Fault::NoName => Refusal::NoName { first, second },
         }
     }
 }
@@ -145,7 +157,7 @@ fn read(p: Parsed) -> DefinitionRead
 {
     match p {
         Parsed::Named(d) => DefinitionRead::Named(d),
-        Parsed::Bad(f) => DefinitionRead::Refused(f.refusal(0)),
+        Parsed::Bad(f) => DefinitionRead::Refused(f.refusal(f.place() as u64, 0)),
     }
 }
 

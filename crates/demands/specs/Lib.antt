@@ -8,3 +8,4 @@ pub mod Marked
 pub mod LookUpTells
 pub mod LookUpLaws
 pub mod LookUp
+pub mod BadDefinition

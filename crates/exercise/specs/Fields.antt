@@ -150,9 +150,9 @@ walk-over newest h at tag body rest u n =
 -- a refusal, and what is held, d or c bytes later
 abbrev pub laterRefusal : ℕ → Refusal → Refusal
 laterRefusal d refused.TooLong = refused.TooLong
-laterRefusal d (refused.EmptyDefinition x) = refused.EmptyDefinition x
-laterRefusal d (refused.NoPrefix x) = refused.NoPrefix x
-laterRefusal d (refused.NoName x) = refused.NoName x
+laterRefusal d (refused.EmptyDefinition x y) = refused.EmptyDefinition x y
+laterRefusal d (refused.NoPrefix x y) = refused.NoPrefix x y
+laterRefusal d (refused.NoName x y) = refused.NoName x y
 laterRefusal d (refused.NoBases x) = refused.NoBases x
 laterRefusal d (refused.LineBases x y) = refused.LineBases x y
 laterRefusal d (refused.LineWidth x y) = refused.LineWidth x y

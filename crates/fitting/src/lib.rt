@@ -197,7 +197,7 @@ fn fit_at(s: &[u8], at: usize) -> Step
             fit_sequence(s, at, e, name)
         }
         Parsed::Bad(f) => Step {
-            answer: Indexed::Refused(f.refusal(0)),
+            answer: Indexed::Refused(f.refusal((at + f.place()) as u64, 0)),
             next: Indexer { at },
         },
     }

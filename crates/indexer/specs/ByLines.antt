@@ -18,7 +18,7 @@ use Rattle.lines.specs.GroupLaws.{afterSeq, groups-cut}
 use Rattle.lines.specs.Feeding.{joined, judgeAll, feedAll, finish, fresh, fed-whole}
 use Rattle.definition.specs.declared.Parsed.{Parsed}
 use Rattle.definition.specs.declared.Parsed.the-variants.{Named, Bad}
-use Rattle.definition.specs.Definition.{definitionSays, refusalOf}
+use Rattle.definition.specs.Definition.{definitionSays, refusalAt}
 use Rattle.record.specs.declared.Record.{Record}
 use Rattle.table.specs.declared.Stop.{Stop}
 use Rattle.table.specs.declared.Stop.the-variants.{Ended, Refused}
@@ -65,7 +65,7 @@ rowIn d first m = record {
 -- a definition line of w bytes
 unfoldable pub definitionOut : ℕ → ℕ → Bool → Parsed → Out
 definitionOut at w last (Named d) = cond last (keeps (halted (Refused (NoBases (at + w))))) (keeps (wants-first (record { at = at; width = w; name = d .name })))
-definitionOut at w last (Bad f) = keeps (halted (Refused (refusalOf f 0)))
+definitionOut at w last (Bad f) = keeps (halted (Refused (refusalAt f at)))
 
 -- a first sequence line
 unfoldable pub firstOut : Opened → Line → Bool → Out
@@ -221,7 +221,7 @@ module _ (all : ℕ) where
             refused-step (Refused (NoBases (at + length l))) f rs ls
             ∙ same-step rs f (fileOf (groups (afterSeq ls))) (rw (add-zero (at + length l)) at (judge-none at (length l) (d .name) [] refl) ∙ ap (sequenceSays at (length l) (d .name)) (sym (none-seq ls e)))
         go (Named d) false e = ih (wants-first (record { at = at; width = length l; name = d .name })) f rs e
-        go (Bad x) t e = refused-step (Refused (refusalOf x 0)) f rs ls
+        go (Bad x) t e = refused-step (Refused (refusalAt x at)) f rs ls
 
     first-step : (d : Opened) → Claim (l ∷ ls) (wants-first d)
     unfolding Claim judgeAll firstOut

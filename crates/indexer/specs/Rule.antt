@@ -12,7 +12,7 @@ use Rattle.lines.specs.Lines.{lines, seqOf, sumWidths}
 use Rattle.lines.specs.Groups.{Group, groups}
 use Rattle.definition.specs.declared.Parsed.{Parsed}
 use Rattle.definition.specs.declared.Parsed.the-variants.{Named, Bad}
-use Rattle.definition.specs.Definition.{definitionSays, refusalOf}
+use Rattle.definition.specs.Definition.{definitionSays, refusalAt}
 use Rattle.record.specs.declared.Record.{Record}
 use Rattle.table.specs.Fill.{Found, nothing, withFirst, heldIn}
 use Rattle.table.specs.declared.Stop.the-variants.{Ended, Refused}
@@ -44,7 +44,7 @@ sequenceBy rule at n name ls = judgedBy rule at n name ls (rule .judge (at + n) 
 
 abbrev pub definedBy : SequenceRule → ℕ → ℕ → List (List ℕ) → Parsed → Step
 definedBy rule at n ls (Named d) = sequenceBy rule at n (d .name) ls
-definedBy rule at n ls (Bad f) = record { answer = indexed.Refused (refusalOf f 0); next = record { at = at } }
+definedBy rule at n ls (Bad f) = record { answer = indexed.Refused (refusalAt f at); next = record { at = at } }
 
 -- the record whose definition is the first of some lines, which begin at an offset
 abbrev pub firstBy : SequenceRule → ℕ → List (List ℕ) → Step

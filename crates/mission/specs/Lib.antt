@@ -14,3 +14,4 @@ pub mod Reads
 pub mod Covers
 pub mod MendingLaws
 pub mod Mending
+pub mod BadDefinition

@@ -18,9 +18,9 @@ caseOf n =
     getD
     (none
     ∷ (λ a b. is.TooLong)
-    ∷ (λ a b. is.EmptyDefinition a)
-    ∷ (λ a b. is.NoPrefix a)
-    ∷ (λ a b. is.NoName a)
+    ∷ (λ a b. is.EmptyDefinition a b)
+    ∷ (λ a b. is.NoPrefix a b)
+    ∷ (λ a b. is.NoName a b)
     ∷ (λ a b. is.NoBases a)
     ∷ (λ a b. is.LineBases a b)
     ∷ (λ a b. is.LineWidth a b)
@@ -70,9 +70,9 @@ Told x = (1 ≤ numbersOf x .refusal) × (x ≡ caseOf (numbersOf x .refusal) (n
 told : (x : Refusal) → Told x
 unfolding numbersOf caseOf
 told is.TooLong = (omega arith, refl)
-told (is.EmptyDefinition a) = (omega arith, refl)
-told (is.NoPrefix a) = (omega arith, refl)
-told (is.NoName a) = (omega arith, refl)
+told (is.EmptyDefinition a b) = (omega arith, refl)
+told (is.NoPrefix a b) = (omega arith, refl)
+told (is.NoName a b) = (omega arith, refl)
 told (is.NoBases a) = (omega arith, refl)
 told (is.LineBases a b) = (omega arith, refl)
 told (is.LineWidth a b) = (omega arith, refl)

@@ -11,9 +11,9 @@ told n a b = record { refusal = n; first = a; second = b }
 
 unfoldable pub numbersOf : Refusal → Numbers
 numbersOf is.TooLong = told 1 0 0
-numbersOf (is.EmptyDefinition record′) = told 2 record′ 0
-numbersOf (is.NoPrefix record′) = told 3 record′ 0
-numbersOf (is.NoName record′) = told 4 record′ 0
+numbersOf (is.EmptyDefinition first second) = told 2 first second
+numbersOf (is.NoPrefix first second) = told 3 first second
+numbersOf (is.NoName first second) = told 4 first second
 numbersOf (is.NoBases offset) = told 5 offset 0
 numbersOf (is.LineBases found expected) = told 6 found expected
 numbersOf (is.LineWidth found expected) = told 7 found expected

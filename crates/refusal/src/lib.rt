@@ -3,12 +3,13 @@
 ghost use mathlib.Core.Path.{_≡_};
 ghost use Rattle.refusal.specs.Numbers.{numbersOf, overLimit};
 
-// Lines and records count from 1; rows, places and offsets from 0. A `record` of 0 is none: only the checker tells one.
+// Lines and records count from 1; rows, places and offsets from 0. The two numbers of a definition line that does not read are the offset
+// at which reading it failed, and 0; the checker's are its record, and that offset.
 pub enum Refusal {
     TooLong,
-    EmptyDefinition { record: u64 },
-    NoPrefix { record: u64 },
-    NoName { record: u64 },
+    EmptyDefinition { first: u64, second: u64 },
+    NoPrefix { first: u64, second: u64 },
+    NoName { first: u64, second: u64 },
     NoBases { offset: u64 },
     LineBases { found: u64, expected: u64 },
     LineWidth { found: u64, expected: u64 },
@@ -76,9 +77,9 @@ impl Refusal {
     {
         match self {
             Refusal::TooLong => told(1, 0, 0),
-            Refusal::EmptyDefinition { record } => told(2, record, 0),
-            Refusal::NoPrefix { record } => told(3, record, 0),
-            Refusal::NoName { record } => told(4, record, 0),
+            Refusal::EmptyDefinition { first, second } => told(2, first, second),
+            Refusal::NoPrefix { first, second } => told(3, first, second),
+            Refusal::NoName { first, second } => told(4, first, second),
             Refusal::NoBases { offset } => told(5, offset, 0),
             Refusal::LineBases { found, expected } => told(6, found, expected),
             Refusal::LineWidth { found, expected } => told(7, found, expected),

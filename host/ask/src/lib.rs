@@ -1,6 +1,6 @@
 //! The proved library as one who answers questions: each question is one call of an entry point, told as it is.
 
-use questions::form::Value::{self, Bounds, Bytes, Number, Numbers, Output, Rows, Table};
+use questions::form::Value::{self, Bounds, Bytes, MaybeBytes, Number, Numbers, Output, Rows, Table};
 use questions::form::{Answer, Speaker, Tell};
 use questions::row::{OF_A_LINE, WORDS};
 use std::io::Write;
@@ -110,6 +110,9 @@ impl Speaker for Library {
             ("deg", [Bytes(primer)]) => counted(entry::degeneracy(primer)),
             ("prm", [Bytes(primer), Bytes(text)]) => placed(entry::find_primer(primer, text, 0)),
             ("prn", [Bytes(primer), Bytes(text), Number(from)]) => placed(entry::find_primer(primer, text, *from)),
+            ("wfa", [Bytes(name), MaybeBytes(description), Bytes(bases), Number(width), Output(out)]) => {
+                counted(entry::write_record(name, description.as_deref(), bases, *width, out))
+            }
             ("chk", [Bytes(fasta), Bytes(index)]) => told(entry::check(fasta, index).no(), ()),
             ("prg", [Bytes(input)]) => told(None, vec![Bytes(output(self.program.as_ref()?, input)?)]),
             _ => return None,

@@ -54,9 +54,8 @@ impl Primer {
 
     /// The places in some bases, by the place and then by the strand.
     fn places<'p>(&'p self, bases: &'p [u8]) -> Result<Both<'p>, Failure> {
-        let places = |letters: &'p [u8]| {
-            wakeluri::primer_places(letters, bases).map_err(|refusal| not_taken(letters, refusal))
-        };
+        let places =
+            |letters: &'p [u8]| wakeluri::primer_places(letters, bases).map_err(|refusal| not_taken(letters, refusal));
         Ok(Both { forward: places(&self.letters)?.peekable(), reverse: places(&self.reversed)?.peekable() })
     }
 }
@@ -89,7 +88,11 @@ fn not_taken(letters: &[u8], refusal: Refusal) -> Failure {
             let place = refusal.first;
             let letter = usize::try_from(place).ok().and_then(|place| letters.get(place)).copied().unwrap_or(b'?');
             (
-                format!("letter {} of the primer '{shown}' is '{}', which stands for no base", place + 1, letter.escape_ascii()),
+                format!(
+                    "letter {} of the primer '{shown}' is '{}', which stands for no base",
+                    place + 1,
+                    letter.escape_ascii()
+                ),
                 "the letters that stand for bases are ACGTU and MRWSYKVHDBN, small ones too".to_string(),
             )
         }

@@ -14,10 +14,9 @@ fn both_strands_across_lines() {
     folder.run(&["primer", "GAATTC", "f.fa"]).gave("s\t3\t8\t+\tGAATTC\ns\t3\t8\t-\tGAATTC\n");
     // R is A or G; on the other strand the bases are as that strand has them
     folder.run(&["primer", "gAR", "f.fa", "s"]).gave("s\t3\t5\t+\tGAA\ns\t6\t8\t-\tGAA\n");
-    folder.run(&["primer", "NN", "f.fa", "s:8-10"]).gave(concat!(
-        "s\t8\t9\t+\tCN\ns\t8\t9\t-\tNG\n",
-        "s\t9\t10\t+\tNN\ns\t9\t10\t-\tNN\n",
-    ));
+    folder
+        .run(&["primer", "NN", "f.fa", "s:8-10"])
+        .gave(concat!("s\t8\t9\t+\tCN\ns\t8\t9\t-\tNG\n", "s\t9\t10\t+\tNN\ns\t9\t10\t-\tNN\n",));
     folder.run(&["primer", "A", "f.fa", "s:9-10"]).gave("");
 }
 
@@ -25,9 +24,9 @@ fn both_strands_across_lines() {
 fn as_json_and_as_bed() {
     let folder = Folder::new("primer-forms");
     folder.write("f.fa", FASTA);
-    folder.run(&["primer", "--json", "CGA", "f.fa"]).gave(concat!(
-        "{\"name\":\"s\",\"start\":2,\"end\":4,\"strand\":\"+\",\"bases\":\"CGA\"}\n",
-    ));
+    folder
+        .run(&["primer", "--json", "CGA", "f.fa"])
+        .gave(concat!("{\"name\":\"s\",\"start\":2,\"end\":4,\"strand\":\"+\",\"bases\":\"CGA\"}\n",));
     folder.run(&["primer", "--bed", "TCg", "f.fa"]).gave("s\t1\t4\tTCg\t0\t-\n");
     folder.run(&["primer", "--bed", "--json", "A", "f.fa"]).failed(2, &["--json and --bed are two forms"]);
 }
@@ -38,9 +37,9 @@ fn counted() {
     folder.run(&["primer", "--count", "GARNTYC"]).gave("GARNTYC: 16 sequences\n");
     folder.run(&["primer", "--count", "ACGTU"]).gave("ACGTU: 1 sequence\n");
     let most = "N".repeat(31);
-    folder.run(&["primer", "--count", "--json", &most]).gave(&format!(
-        "{{\"primer\":\"{most}\",\"sequences\":4611686018427387904}}\n"
-    ));
+    folder
+        .run(&["primer", "--count", "--json", &most])
+        .gave(&format!("{{\"primer\":\"{most}\",\"sequences\":4611686018427387904}}\n"));
 }
 
 #[test]

@@ -1,6 +1,6 @@
 //! The checker, and the program.
 
-use crate::lines::{bases, content, definition, first_line};
+use crate::lines::{bases, content, definition_at, first_line};
 use crate::reads::offset;
 use crate::rows::{file_rows, index_content, record, sequence_lines, write_line};
 use crate::{PROGRAM_BYTES, PROGRAM_ROWS, n, no};
@@ -24,7 +24,8 @@ pub(crate) fn check(fasta: &[u8], index: &[u8]) -> Result<(), No> {
     let (mut at, mut record) = (0, 0);
     while let Some(line) = first_line(&fasta[at..]) {
         record += 1;
-        let [name_start, name_length, ..] = definition(content(line)).map_err(|[number, ..]| [number, record, 0])?;
+        let [name_start, name_length, ..] =
+            definition_at(line, n(at)).map_err(|[number, offset, _]| [number, record, offset])?;
         let name = &line[name_start as usize..][..name_length as usize];
         let lines = sequence_lines(&fasta[at + line.len()..]);
         let offsets = base_offsets(&lines, at + line.len());

@@ -1,7 +1,7 @@
 //! The complete indexer: a row for each record for which any index line's numbers lead to every base.
 
 use crate::checker::base_offsets;
-use crate::lines::{bases, content, definition, first_line, from};
+use crate::lines::{bases, definition_at, first_line, from};
 use crate::reads::offset;
 use crate::rows::sequence_lines;
 use crate::{n, no};
@@ -13,7 +13,7 @@ use questions::row::{Row, row};
 pub(crate) fn fitted_record(file: &[u8], at: u64) -> Result<Option<(Row, u64)>, No> {
     let rest = from(file, at);
     let Some(line) = first_line(rest) else { return Ok(None) };
-    let [name_start, name_length, ..] = definition(content(line))?;
+    let [name_start, name_length, ..] = definition_at(line, at)?;
     let lines = sequence_lines(&rest[line.len()..]);
     let behind = at + n(line.len());
     let next = behind + lines.iter().map(|line| n(line.len())).sum::<u64>();

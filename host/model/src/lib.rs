@@ -9,6 +9,7 @@ mod lines;
 mod primers;
 mod reads;
 mod rows;
+mod writer;
 
 use checker::{check, program};
 use complete::fitted_record;
@@ -18,6 +19,7 @@ use questions::form::Value::{self, Bounds, Bytes, MaybeBytes, Number, Numbers, O
 use questions::form::{Answer, No, Speaker};
 use reads::{complemented, exact, raw, sequence};
 use rows::{file_rows, find, index_content, index_rows, is_plain, record, write_line};
+use writer::write_record;
 
 /// No byte input may be longer.
 const LIMIT: usize = 1 << 40;
@@ -91,6 +93,9 @@ impl Speaker for Model {
             ("deg", [Bytes(primer)]) => degeneracy(primer).into(),
             ("prm", [Bytes(primer), Bytes(text)]) => next_place(primer, text, 0).into(),
             ("prn", [Bytes(primer), Bytes(text), Number(from)]) => next_place(primer, text, *from).into(),
+            ("wfa", [Bytes(name), MaybeBytes(description), Bytes(bases), Number(width), Output(out)]) => {
+                write_record(name, description.as_deref(), bases, *width, out).into()
+            }
             ("chk", [Bytes(fasta), Bytes(index)]) => check(fasta, index).into(),
             ("prg", [Bytes(input)]) => Ok(vec![Bytes(program(input))]).into(),
             _ => return None,

@@ -35,7 +35,7 @@ pub(crate) fn is_space(b: &u8) -> bool {
     matches!(b, b' ' | b'\t' | b'\n' | 12 | b'\r')
 }
 
-/// Name start, name length, description start, description length.
+/// Name start, name length, description start, description length. A refusal tells the place in the line at which it failed.
 pub(crate) fn definition(content: &[u8]) -> Result<[u64; 4], No> {
     match content.first() {
         None => return no(2, 0, 0),
@@ -44,7 +44,7 @@ pub(crate) fn definition(content: &[u8]) -> Result<[u64; 4], No> {
     }
     let name_end = (1..content.len()).find(|i| is_space(&content[*i])).unwrap_or(content.len());
     if name_end == 1 {
-        return no(4, 0, 0);
+        return no(4, 1, 0);
     }
     let inside = |i: &usize| !is_space(&content[*i]);
     Ok(match (name_end..content.len()).find(inside) {
@@ -54,6 +54,11 @@ pub(crate) fn definition(content: &[u8]) -> Result<[u64; 4], No> {
             [1, n(name_end - 1), n(first), n(last - first + 1)]
         }
     })
+}
+
+/// What the definition line at an offset of a file says. A refusal tells the offset at which it failed.
+pub(crate) fn definition_at(line: &[u8], at: u64) -> Result<[u64; 4], No> {
+    definition(content(line)).map_err(|[number, place, _]| [number, at + place, 0])
 }
 
 // ---- the scanning rule ----

@@ -1,6 +1,6 @@
 //! The rows of a file and of an index text, and those of a table that was lent.
 
-use crate::lines::{bases, content, definition, first_line, from};
+use crate::lines::{bases, content, definition_at, first_line, from};
 use crate::reads::put;
 use crate::{n, no};
 use questions::form::{Answer, No, Value};
@@ -17,7 +17,7 @@ pub(crate) fn sequence_lines(text: &[u8]) -> Vec<&[u8]> {
 pub(crate) fn record(file: &[u8], at: u64) -> Result<Option<(Row, u64)>, No> {
     let rest = from(file, at);
     let Some(line) = first_line(rest) else { return Ok(None) };
-    let [name_start, name_length, ..] = definition(content(line))?;
+    let [name_start, name_length, ..] = definition_at(line, at)?;
     let lines = sequence_lines(&rest[line.len()..]);
     let position = at + n(line.len());
 

@@ -4,7 +4,7 @@
 //! too. To add a family, add its line and its examples here, an arm in `ask` and in the model, and how its questions are made in
 //! [`generate`](crate::generate).
 
-use Kind::{Bounds, Bytes, Number, Numbers, Output, Rows, Table};
+use Kind::{Bounds, Bytes, MaybeBytes, Number, Numbers, Output, Rows, Table};
 use Original::{Lacks, Memory, Refusals};
 use Shape::{Always, Bare, Found, IfOk};
 
@@ -117,6 +117,8 @@ pub const FAMILIES: &[Family] = &[
     asks("deg", &[Bytes], IfOk(&[Number]), &[36, 37], Lacks),
     asks("prm", &[Bytes, Bytes], Found(&[Number]), &[36, 37], Lacks),
     asks("prn", &[Bytes, Bytes, Number], Found(&[Number]), &[36, 37], Lacks),
+    // a record that is written: its bytes
+    asks("wfa", &[Bytes, MaybeBytes, Bytes, Number, Output], Always(&[Number]), &[14, 27, 28, 29, 30], Refusals),
     // the checker; the program's output
     asks("chk", &[Bytes, Bytes], IfOk(&[]), &[2, 3, 4, 9, 10, 11, 12, 19, 20, 21, 22, 23], Lacks),
     asks("prg", &[Bytes], Bare(&[Bytes]), &[], Refusals),
@@ -173,6 +175,13 @@ prm x41 x4e => ok none
 prm x x41 => no 36 0 0
 prn x41 x414141 1 => ok 1
 prn x41 x414141 18446744073709551615 => ok none
+wfa x73 x6f6e65 x4143475441 3 x2e2e2e2e2e2e2e2e2e2e2e2e2e2e2e => ok 14 x3e73206f6e650a4143470a54410a2e
+wfa x73 - x 1 x2e2e2e => ok 3 x3e730a
+wfa x73 - x41 1 x2e2e2e2e => no 14 5 0 0 x2e2e2e2e
+wfa x x x0a 0 x => no 27 0 0 0 x
+wfa x730c x x0a 1 x => no 28 0 0 0 x
+wfa x730b x x0a 1 x => no 29 0 0 0 x
+wfa x730b x0b x413e 1 x => no 30 0 0 0 x
 chk x3e730a414347540a41430a x730936093309340936 => no 23 1 5
 chk x x => ok
 prg x3e730a41 => x7309310933093109310a

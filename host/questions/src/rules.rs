@@ -6,8 +6,10 @@
 use crate::family::{Original, family};
 use crate::form;
 
-/// Refusals that the original doesn't have: where one is right, it has no answer to give.
-const ADDED: [&str; 7] = ["1", "8", "13", "14", "16", "18", "25"];
+/// Whether the original doesn't have a refusal: where such a one is right, it has no answer to give. All from 26 on were added.
+fn is_added(number: &str) -> bool {
+    matches!(number.parse::<u64>(), Ok(1 | 8 | 13 | 14 | 16 | 18 | 25..))
+}
 
 /// How two answers stand to each other.
 #[derive(Clone, Copy, Debug, Eq, Ord, PartialEq, PartialOrd)]
@@ -74,7 +76,7 @@ fn against_original(question: &str, original: &str, ours: &str) -> Kind {
     let (name, mine): (_, Vec<&str>) = (question.split(' ').next().unwrap_or_default(), ours.split(' ').collect());
     let refused = if mine[0] == "no" { mine.get(1).copied() } else { None };
     if original == "skip" {
-        return if refused.is_some_and(|n| ADDED.contains(&n)) { Kind::Added } else { Kind::Skipped };
+        return if refused.is_some_and(is_added) { Kind::Added } else { Kind::Skipped };
     }
     if original == ours {
         return Kind::Same;

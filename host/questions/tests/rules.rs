@@ -26,7 +26,8 @@ fn an_added_refusal_stands_only_where_the_original_has_no_answer() {
 fn a_family_that_the_original_lacks() {
     assert_eq!(original("fit x t", "skip", "ok 0 t"), Kind::Skipped);
     assert_eq!(original("fit x3e73 t", "skip", "no 8 0 0 0 t"), Kind::Added);
-    assert_eq!(original("fit x3e730a410a4141 t", "skip", "no 42 6 3 0 t"), Kind::Skipped);
+    assert_eq!(original("fit x3e730a410a4141 t", "skip", "no 42 6 3 0 t"), Kind::Added);
+    assert_eq!(original("fit x3e t", "skip", "no 4 0 0 0 t"), Kind::Skipped);
     assert_eq!(Rules::Exact.judge("fit x3e73 t", "no 8 0 0 0 t", "skip"), Kind::Different);
 }
 

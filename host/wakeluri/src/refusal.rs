@@ -74,6 +74,22 @@ impl Refusal {
         if number == 0 { Ok(()) } else { Err(Self { number, first, second, call }) }
     }
 
+    /// The offset in the FASTA file, from 0, that it tells: of a definition line that does not read (2 to 4), of the byte at which
+    /// reading it failed; of 5, of the byte behind the record's first line; of 42, of the base that no index leads to.
+    ///
+    /// ```
+    /// let refusal = wakeluri::index(b">s\nACGT\n>\nAC\n").unwrap_err();
+    /// assert_eq!((refusal.number, refusal.offset()), (4, Some(9)));
+    /// assert_eq!(refusal.words(), "a definition line has no name after its '>', at byte 9");
+    /// ```
+    pub fn offset(&self) -> Option<u64> {
+        match (self.number, self.call) {
+            (2..=4, Call::Check) => Some(self.second),
+            (2..=5 | 42, Call::Index) => Some(self.first),
+            _ => None,
+        }
+    }
+
     /// What is wrong and where, in words.
     ///
     /// ```
@@ -86,11 +102,15 @@ impl Refusal {
         let line = if checking { format!("the index line of record {first}") } else { format!("line {first}") };
         let definition =
             if checking { format!("the definition line of record {first}") } else { "a definition line".to_string() };
+        let there = match self.offset() {
+            Some(offset) => format!("byte {offset}"),
+            None => format!("place {first} of the line"),
+        };
         match self.number {
             1 => "an input has more than 1,099,511,627,776 bytes".to_string(),
-            2 => format!("{definition} is empty"),
-            3 => format!("{definition} does not begin with '>'"),
-            4 => format!("{definition} has no name after its '>'"),
+            2 => format!("{definition} is empty, at {there}"),
+            3 => format!("{definition} does not begin with '>', at {there}"),
+            4 => format!("{definition} has no name after its '>', at {there}"),
             5 => format!("a record has no bases in its first line, which ends at offset {first}"),
             6 => format!("a line has {first} bases, and its record's lines have {second}"),
             7 => format!("a line has {first} bytes with its end, and its record's lines have {second}"),
@@ -138,9 +158,10 @@ impl Refusal {
         let checking = self.call == Call::Check;
         let line = if checking { "record" } else { "line" };
         match number {
-            2..=4 if checking => format!("refused {number} (record {first})"),
-            1..=4 | 15 | 16 | 27..=30 | 36 => format!("refused {number}"),
-            5 => format!("refused {number} (offset {first})"),
+            2..=4 if checking => format!("refused {number} (record {first}, offset {second})"),
+            2..=4 if self.call == Call::Definition => format!("refused {number} (place {first})"),
+            2..=5 => format!("refused {number} (offset {first})"),
+            1 | 15 | 16 | 27..=30 | 36 => format!("refused {number}"),
             6 | 7 => format!("refused {number} (found {first}, expected {second})"),
             8 => format!("refused {number} (rows {first})"),
             9 if !checking => format!("refused {number} (line {first})"),

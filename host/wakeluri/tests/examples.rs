@@ -107,7 +107,8 @@ fn an_index_is_accepted_though_the_indexer_refuses_the_file() {
 #[test]
 fn what_the_checker_refuses_first() {
     assert_eq!(checked(b"", b""), (0, 0, 0));
-    assert_eq!(checked(b">\n", b""), (4, 1, 0));
+    assert_eq!(checked(b">\n", b""), (4, 1, 1));
+    assert_eq!(checked(b">s\nA\n>\nA\n", b"s\t1\t3\t1\t2\n"), (4, 2, 6));
     assert_eq!(checked(b"", b"\n"), (20, 0, 0));
     assert_eq!(checked(b">s\n", b"s\t0\t3\t0\t0\n"), (12, 1, 4));
     assert_eq!(checked(b">s\n", b"s\t0\t9\t7\t1\n"), (0, 0, 0));
@@ -184,6 +185,27 @@ fn two_calls_for_a_definition() {
     assert_eq!((definition.name_start, definition.name_length, definition.description_length), (1, 1, 0));
     // vertical tab isn't whitespace, form feed is
     assert_eq!(entry::definition_line(b">a\x0bb\x0cc").name_length, 3);
+}
+
+#[test]
+fn where_a_definition_line_fails() {
+    let place = |line: &[u8]| (entry::definition_line(line).refusal, entry::definition_line(line).first);
+    assert_eq!([place(b"\r\n"), place(b"s\n"), place(b"> s\n"), place(b">")], [(2, 0), (3, 0), (4, 1), (4, 1)]);
+
+    // a file is told by offset, whatever the rule, and so is a record alone; the rows before it stay
+    let file = b">s\nAC\n> t\nAC\n";
+    let mut table = [0; 96];
+    for answer in [entry::index_file(file, &mut table), entry::index_complete(file, &mut table)] {
+        assert_eq!((no(answer), answer.count), ((4, 7, 0), 1));
+    }
+    let record = entry::index_record(file, 6);
+    assert_eq!((record.refusal, record.first, record.second), (4, 7, 0));
+    assert_eq!(strict_text(b">s\nAC\n>t\n\n"), Err((5, 10, 0)));
+    assert_eq!(checked(file, b"s\t2\t3\t2\t3\n"), (4, 2, 7));
+
+    // an offset in the middle of a line is where the line begins, for the call
+    assert_eq!(entry::index_record(file, 4).first, 4);
+    assert_eq!(entry::index_record(b">s\n\nAC\n", 3).refusal, 2);
 }
 
 #[test]
@@ -302,7 +324,7 @@ fn what_the_complete_rule_asks_of_lines() {
     assert_eq!(index_text(b">s\nAC\nG\nTA\n"), Err((42, 8, 4)));
     // 2 to 4 come record by record, before and after it
     assert_eq!(index_text(b">s\nAC\nGTA\n>\n"), Err((42, 8, 5)));
-    assert_eq!(index_text(b">s\n\n>\n"), Err((4, 0, 0)));
+    assert_eq!(index_text(b">s\n\n>\n"), Err((4, 5, 0)));
     assert_eq!(index_text(b"\n>s\n"), Err((2, 0, 0)));
     assert_eq!(index_text(b"s\n"), Err((3, 0, 0)));
 }

@@ -13,6 +13,9 @@ enum-known-p c = search needs
 enum-known-p-2 : tie.Need-enum-known-p-2
 enum-known-p-2 c = search needs
 
+place-requires : tie.Need-place-requires
+place-requires c κs = search needs
+
 refusal-requires : tie.Need-refusal-requires
 refusal-requires c κs = search needs
 
@@ -22,7 +25,7 @@ returns c = rw (c .before .p .given .1)
 
 returns-2 : tie.Need-returns-2
 unfolding readAs
-returns-2 c = rw (c .before .before .p2 .given .1) (ap Refused (c .refusal .ensures))
+returns-2 c = rw (c .before .before .before .p2 .given .1, ← c .before .place .ensures) (ap Refused (c .refusal .ensures))
 
 pub read-spec : {M : Type 1} → statement M
-read-spec = tie.close (tie.spec enum-known-p enum-known-p-2 refusal-requires returns returns-2)
+read-spec = tie.close (tie.spec enum-known-p enum-known-p-2 place-requires refusal-requires returns returns-2)

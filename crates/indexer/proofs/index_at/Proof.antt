@@ -7,7 +7,7 @@ use native.Mathlib.Omega.{arith}
 use lib.ListN.{length}
 use Rattle.lines.specs.Lines.{part}
 use Rattle.lines.specs.Laws.{lineEnd-le, lineEnd-gt, part-length}
-use Rattle.definition.specs.Laws.{name-within}
+use Rattle.definition.specs.Laws.{name-within, fails-near}
 use Rattle.indexer.specs.RuleLaws.{record-end, record-here}
 use Rattle.indexer.proofs.index_at.Statement.{statement}
 use Rattle.indexer.proofs.index_at.Tie as tie
@@ -52,6 +52,13 @@ index-sequence-requires c κs =
 enum-known-d-2 : tie.Need-enum-known-d-2
 enum-known-d-2 c = search needs
 
+place-requires : tie.Need-place-requires
+place-requires c κs = search needs
+
+-- the place is in the definition line, or just behind it
+add-refusal : tie.Need-add-refusal
+add-refusal c = omega (arith, c .place .ensures, fails-near (c .before .before .d2 .given .0 .0))
+
 refusal-requires : tie.Need-refusal-requires
 refusal-requires c κs = search needs
 
@@ -63,9 +70,9 @@ returns-2 c =
 
 returns-3 : tie.Need-returns-3
 returns-3 c =
-    let p = c .before .before .before .before in
+    let p = c .before .before .before .before .before in
     let l = p .before .before in
-    rw (c .refusal .ensures) (record-here _ _ _ _ _ _ (l .before .if1 .left) (l .line-end .ensures) (p .parse-line .ensures) (c .before .before .d2 .given .1))
+    rw (c .refusal .ensures, c .before .place .ensures) (record-here _ _ _ _ _ _ (l .before .if1 .left) (l .line-end .ensures) (p .parse-line .ensures) (c .before .before .before .d2 .given .1))
 
 pub index-at-spec : {M : Type 1} → statement M
 index-at-spec =
@@ -80,6 +87,8 @@ index-at-spec =
     enum-known-d
     index-sequence-requires
     enum-known-d-2
+    place-requires
+    add-refusal
     refusal-requires
     returns-2
     returns-3)

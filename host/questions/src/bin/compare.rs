@@ -7,6 +7,7 @@
 //! a program that didn't answer.
 
 use questions::generate::Questions;
+use questions::row::WORDS;
 use questions::rules::{Kind, Rules};
 use std::collections::BTreeMap;
 use std::io::{self, BufRead, Read, Write};
@@ -48,8 +49,8 @@ fn arguments() -> Option<Asked> {
 }
 
 /// Asks one program a batch of questions, and takes all its answers.
-fn answers(speaker: &str, questions: &str) -> io::Result<String> {
-    let spawned = Command::new(speaker).stdin(Stdio::piped()).stdout(Stdio::piped()).spawn();
+fn answers(speaker: &str, arguments: &[&str], questions: &str) -> io::Result<String> {
+    let spawned = Command::new(speaker).args(arguments).stdin(Stdio::piped()).stdout(Stdio::piped()).spawn();
     let mut child: Child = spawned.map_err(|e| io::Error::new(e.kind(), format!("{speaker}: {e}")))?;
     let (stdin, stdout) = (child.stdin.take(), child.stdout.take());
     let mut told = String::new();
@@ -126,6 +127,9 @@ fn run(asked: &Asked) -> io::Result<bool> {
             Box::new(made.take(asked.count).map(Ok))
         }
     };
+    // the original has to be told how many numbers a row has
+    let words = WORDS.to_string();
+    let told: &[&str] = if asked.rules == Rules::Original { &["--words", &words, "--places"] } else { &[] };
     let mut counts = Counts::default();
     loop {
         let mut batch = String::new();
@@ -138,8 +142,8 @@ fn run(asked: &Asked) -> io::Result<bool> {
             return Ok(counts.different == 0);
         }
         let (theirs, mine) = std::thread::scope(|scope| {
-            let theirs = scope.spawn(|| answers(first, &batch));
-            let mine = answers(ours, &batch);
+            let theirs = scope.spawn(|| answers(first, told, &batch));
+            let mine = answers(ours, &[], &batch);
             (theirs.join().unwrap_or_else(|_| Err(io::Error::other("stopped"))), mine)
         });
         counts.batch(asked.rules, &batch, &theirs?, &mine?)?;

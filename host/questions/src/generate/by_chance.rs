@@ -240,6 +240,13 @@ pub(super) fn wanted(bounds: Bounds, length: u64) -> u64 {
     end.wrapping_sub(start).wrapping_add(1)
 }
 
+/// How many bytes a record has when it is written.
+pub(super) fn written_length(name: &[u8], description: Option<&[u8]>, bases: &[u8], width: u64) -> u64 {
+    let bases = bases.len() as u64;
+    let text = description.map_or(0, |text| text.len() + 1);
+    (name.len() + text) as u64 + 2 + bases + bases.div_ceil(width.max(1))
+}
+
 /// A numeral: one that is right, an awkward number, or something that is none.
 pub(super) fn numeral(chance: &mut Chance, right: u64) -> Vec<u8> {
     if chance.once_in(9) { chance.one_of(&NUMERALS).to_vec() } else { about(chance, right).to_string().into_bytes() }

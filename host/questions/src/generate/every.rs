@@ -1,9 +1,9 @@
 //! Every short input over small alphabets, and numbers at the limits.
 
 use super::Source;
-use super::by_chance::{room, table};
+use super::by_chance::{room, table, written_length};
 use super::chance::{NUMERALS, NUMERALS_FOR_ALL};
-use crate::form::Value::{Bounds, Bytes, Number, Output, Rows, Table};
+use crate::form::Value::{self, Bounds, Bytes, MaybeBytes, Number, Output, Rows, Table};
 use crate::row::{self, WORDS, row};
 
 /// Every string over an alphabet, short ones first.
@@ -191,6 +191,31 @@ pub(super) fn complement() -> Source {
         let space = (bases.len() + 2 - k % 4).max(bases.len() - bases.len().min(1));
         vec![Bytes(bases), Output(room(space))]
     }))
+}
+
+/// A record to be written, in a room that is just enough, one short, or one more.
+fn written(name: &[u8], description: Option<&[u8]>, bases: &[u8], width: u64) -> [Vec<Value>; 3] {
+    let enough = written_length(name, description, bases, width) as usize;
+    [enough, enough - 1, enough + 1].map(|space| {
+        let description = MaybeBytes(description.map(<[u8]>::to_vec));
+        vec![Bytes(name.to_vec()), description, Bytes(bases.to_vec()), Number(width), Output(room(space))]
+    })
+}
+
+pub(super) fn written_name() -> Source {
+    let names = strings(b"A \n\r\t\x0c\x0b>", 3).chain((0..=255).map(|b: u8| vec![b]));
+    Box::new(names.flat_map(|name| written(&name, None, b"ACG", 2)))
+}
+
+pub(super) fn written_description() -> Source {
+    let texts = strings(b"A \n\r\t\x0c\x0b>", 4).chain((0..=255).map(|b: u8| vec![b]));
+    Box::new(texts.flat_map(|text| written(b"s", Some(&text), b"ACG", 2)))
+}
+
+pub(super) fn written_bases() -> Source {
+    const WIDTHS: [u64; 10] = [0, 1, 2, 3, 4, 5, 6, 7, u64::MAX / 2 + 1, u64::MAX];
+    let bases = strings(b"AC\n\r>", 5).chain((0..=255).map(|b: u8| vec![b]));
+    Box::new(bases.flat_map(|bases| WIDTHS.map(|width| written(b"s", None, &bases, width)).into_iter().flatten()))
 }
 
 /// The program at its limits: bytes and rows, one below, at, and above.

@@ -2,7 +2,7 @@
 
 use super::by_chance::{
     LETTERS, Sample, WIDTHS, a_row, about, damage, file, index_text, name, numeral, place, sample, some_bounds,
-    some_room, some_rows, some_table, spaced_file, wanted,
+    some_room, some_rows, some_table, spaced_file, wanted, written_length,
 };
 use super::chance::Chance;
 use super::{Source, every};
@@ -52,6 +52,7 @@ pub(super) const MAKERS: &[Maker] = &[
     maker("deg", 16, primer, &[every::primer]),
     maker("prm", 32, primer_and_text, &[every::primer_and_text]),
     maker("prn", 16, primer_text_and_place, &[every::primer_text_and_place]),
+    maker("wfa", 32, written_record, &[every::written_name, every::written_description, every::written_bases]),
     maker("chk", 32, pair, &[every::check]),
     maker("prg", 1, program, &[every::program_limits]),
 ];
@@ -253,7 +254,8 @@ fn primer_and_text(chance: &mut Chance) -> Vec<Value> {
     if !chance.once_in(3) {
         let at = chance.below(text.len() + 1);
         // what a plain letter's set holds lies inside it; another letter lies inside itself
-        let there: Vec<u8> = primer.iter().map(|letter| if chance.once_in(20) { chance.one_of(LETTERS) } else { *letter }).collect();
+        let there: Vec<u8> =
+            primer.iter().map(|letter| if chance.once_in(20) { chance.one_of(LETTERS) } else { *letter }).collect();
         text.splice(at..at, there);
     }
     vec![Bytes(primer), Bytes(text)]
@@ -265,6 +267,26 @@ fn primer_text_and_place(chance: &mut Chance) -> Vec<Value> {
     let from = place(chance, text);
     arguments.push(Number(from));
     arguments
+}
+
+/// Mostly a record that can be written; at times each of its parts is damaged.
+fn written_record(chance: &mut Chance) -> Vec<Value> {
+    const TEXTS: [&[u8]; 6] = [b"one", b"about it", b"a\tb\rc", b"\x0bv", b">", b"\xff"];
+    let (mut name, mut bases) = (name(chance), some_bases(chance));
+    let mut description = (!chance.once_in(3)).then(|| chance.one_of(&TEXTS).to_vec());
+    if chance.once_in(8) {
+        damage(chance, &mut name);
+    }
+    if let Some(text) = description.as_mut().filter(|_| chance.once_in(6)) {
+        damage(chance, text);
+    }
+    if !chance.once_in(6) {
+        bases.retain(|b| !matches!(b, b'\n' | b'\r' | b'>'));
+    }
+    let near = if chance.once_in(2) { chance.one_of(&WIDTHS) } else { 1 + chance.below(8) };
+    let width = about(chance, near as u64);
+    let room = some_room(chance, written_length(&name, description.as_deref(), &bases, width));
+    vec![Bytes(name), Value::MaybeBytes(description), Bytes(bases), Number(width), Output(room)]
 }
 
 fn pair(chance: &mut Chance) -> Vec<Value> {

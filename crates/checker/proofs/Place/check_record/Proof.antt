@@ -4,7 +4,7 @@
 use borrow.Author.Needs.{needs}
 use native.Mathlib.Omega.{arith}
 use Rattle.lines.specs.Laws.{lineEnd-le}
-use Rattle.checker.specs.Steps.{stepped-refused, stepped-next}
+use Rattle.checker.specs.Steps.{line-span, stepped-refused, stepped-next}
 use Rattle.checker.proofs.Place.check_record.Statement.{statement}
 use Rattle.checker.proofs.Place.check_record.Tie as tie
 
@@ -40,7 +40,11 @@ part-judge-record-end-2 c =
     omega (arith, c .before .before .line-end2 .ensures, lineEnd-le (a .args .index .now) (a .args .self .index) (omega arith))
 
 judge-record-requires : tie.Need-judge-record-requires
-judge-record-requires c κs = search needs
+judge-record-requires c κs =
+    let e = c .before .before .before .before in
+    let a = e .before .before .before in
+    let h = a .pre .1 in
+    rw (e .line-end .ensures, line-span (a .args .fasta .now) (a .args .self .fasta) h) (lineEnd-le (a .args .fasta .now) (a .args .self .fasta) (omega arith))
 
 enum-known-r : tie.Need-enum-known-r
 enum-known-r c = search needs
@@ -52,13 +56,13 @@ returns : tie.Need-returns
 returns c =
     let j = c .before .before .before in
     let e = j .before .before .before .before in
-    stepped-refused _ _ _ (e .before .before .before .before .pre .2) _ _ (e .before .line-end .ensures) (e .line-end2 .ensures) _ (j .judge-record .ensures) _ (c .before .r .given .1)
+    stepped-refused _ _ _ (e .before .before .before .before .pre .1) (e .before .before .before .before .pre .2) _ _ (e .before .line-end .ensures) (e .line-end2 .ensures) _ (j .judge-record .ensures) _ (c .before .r .given .1)
 
 returns-2 : tie.Need-returns-2
 returns-2 c =
     let j = c .before .before .before in
     let e = j .before .before .before .before in
-    stepped-next _ _ _ (e .before .before .before .before .pre .2) _ _ (e .before .line-end .ensures) (e .line-end2 .ensures) _ (j .judge-record .ensures) _ (c .before .next .given .1)
+    stepped-next _ _ _ (e .before .before .before .before .pre .1) (e .before .before .before .before .pre .2) _ _ (e .before .line-end .ensures) (e .line-end2 .ensures) _ (j .judge-record .ensures) _ (c .before .next .given .1)
 
 pub check-record-spec : {M : Type 1} → statement M
 check-record-spec =
