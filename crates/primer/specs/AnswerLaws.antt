@@ -1,7 +1,7 @@
 -- Laws for PlaceTheorems.antt: an answer, taken apart into the tests that lead to it.
 use Prim.Native.Nat.{ℕ, suc, _≤_, _<_}
 use mathlib.Core.Path.{_≡_, refl, sym, ap, _∙_}
-use mathlib.Core.Bool.{Bool, true, false, cond}
+use mathlib.Core.Bool.{Bool, true, false, cond, true≢false}
 use mathlib.Core.List.{List, [], _∷_}
 use mathlib.Core.Logic.{_↔_}
 use native.Mathlib.Omega.{arith}
@@ -35,15 +35,21 @@ Taken ps = Within ps × (Sized ps × CodedTo ps (length ps))
 
 -- ---- how a primer is judged
 
--- the letters alone are never refused for the length
-letters-only : (at : ℕ) (qs : List ℕ) → lettersJudged at qs ≡ judge.Refused PrimerLength → ⊥
+-- the letters alone are refused for nothing but a letter
+letters-only : (r : Refusal) → ((k : ℕ) → PrimerLetter k ≡ r → ⊥) → (at : ℕ) (qs : List ℕ) → lettersJudged at qs ≡ judge.Refused r → ⊥
 unfolding lettersJudged
-letters-only at [] e = let z : _≡_ {A = ℕ} 0 1 = cc in omega arith
-letters-only at (q ∷ qs) e = go (eqb (setOf q) 0) (letters-only (suc at) qs) e
+letters-only r x at [] e = let z : _≡_ {A = ℕ} 0 1 = cc in omega arith
+letters-only r x at (q ∷ qs) e = go (eqb (setOf q) 0) (letters-only r x (suc at) qs) e
   where
-    go : (v : Bool) → (lettersJudged (suc at) qs ≡ judge.Refused PrimerLength → ⊥) → cond v (judge.Refused (PrimerLetter at)) (lettersJudged (suc at) qs) ≡ judge.Refused PrimerLength → ⊥
-    go true more e = let z : _≡_ {A = ℕ} 0 1 = cc in omega arith
+    go : (v : Bool) → (lettersJudged (suc at) qs ≡ judge.Refused r → ⊥) → cond v (judge.Refused (PrimerLetter at)) (lettersJudged (suc at) qs) ≡ judge.Refused r → ⊥
+    go true more e = x at cc
     go false more e = more e
+
+letter-is-not-length : (k : ℕ) → PrimerLetter k ≡ PrimerLength → ⊥
+letter-is-not-length k e = let z : _≡_ {A = ℕ} 0 1 = cc in omega arith
+
+letter-is-not-size : (k : ℕ) → PrimerLetter k ≡ TooLong → ⊥
+letter-is-not-size k e = let z : _≡_ {A = ℕ} 0 1 = cc in omega arith
 
 module _ (ps : List ℕ) where
   sized-letters : Sized ps → lettersJudged 0 ps ≡ judged ps
@@ -58,7 +64,7 @@ module _ (ps : List ℕ) where
       go false e false l = let z : length ps ≡ 0 → ⊥ = eqb-false _ _ e in absurd (n (omega arith, ltb-false 31 (length ps) l))
 
   other-length : judged ps ≡ judge.Refused PrimerLength → Sized ps → ⊥
-  other-length e z = letters-only 0 ps (sized-letters z ∙ e)
+  other-length e z = letters-only PrimerLength letter-is-not-length 0 ps (sized-letters z ∙ e)
 
   fit : judged ps ≡ judge.Fit → Sized ps × CodedTo ps (length ps)
   fit e = let z = judged-fit ps (sym e) in (z, letters-coded 0 ps (sized-letters z ∙ e))
@@ -78,6 +84,16 @@ module _ (ps : List ℕ) where
 
   so-letter : (k : ℕ) → Sized ps → FirstUncoded ps k → judge.Refused (PrimerLetter k) ≡ judged ps
   so-letter k z f = sym (first-letter ps k f) ∙ sized-letters z
+
+  -- a primer is never judged by its size
+  not-by-size : judged ps ≡ judge.Refused TooLong → ⊥
+  unfolding judged
+  not-by-size e = go (eqb (length ps) 0) (ltb 31 (length ps)) e
+    where
+      go : (v w : Bool) → cond v (judge.Refused PrimerLength) (cond w (judge.Refused PrimerLength) (lettersJudged 0 ps)) ≡ judge.Refused TooLong → ⊥
+      go true w q = let z : _≡_ {A = ℕ} 0 1 = cc in omega arith
+      go false true q = let z : _≡_ {A = ℕ} 0 1 = cc in omega arith
+      go false false q = letters-only TooLong letter-is-not-size 0 ps q
 
 -- ---- answers taken apart
 
@@ -107,6 +123,29 @@ found-refused false true j n r x e = absurd (x cc)
 found-refused false false (judge.Refused q) n r x e = (refl, (refl, cc))
 found-refused false false judge.Fit found.Nothing r x e = let z : _≡_ {A = ℕ} 0 1 = cc in absurd (omega arith)
 found-refused false false judge.Fit (found.At m) r x e = let z : _≡_ {A = ℕ} 0 1 = cc in absurd (omega arith)
+
+within-not-refused : (a b : Bool) (j : Judged) (n : Found) → (j ≡ judge.Refused TooLong → ⊥) → told a b j n ≡ place.Refused TooLong → (a ≡ false) × (b ≡ false) → ⊥
+unfolding placeBy placeTold
+within-not-refused true b j n x e w = true≢false (w .0)
+within-not-refused false true j n x e w = true≢false (w .1)
+within-not-refused false false (judge.Refused q) n x e w = x cc
+within-not-refused false false judge.Fit found.Nothing x e w = let z : _≡_ {A = ℕ} 0 1 = cc in omega arith
+within-not-refused false false judge.Fit (found.At m) x e w = let z : _≡_ {A = ℕ} 0 1 = cc in omega arith
+
+not-within-refused : (a b : Bool) (j : Judged) (n : Found) → ((a ≡ false) × (b ≡ false) → ⊥) → told a b j n ≡ place.Refused TooLong
+not-within-refused true b j n x = refl
+not-within-refused false true j n x = refl
+not-within-refused false false j n x = absurd (x (refl, refl))
+
+counted-within : (a : Bool) (j : Judged) (ps : List ℕ) → (j ≡ judge.Refused TooLong → ⊥) → cond a (counted.Refused TooLong) (degeneracyBy j ps) ≡ counted.Refused TooLong → a ≡ false → ⊥
+unfolding degeneracyBy
+counted-within true j ps x e w = true≢false w
+counted-within false (judge.Refused q) ps x e w = x cc
+counted-within false judge.Fit ps x e w = let z : _≡_ {A = ℕ} 0 1 = cc in omega arith
+
+counted-over : (a : Bool) (j : Judged) (ps : List ℕ) → (a ≡ false → ⊥) → cond a (counted.Refused TooLong) (degeneracyBy j ps) ≡ counted.Refused TooLong
+counted-over true j ps x = refl
+counted-over false j ps x = absurd (x refl)
 
 counted-sequences : (a : Bool) (j : Judged) (ps : List ℕ) (n : ℕ) → cond a (counted.Refused TooLong) (degeneracyBy j ps) ≡ counted.Sequences n → (a ≡ false) × ((j ≡ judge.Fit) × (n ≡ length (standsFor ps)))
 unfolding degeneracyBy
@@ -153,6 +192,13 @@ module _ (ps s : List ℕ) (from : ℕ) where
         sym (place-within ps s from judge.Fit (t .0) b (so-fit ps (t .1 .0) (t .1 .1))) ∙ ap placeTold (found-none ps s from (t .1 .0 .0) f),
   )
 
+  pub size-refused : placeRead ps s from ≡ place.Refused TooLong ↔ (Within ps × Within s → ⊥)
+  unfolding placeRead
+  size-refused = (
+    within-not-refused (overLimit (length ps)) (overLimit (length s)) (judged ps) (nextOf ps s from) (not-by-size ps),
+    not-within-refused (overLimit (length ps)) (overLimit (length s)) (judged ps) (nextOf ps s from),
+  )
+
   pub length-refused : placeRead ps s from ≡ place.Refused PrimerLength ↔ (Within ps × (Within s × (Sized ps → ⊥)))
   unfolding placeRead placeBy
   length-refused = (
@@ -182,6 +228,10 @@ module _ (ps : List ℕ) where
         let (t, q) = w in
         rw q (sym (degeneracy-within ps judge.Fit (t .0) (so-fit ps (t .1 .0) (t .1 .1)))),
   )
+
+  pub count-size-refused : degeneracyRead ps ≡ counted.Refused TooLong ↔ (Within ps → ⊥)
+  unfolding degeneracyRead
+  count-size-refused = (counted-within (overLimit (length ps)) (judged ps) ps (not-by-size ps), counted-over (overLimit (length ps)) (judged ps) ps)
 
   pub count-length-refused : degeneracyRead ps ≡ counted.Refused PrimerLength ↔ (Within ps × (Sized ps → ⊥))
   unfolding degeneracyRead degeneracyBy

@@ -32,6 +32,10 @@ module _ (ps s : List ℕ) (from : ℕ) where
   pub nothing-told : placeRead ps s from ≡ place.Nothing ↔ (Taken ps × (Within s × ((k : ℕ) → from ≤ k → MatchesAt ps s k → ⊥)))
   nothing-told = laws.nothing-told ps s from
 
+  -- 1, exactly for a primer or a text over the limit
+  pub size-refused : placeRead ps s from ≡ place.Refused TooLong ↔ (Within ps × Within s → ⊥)
+  size-refused = laws.size-refused ps s from
+
   -- 36, exactly for another length
   pub length-refused : placeRead ps s from ≡ place.Refused PrimerLength ↔ (Within ps × (Within s × (Sized ps → ⊥)))
   length-refused = laws.length-refused ps s from
@@ -44,6 +48,9 @@ module _ (ps s : List ℕ) (from : ℕ) where
 module _ (ps : List ℕ) where
   pub count-told : (n : ℕ) → degeneracyRead ps ≡ counted.Sequences n ↔ (Taken ps × (n ≡ length (standsFor ps)))
   count-told n = laws.count-told ps n
+
+  pub count-size-refused : degeneracyRead ps ≡ counted.Refused TooLong ↔ (Within ps → ⊥)
+  count-size-refused = laws.count-size-refused ps
 
   pub count-length-refused : degeneracyRead ps ≡ counted.Refused PrimerLength ↔ (Within ps × (Sized ps → ⊥))
   count-length-refused = laws.count-length-refused ps
