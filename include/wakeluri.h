@@ -118,6 +118,13 @@ struct wakeluri_answer wakeluri_write_record(const uint8_t *name, size_t name_le
 /* Bases alone, in lines of `width`, each with LF: the next piece of a record whose pieces so far were whole lines. Refuses 1, 27, 30, 14. */
 struct wakeluri_answer wakeluri_write_sequence(const uint8_t *bases, size_t bases_length, uint64_t width, uint8_t *out, size_t out_length);
 
+/* How many plain sequences a primer of 1 to 31 letters stands for, as `count`. Refuses 1, 36, and 37 with the first letter without a code. */
+struct wakeluri_answer wakeluri_degeneracy(const uint8_t *primer, size_t primer_length);
+
+/* The first place of a primer in a text that is not before `from`: each text letter's bases lie among those of its primer letter. `count` is
+ * 1 and `next` the place, or `count` is 0 where there is none. A byte without a code is in no match. Refuses 1, 36, 37. */
+struct wakeluri_answer wakeluri_find_primer(const uint8_t *primer, size_t primer_length, const uint8_t *text, size_t text_length, uint64_t from);
+
 /* Accepts a FASTA file and an index of any program exactly if the index leads to every base. Refuses 1, 2 to 4, 19, 9 to 12, 21 to 23, 20. */
 struct wakeluri_answer wakeluri_check(const uint8_t *fasta, size_t fasta_length, const uint8_t *index, size_t index_length);
 

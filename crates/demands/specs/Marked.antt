@@ -10,7 +10,7 @@ use Rattle.refusal.specs.Numbers.{numbersOf, overLimit}
 use Rattle.lines.specs.Lines.{lines, chop, ends, contentOf, seqOf, sumBases, sumWidths, upFrom, basesAt}
 use Rattle.lines.specs.Groups.{groups}
 use Rattle.lines.specs.Same.{sameBytes}
-use Rattle.complement.specs.Pairing.{partner}
+use Rattle.letters.specs.Letters.{partner}
 use Rattle.complement.specs.Complement.{firstOr, faults, reverseComplementOf, sized, poured, complementWritten}
 use Rattle.definition.specs.Definition.{isSpace, run, keep, refusalOf}
 use Rattle.definition.specs.Definition as definition

@@ -32,7 +32,7 @@ pub struct Refused {
     pub next: String,
     /// The number and its two numbers.
     pub refusal: Refusal,
-    /// The file.
+    /// The file, if one is at fault.
     pub file: String,
     /// The line of the file, counted from 1, and the byte, from 0, where one is at fault.
     pub place: Option<(u64, u64)>,
@@ -71,7 +71,10 @@ impl Failure {
             Self::Refused(refused) if json => {
                 let Refused { words, shown: _, next, refusal, file, place, region, sheet } = &**refused;
                 let mut object = Object::new();
-                object.number("status", status).text("file", file);
+                object.number("status", status);
+                if !file.is_empty() {
+                    object.text("file", file);
+                }
                 if let Some(region) = region {
                     object.text("region", region);
                 }

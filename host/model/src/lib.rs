@@ -6,6 +6,7 @@
 mod checker;
 mod complete;
 mod lines;
+mod primers;
 mod reads;
 mod rows;
 mod writer;
@@ -13,6 +14,7 @@ mod writer;
 use checker::{check, program};
 use complete::fitted_record;
 use lines::{content, definition, first_line, from, run};
+use primers::{degeneracy, next_place};
 use questions::form::Value::{self, Bounds, Bytes, MaybeBytes, Number, Numbers, Output, Rows, Table};
 use questions::form::{Answer, No, Speaker};
 use reads::{complemented, exact, raw, sequence};
@@ -88,6 +90,9 @@ impl Speaker for Model {
             }
             ("cmp", [Bytes(bases), Output(out)]) => complemented(bases, false, out).into(),
             ("rev", [Bytes(bases), Output(out)]) => complemented(bases, true, out).into(),
+            ("deg", [Bytes(primer)]) => degeneracy(primer).into(),
+            ("prm", [Bytes(primer), Bytes(text)]) => next_place(primer, text, 0).into(),
+            ("prn", [Bytes(primer), Bytes(text), Number(from)]) => next_place(primer, text, *from).into(),
             ("wfa", [Bytes(name), MaybeBytes(description), Bytes(bases), Number(width), Output(out)]) => {
                 write_record(name, description.as_deref(), bases, *width, out).into()
             }

@@ -113,6 +113,10 @@ pub const FAMILIES: &[Family] = &[
     // bases: the bytes of a complement
     asks("cmp", &[Bytes, Output], Always(&[Number]), &[14, 24], Memory),
     asks("rev", &[Bytes, Output], Always(&[Number]), &[14, 24], Memory),
+    // primers: how many sequences one stands for; its first place; its next place
+    asks("deg", &[Bytes], IfOk(&[Number]), &[36, 37], Lacks),
+    asks("prm", &[Bytes, Bytes], Found(&[Number]), &[36, 37], Lacks),
+    asks("prn", &[Bytes, Bytes, Number], Found(&[Number]), &[36, 37], Lacks),
     // a record that is written, and bases alone: its bytes
     asks("wfa", &[Bytes, MaybeBytes, Bytes, Number, Output], Always(&[Number]), &[14, 27, 28, 29, 30], Refusals),
     asks("wsq", &[Bytes, Number, Output], Always(&[Number]), &[14, 27, 30], Lacks),
@@ -164,6 +168,14 @@ rar x3e730a41433e4754 t1,1,5,3,5,6 1 0 3 4 x2e2e => ok 0 x2e2e
 cmp x41 x2e2e => ok 1 x542e
 cmp x4158 x2e2e => no 24 1 88 0 x2e2e
 rev x41434755 x2e2e2e2e => ok 4 x41434754
+deg x524e => ok 8
+deg x => no 36 0 0
+deg x412d43 => no 37 1 0
+prm x4e79 x2d2d4155 => ok 2
+prm x41 x4e => ok none
+prm x x41 => no 36 0 0
+prn x41 x414141 1 => ok 1
+prn x41 x414141 18446744073709551615 => ok none
 wfa x73 x6f6e65 x4143475441 3 x2e2e2e2e2e2e2e2e2e2e2e2e2e2e2e => ok 14 x3e73206f6e650a4143470a54410a2e
 wfa x73 - x 1 x2e2e2e => ok 3 x3e730a
 wfa x73 - x41 1 x2e2e2e2e => no 14 5 0 0 x2e2e2e2e

@@ -103,6 +103,15 @@ static void ordinary_calls(void) {
     a = wakeluri_reverse_complement(BYTES("AXCX"), out, sizeof out);
     MUST(a.refusal == 24 && a.first == 3 && a.second == 'X');
 
+    a = wakeluri_degeneracy(BYTES("ARN"));
+    MUST(a.refusal == 0 && a.count == 8);
+    a = wakeluri_find_primer(BYTES("RY"), BYTES("CCACAC"), 3);
+    MUST(a.refusal == 0 && a.count == 1 && a.next == 4);
+    a = wakeluri_find_primer(BYTES("RY"), BYTES("CCACAC"), 5);
+    MUST(a.refusal == 0 && a.count == 0 && a.next == 0);
+    a = wakeluri_find_primer(BYTES("R-"), BYTES("CCACAC"), 0);
+    MUST(a.refusal == 37 && a.first == 1 && a.second == 0);
+
     a = wakeluri_check(BYTES(fasta), BYTES("s\t6\t7\t4\t5\nt\t2\t18\t9\t9\n"));
     MUST(a.refusal == 0 && a.first == 0 && a.second == 0);
     a = wakeluri_check(BYTES(fasta), BYTES("s\t6\t7\t4\t6\nt\t2\t18\t9\t9\n"));
@@ -146,6 +155,9 @@ static void beyond_the_limit(void) {
     REFUSED(wakeluri_write_record(out, 0, 0, big, n, out, 0, 0, out, 0));
     REFUSED(wakeluri_write_record(out, 0, 0, out, 0, big, n, 0, out, 0));
     REFUSED(wakeluri_write_sequence(big, n, 0, out, 0));
+    REFUSED(wakeluri_degeneracy(big, n));
+    REFUSED(wakeluri_find_primer(big, n, out, 0, 0));
+    REFUSED(wakeluri_find_primer(out, 0, big, n, 0));
     REFUSED(wakeluri_check(big, n, out, 0));
     REFUSED(wakeluri_check(out, 0, big, n));
     /* at the limit itself it is taken: bases 1 and 1 of a row at offset 0 are read from the first byte alone */

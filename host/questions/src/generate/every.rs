@@ -94,6 +94,28 @@ pub(super) fn index() -> Source {
     }))
 }
 
+/// Letters of each kind: plain, of two bases, of all, and a byte that is none.
+const CODES: &[u8] = b"ACGTRYN-";
+
+pub(super) fn primer() -> Source {
+    Box::new(strings(b"ATUrYNv-", 5).map(|primer| vec![Bytes(primer)]))
+}
+
+pub(super) fn primer_and_text() -> Source {
+    let primers = strings(CODES, 2).chain(strings(b"ANR-", 3));
+    Box::new(primers.flat_map(|primer| strings(CODES, 3).map(move |text| vec![Bytes(primer.clone()), Bytes(text)])))
+}
+
+pub(super) fn primer_text_and_place() -> Source {
+    let primers = strings(b"ARN-", 2);
+    Box::new(primers.flat_map(|primer| {
+        strings(b"ARN-", 4).flat_map(move |text| {
+            let (primer, places) = (primer.clone(), [0, 1, 2, 3, 4, 5, u64::MAX]);
+            places.map(|from| vec![Bytes(primer.clone()), Bytes(text.clone()), Number(from)])
+        })
+    }))
+}
+
 pub(super) fn check() -> Source {
     let few = strings(b">s\n\t", 3)
         .flat_map(|fasta| strings(b"s\n\t0", 3).map(move |index| vec![Bytes(fasta.clone()), Bytes(index)]));

@@ -50,6 +50,9 @@ pub(super) const MAKERS: &[Maker] = &[
     maker("rar", 32, read, &[every::read, every::far_read]),
     maker("cmp", 16, bases, &[every::complement]),
     maker("rev", 16, bases, &[every::complement]),
+    maker("deg", 16, primer, &[every::primer]),
+    maker("prm", 32, primer_and_text, &[every::primer_and_text]),
+    maker("prn", 16, primer_text_and_place, &[every::primer_text_and_place]),
     maker("wfa", 32, written_record, &[every::written_name, every::written_description, every::written_bases]),
     maker("wsq", 16, written_sequence, &[every::written_sequence]),
     maker("chk", 32, pair, &[every::check]),
@@ -226,6 +229,46 @@ fn bases(chance: &mut Chance) -> Vec<Value> {
     let bases = some_bases(chance);
     let room = some_room(chance, bases.len() as u64);
     vec![Bytes(bases), Output(room)]
+}
+
+/// A primer: 1 to 31 letters, or about as many, with a byte that is no letter at times.
+fn some_primer(chance: &mut Chance) -> Vec<u8> {
+    let length = match chance.below(8) {
+        0 => chance.one_of(&[0, 1, 30, 31, 32, 33]),
+        1 => 1 + chance.below(31),
+        _ => 1 + chance.below(6),
+    };
+    let mut primer: Vec<u8> = (0..length).map(|_| chance.one_of(LETTERS)).collect();
+    if chance.once_in(8) {
+        damage(chance, &mut primer);
+    }
+    primer
+}
+
+fn primer(chance: &mut Chance) -> Vec<Value> {
+    vec![Bytes(some_primer(chance))]
+}
+
+/// A primer and a text, in which it often stands: near the front, across the end of a block, or at the text's end.
+fn primer_and_text(chance: &mut Chance) -> Vec<Value> {
+    let primer = some_primer(chance);
+    let mut text = some_bases(chance);
+    if !chance.once_in(3) {
+        let at = chance.below(text.len() + 1);
+        // what a plain letter's set holds lies inside it; another letter lies inside itself
+        let there: Vec<u8> =
+            primer.iter().map(|letter| if chance.once_in(20) { chance.one_of(LETTERS) } else { *letter }).collect();
+        text.splice(at..at, there);
+    }
+    vec![Bytes(primer), Bytes(text)]
+}
+
+fn primer_text_and_place(chance: &mut Chance) -> Vec<Value> {
+    let mut arguments = primer_and_text(chance);
+    let Some(Bytes(text)) = arguments.last() else { return arguments };
+    let from = place(chance, text);
+    arguments.push(Number(from));
+    arguments
 }
 
 /// Mostly a record that can be written; at times each of its parts is damaged.

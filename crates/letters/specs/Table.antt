@@ -1,4 +1,4 @@
--- The complements of all bytes as a table, and that it is one: each entry is computed and held to the pairing.
+-- Tables of 256 entries, one for each byte: that one holds what a rule gives, from one computed test.
 use Prim.Native.Nat.{ℕ, zero, suc, _+_, _<_}
 use mathlib.Core.Path.{_≡_}
 use mathlib.Core.Bool.{Bool, true, false, cond}
@@ -7,12 +7,16 @@ use native.Mathlib.Nat.{add-zero, add-suc, suc-add, zero-add}
 use native.Mathlib.Omega.{arith}
 use lib.Dec.{T, eqb, eqb→eq}
 use lib.ListN.{length, getD}
-use Rattle.complement.specs.Pairing.{partner}
-use Rattle.complement.specs.Laws.{both}
+use Rattle.letters.specs.Laws.{both}
 
--- a table of the complements: each byte's is at its place
-unfoldable pub IsTable : List ℕ → Type 0
-IsTable t = (b : ℕ) → b < 256 → getD t b 0 ≡ partner b
+-- a table of what f gives: each byte's is at its place
+unfoldable pub IsTable : (ℕ → ℕ) → List ℕ → Type 0
+IsTable f t = (b : ℕ) → b < 256 → getD t b 0 ≡ f b
+
+-- the entry of a byte
+pub entry : (f : ℕ → ℕ) (t : List ℕ) → IsTable f t → (b : ℕ) → b < 256 → getD t b 0 ≡ f b
+unfolding IsTable
+entry f t h = h
 
 -- the entries from place i on are what f gives for their places
 abbrev pub right : (ℕ → ℕ) → ℕ → List ℕ → Bool
@@ -26,6 +30,6 @@ entries f (x ∷ xs) i t (suc k) h =
     rw (add-suc i k, ← suc-add i k) (entries f xs (suc i) (both (eqb x (f i)) (right f (suc i) xs) t .1) k (omega arith))
 
 -- what one computed test finds at all entries of a list holds of each; so 256 of them that are right are a table
-pub is-table : (t : List ℕ) → length t ≡ 256 → T (right partner 0 t) → IsTable t
+pub is-table : (f : ℕ → ℕ) (t : List ℕ) → length t ≡ 256 → T (right f 0 t) → IsTable f t
 unfolding IsTable
-is-table t n ok b h = rw (zero-add b) at (entries partner t 0 ok b (omega arith))
+is-table f t n ok b h = rw (zero-add b) at (entries f t 0 ok b (omega arith))
