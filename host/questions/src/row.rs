@@ -1,7 +1,7 @@
 //! How many numbers a row of a table has. No other place of these programs says it.
 
-/// The numbers of a row: name start, name length, length, position, line bases, line width.
-pub const WORDS: usize = 6;
+/// The numbers of a row: name start, name length, length, position, line bases, line width, description start, description length.
+pub const WORDS: usize = 8;
 
 /// The numbers of a row that an index line gives: the span of its name, and four columns.
 pub const OF_A_LINE: usize = 6;

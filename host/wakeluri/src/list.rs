@@ -106,7 +106,7 @@ macro_rules! answers {
 
             /// A record's row, the numbers from `name_start` on: `found` is 0 at the end of a file. `next` is the offset behind the
             /// record, `plain` is 1 for a plain index line that was given with its end.
-            struct Row { found, next, plain, name_start, name_length, length, position, line_bases, line_width }
+            struct Row { found, next, plain, name_start, name_length, length, position, line_bases, line_width, description_start, description_length }
         }
     };
 }

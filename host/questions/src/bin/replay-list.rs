@@ -59,12 +59,16 @@ fn answer(family: &Family, lends: bool, told: &[&str]) -> Option<(Vec<u8>, Vec<u
             &told[1..]
         }
     };
-    for word in words.iter().take_while(|word| **word != "?") {
-        if let Some(table) = form::table(word) {
+    // the numbers end before one that isn't told; the memory is told behind it all the same
+    let mut told_so_far = true;
+    for word in words {
+        if *word == "?" {
+            told_so_far = false;
+        } else if let Some(table) = form::table(word) {
             put(if lends { &mut memory } else { &mut numbers }, &table);
         } else if let Some(bytes) = form::bytes(word) {
             memory = bytes;
-        } else {
+        } else if told_so_far {
             put(&mut numbers, &[word.parse().ok()?]);
         }
     }
