@@ -16,13 +16,24 @@ fn refused(input: &Input, line: Option<Line>, what: &str, next: String, refusal:
     Failure::Refused(Box::new(Refused { words, next, refusal, file, place, region: None, sheet: None }))
 }
 
+/// A definition line that does not read, in words: its line, the byte at which reading it failed, and the line itself with a mark there.
+fn bad_line(fasta: &Input, line: Line, refusal: Refusal) -> Failure {
+    let (what, next, shows) = bad_definition(fasta.bytes(), line, refusal.number);
+    let place = if refusal.number == 4 { 1 } else { 0 };
+    let at = Line { start: line.start + place, ..line };
+    let shown = if shows { place::marked(place::text(fasta.bytes(), line), place) } else { String::new() };
+    refused(fasta, Some(at), &format!("{what}{shown}"), next, refusal)
+}
+
 /// A refusal of the indexer, in words.
 pub fn not_indexed(fasta: &Input, rows: &Table<'_>, refusal: Refusal) -> Failure {
     let file = fasta.bytes();
     let definition = if refusal.number == 1 { None } else { place::refused_definition(file, rows) };
+    if let (2..=4, Some(line)) = (refusal.number, place::failed_definition(file, refusal).or(definition)) {
+        return bad_line(fasta, line, refusal);
+    }
     let mut at = definition;
     let (what, next) = match (refusal.number, definition) {
-        (2..=4, Some(line)) => bad_definition(file, line, refusal.number),
         (5, Some(definition)) => {
             let name = name_of(file, definition);
             at = place::sequence(file, definition).next().or(definition.into());
@@ -149,8 +160,10 @@ fn no_index_fits(file: &[u8], definition: Line, record: &str, refusal: Refusal) 
 pub fn not_wrapped(fasta: &Input, line: Line, refusal: Refusal) -> Failure {
     let file = fasta.bytes();
     let text = place::text(file, line);
+    if let 2..=4 = refusal.number {
+        return bad_line(fasta, line, refusal);
+    }
     let (what, next) = match (refusal.number, text.iter().position(|byte| matches!(byte, b'>' | b'\r'))) {
-        (2..=4, _) => bad_definition(file, line, refusal.number),
         (30, Some(place)) => (
             format!(
                 "base {} of the line is a '>' or a carriage return, which would not read back from lines of another width",
@@ -163,8 +176,10 @@ pub fn not_wrapped(fasta: &Input, line: Line, refusal: Refusal) -> Failure {
     refused(fasta, Some(line), &what, next, refusal)
 }
 
-fn bad_definition(file: &[u8], line: Line, number: u64) -> (String, String) {
-    match (number, place::text(file, line)) {
+/// What is wrong with it, what to do next, and whether the line is worth to be shown.
+fn bad_definition(file: &[u8], line: Line, number: u64) -> (String, String, bool) {
+    let text = place::text(file, line);
+    let (what, next) = match (number, text) {
         (3, [0x1f, 0x8b, ..]) => (
             "this is a compressed file, and FASTA text is needed".to_string(),
             "unpack it first: `gzip -dc FILE | wakeluri .. -`".to_string(),
@@ -177,13 +192,10 @@ fn bad_definition(file: &[u8], line: Line, number: u64) -> (String, String) {
             "this is text of two bytes to a letter (UTF-16), and FASTA has one".to_string(),
             "save the file as plain text, or as UTF-8 without a byte order mark".to_string(),
         ),
-        (3, text) => {
-            let shown = text.get(..text.len().min(20)).unwrap_or_default().trim_ascii_end();
-            (
-                format!("a record begins with a line such as '>name', and here stands '{}'", quoted(shown)),
-                "is it a FASTA file?".to_string(),
-            )
-        }
+        (3, _) => (
+            "a record begins with a line such as '>name', and this one does not".to_string(),
+            "is it a FASTA file?".to_string(),
+        ),
         (4, _) => (
             "the definition line has no name right after its '>'".to_string(),
             "write the name there, without a space before it".to_string(),
@@ -192,7 +204,8 @@ fn bad_definition(file: &[u8], line: Line, number: u64) -> (String, String) {
             "a record begins with a line such as '>name', and this line is empty".to_string(),
             "take it out".to_string(),
         ),
-    }
+    };
+    (what, next, number != 2 && !matches!(text, [0x1f, 0x8b, ..] | [0xef, 0xbb, 0xbf, ..] | [0xff, 0xfe, ..] | [0xfe, 0xff, ..]))
 }
 
 /// A record's name for messages.
@@ -279,9 +292,9 @@ pub fn not_accepted(fasta: &Input, index: &Input, refusal: Refusal) -> Failure {
         _ => {}
     }
     let pair = Pair::of(fasta, index, refusal.first);
-    if let (2..=4, Some(line)) = (refusal.number, pair.definition) {
-        let (what, next) = bad_definition(fasta.bytes(), line, refusal.number);
-        return refused(fasta, Some(line), &what, next, refusal);
+    let definition = place::failed_definition(fasta.bytes(), refusal).or(pair.definition);
+    if let (2..=4, Some(line)) = (refusal.number, definition) {
+        return bad_line(fasta, line, refusal);
     }
     let (line, what) = match refusal.number {
         19 => {

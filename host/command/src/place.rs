@@ -1,7 +1,7 @@
 //! Where in a file a fault lies, for messages. It judges nothing: the proved code has refused by then.
 
 use wakeluri::entry::ROW_BYTES;
-use wakeluri::{Record, Table};
+use wakeluri::{Record, Refusal, Table};
 
 /// A line of a file.
 #[derive(Clone, Copy, Debug, Eq, PartialEq)]
@@ -71,6 +71,22 @@ pub fn refused_definition(file: &[u8], rows: &Table<'_>) -> Option<Line> {
         }
     };
     lines(file, start, line_number(file, start)).next()
+}
+
+/// The definition line that does not read, by the offset that its refusal tells: 4 fails behind its '>'.
+pub fn failed_definition(file: &[u8], refusal: Refusal) -> Option<Line> {
+    let offset = usize::try_from(refusal.offset()?).ok()?;
+    let start = if refusal.number == 4 { offset.checked_sub(1)? } else { offset };
+    lines(file, start, line_number(file, start)).next()
+}
+
+/// A line under a message, cut to the width of a screen, with a mark under one of its first bytes, before which nothing is escaped.
+pub fn marked(line: &[u8], place: usize) -> String {
+    const SHOWN: usize = 72;
+    let all = quoted(line.trim_ascii_end());
+    let shown: String = all.chars().take(SHOWN).collect();
+    let dots = if shown.len() < all.len() { ".." } else { "" };
+    format!("\n    {shown}{dots}\n    {}^", " ".repeat(place))
 }
 
 /// The first line of a record whose bases or width are not those of its first line.

@@ -29,29 +29,33 @@ fn of_index() {
     for (file, code, words) in [
         (
             &b"\n>s\nAC\n"[..],
-            "refused 2",
+            "refused 2 (offset 0)",
             "f.fa, line 1 (byte 0): a record begins with a line such as '>name', and this line is empty",
         ),
         (
             b"ACGT\n",
-            "refused 3",
-            "f.fa, line 1 (byte 0): a record begins with a line such as '>name', and here stands 'ACGT'",
+            "refused 3 (offset 0)",
+            "f.fa, line 1 (byte 0): a record begins with a line such as '>name', and this one does not\n    ACGT\n    ^\n",
         ),
-        (b"\x1f\x8b\x08rest", "refused 3", "this is a compressed file"),
-        (b"\xef\xbb\xbf>s\nAC\n", "refused 3", "save the file as UTF-8 without a byte order mark"),
-        (b"\xff\xfe>\0s\0\n\0", "refused 3", "UTF-16"),
+        (b"\x1f\x8b\x08rest", "refused 3 (offset 0)", "this is a compressed file"),
+        (b"\xef\xbb\xbf>s\nAC\n", "refused 3 (offset 0)", "save the file as UTF-8 without a byte order mark"),
+        (b"\xff\xfe>\0s\0\n\0", "refused 3 (offset 0)", "UTF-16"),
         (
             b">s\nAC\n> t\nAC\n",
-            "refused 4",
-            "f.fa, line 3 (byte 6): the definition line has no name right after its '>'",
+            "refused 4 (offset 7)",
+            "f.fa, line 3 (byte 7): the definition line has no name right after its '>'\n    > t\n     ^\n",
         ),
     ] {
         not_indexed(&folder, &[], file, code, &[words]);
         not_indexed(&folder, &["--strict"], file, code, &[words]);
     }
     // behind records that only the complete rule takes
-    let words = "f.fa, line 7 (byte 14): the definition line has no name right after its '>'";
-    not_indexed(&folder, &[], b">s\n\nAC\n\n>t\n>u\n>\n", "refused 4", &[words]);
+    let words = "f.fa, line 7 (byte 15): the definition line has no name right after its '>'\n    >\n     ^\n";
+    not_indexed(&folder, &[], b">s\n\nAC\n\n>t\n>u\n>\n", "refused 4 (offset 15)", &[words]);
+    // a long line is cut to the width of a screen
+    let long = [b">s\nAC\n> ".as_slice(), &[b'x'; 200], b"\nAC\n"].concat();
+    let words = format!("\n    > {}..\n     ^\n", "x".repeat(70));
+    not_indexed(&folder, &[], &long, "refused 4 (offset 7)", &[&words]);
 }
 
 /// Files that no index can fit: record, line and base are named, the line is shown, and it is said what to do.
@@ -274,17 +278,17 @@ fn of_check() {
             "refused 20 (records 2)",
             "f.fa.fai, line 3 (byte 21): it goes on here, and f.fa has 2 records",
         ),
-        (b"ACGT\n", "", "refused 3 (record 1)", "f.fa, line 1 (byte 0): a record begins with a line such as '>name'"),
+        (b"ACGT\n", "", "refused 3 (record 1, offset 0)", "f.fa, line 1 (byte 0): a record begins with a line such as '>name'"),
         (
             b">s\nAC\n>\n",
             "s\t2\t3\t2\t3\n",
-            "refused 4 (record 2)",
-            "f.fa, line 3 (byte 6): the definition line has no name",
+            "refused 4 (record 2, offset 7)",
+            "f.fa, line 3 (byte 7): the definition line has no name right after its '>'\n    >\n     ^\n",
         ),
         (
             b"\n",
             "",
-            "refused 2 (record 1)",
+            "refused 2 (record 1, offset 0)",
             "f.fa, line 1 (byte 0): a record begins with a line such as '>name', and this line is empty",
         ),
     ] {
