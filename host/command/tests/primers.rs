@@ -26,7 +26,7 @@ fn as_json_and_as_bed() {
     folder.write("f.fa", FASTA);
     folder
         .run(&["primer", "--json", "CGA", "f.fa"])
-        .gave(concat!("{\"name\":\"s\",\"start\":2,\"end\":4,\"strand\":\"+\",\"bases\":\"CGA\"}\n",));
+        .gave("{\"name\":\"s\",\"start\":2,\"end\":4,\"strand\":\"+\",\"bases\":\"CGA\"}\n");
     folder.run(&["primer", "--bed", "TCg", "f.fa"]).gave("s\t1\t4\tTCg\t0\t-\n");
     folder.run(&["primer", "--bed", "--json", "A", "f.fa"]).failed(2, &["--json and --bed are two forms"]);
 }
@@ -63,9 +63,9 @@ fn refused() {
 fn an_index_is_checked() {
     let folder = Folder::new("primer-index");
     folder.write("f.fa", FASTA);
-    folder.write("f.fa.fai", "s\t10\t7\t4\t5\nt\t7\t24\t7\t8\nnone\t0\t38\t1\t2\n");
-    folder.run(&["primer", "ATTC", "f.fa", "s"]).gave("s\t5\t8\t+\tATTC\n");
-    folder.write("f.fa.fai", "s\t10\t8\t4\t5\nt\t7\t24\t7\t8\nnone\t0\t38\t1\t2\n");
+    folder.write("f.fa.fai", "s\t10\t7\t4\t5\nt\t7\t23\t7\t8\nnone\t0\t37\t1\t2\n");
+    folder.run(&["primer", "CCGAA", "f.fa", "s"]).gave("s\t1\t5\t+\tCCGAA\n");
+    folder.write("f.fa.fai", "s\t10\t8\t4\t5\nt\t7\t23\t7\t8\nnone\t0\t37\t1\t2\n");
     folder.run(&["primer", "ATTC", "f.fa", "s"]).refused("refused 23 (record 1, base 1)", &[]);
 }
 
@@ -89,5 +89,7 @@ fn across_pieces() {
 #[test]
 fn of_standard_input() {
     let folder = Folder::new("primer-in");
-    folder.piped(&["primer", "TTC", "-"], FASTA.as_bytes(), 3).gave("s\t6\t8\t+\tTTC\n");
+    folder
+        .piped(&["primer", "TTC", "-"], FASTA.as_bytes(), 3)
+        .gave(concat!("s\t3\t5\t-\tTTC\ns\t6\t8\t+\tTTC\n", "t\t1\t3\t-\tTTC\n",));
 }
