@@ -20,13 +20,13 @@ use Rattle.fitting.specs.declared.Rule.{Rule}
 use Rattle.checker.specs.Accepts.{limit}
 use Rattle.checker.specs.Check.{checkOf}
 use Rattle.checker.specs.Exactly.{accepted-if, accepted-only-if}
-use Rattle.byte_table.specs.Numbers.{numbersIn}
+use Rattle.table.specs.Numbers.{numbersIn}
 use Rattle.wakeluri.specs.declared.answer.Answer.{Answer}
 use Rattle.wakeluri.specs.Answer.{boundOf}
 use Rattle.mission.specs.TableOf.{recordCount}
 use Rattle.mission.specs.Asked.{Asked}
 use Rattle.demands.specs.Calls.{Check, ReadIndex, IndexFile, WriteIndexLine, ReadExact}
-use Rattle.demands.specs.Host.{AreBytes, Exactly, Filled, JustThose, LineNeeds, joined}
+use Rattle.demands.specs.Host.{rowBytes, AreBytes, Exactly, Filled, JustThose, LineNeeds, joined}
 use Rattle.demands.specs.Laws.{accepted-zero, zero-accepted, table-told}
 use Rattle.demands.specs.Chains.{Ready, index-ready, file-ready, line-needs, lines-accepted}
 
@@ -50,7 +50,7 @@ ready-read file table′ filled ready row has-start start has-end end out out′
 -- ---- check, read the index, read bases
 
 module _ (file index table table′ : List ℕ) (checked filled : Answer) (bytes : AreBytes table) (check : Check file index checked) (zero : checked .refusal ≡ 0)
-    (room : recordCount file * 48 ≤ length table) (read : ReadIndex index table filled table′) where
+    (room : recordCount file * rowBytes ≤ length table) (read : ReadIndex index table filled table′) where
   ready : Ready file table′ filled
   ready = index-ready file index table table′ filled bytes (check-exactly file index checked check .only-if zero) room read
 

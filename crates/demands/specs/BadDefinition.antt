@@ -18,7 +18,7 @@ use Rattle.lines.specs.Groups.{groups}
 use Rattle.definition.specs.Definition.{failsAt}
 use Rattle.definition.specs.Failing.{numberOf}
 use Rattle.definition.specs.declared.Fault.{Fault}
-use Rattle.record.specs.Row.{rowCount}
+use Rattle.table.specs.Rows.{rowCount}
 use Rattle.table.specs.declared.Stop.{Stop}
 use Rattle.table.specs.declared.Stop.the-variants as stop
 use Rattle.fitting.specs.declared.Rule.{Rule}
@@ -31,10 +31,11 @@ use Rattle.checker.specs.BadDefinition.{FirstBad, TellsBad}
 use Rattle.checker.specs.BadDefinition as checker
 use Rattle.mission.specs.BadDefinition.{BadAt}
 use Rattle.mission.specs.BadDefinition as mission
-use Rattle.byte_table.specs.Numbers.{numbersIn}
+use Rattle.table.specs.Numbers.{numbersIn}
 use Rattle.wakeluri.specs.declared.answer.Answer.{Answer}
 use Rattle.wakeluri.specs.Answer.{filledAnswer, verdictAnswer}
-use Rattle.wakeluri.specs.Told.{Told, tells, filledTold}
+use Rattle.output.specs.Outcome.{Outcome, leaves}
+use Rattle.wakeluri.specs.Told.{filledTold}
 use Rattle.demands.specs.Calls.{Check, IndexFile}
 
 -- an answer tells 2, 3 or 4
@@ -65,7 +66,7 @@ module _ (rule : Rule) (file table table′ : List ℕ) (filled : Answer) (index
   indexed-bad of = rw e (go (rowsIn rule file (rowCount (numbersIn table)) .stop) refl (rw e at of))
     where
       e : filled ≡ filledAnswer (length (rowsIn rule file (rowCount (numbersIn table)) .rows)) (rowsIn rule file (rowCount (numbersIn table)) .stop)
-      e = ap (λ (t : Told). t .answer) indexed
+      e = ap (λ (t : Outcome Answer). t .answer) indexed
 
       go : (s : Stop) → rowsIn rule file (rowCount (numbersIn table)) .stop ≡ s → OfDefinition (filledAnswer (length (rowsIn rule file (rowCount (numbersIn table)) .rows)) s)
           → IndexedBad file (filledAnswer (length (rowsIn rule file (rowCount (numbersIn table)) .rows)) s)

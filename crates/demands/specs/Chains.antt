@@ -7,14 +7,14 @@ use native.Mathlib.Omega.{arith}
 use native.Mathlib.Nat.{zero-add}
 use Rattle.lines.specs.Lines.{lines}
 use Rattle.lines.specs.Groups.{groups}
-use Rattle.record.specs.Row.{rowCount}
+use Rattle.table.specs.Rows.{rowCount}
 use Rattle.table.specs.Fill.{Found}
 use Rattle.output.specs.Outcome.{leaves, pours}
 use Rattle.index.specs.Index.{indexIn}
 use Rattle.fitting.specs.declared.Rule.{Rule}
 use Rattle.fitting.specs.Rules.{ruleOf, rowsIn}
 use Rattle.checker.specs.Accepts.{limit, Accepts}
-use Rattle.byte_table.specs.Numbers.{numbersIn}
+use Rattle.table.specs.Numbers.{numbersIn}
 use Rattle.wakeluri.specs.declared.answer.Answer.{Answer}
 use Rattle.wakeluri.specs.Told.{writtenTold}
 use Rattle.mission.specs.IndexedLaws.{Along, taken}
@@ -23,7 +23,7 @@ use Rattle.mission.specs.TableOf.{recordCount, Gives, TableOf}
 use Rattle.mission.specs.TableLaws.{accepted-gives}
 use Rattle.mission.specs.Tables.{indexed-gives, indexed-leads}
 use Rattle.demands.specs.Calls.{ReadIndex, IndexFile, WriteIndexLine}
-use Rattle.demands.specs.Host.{AreBytes, Filled, LineNeeds, joined}
+use Rattle.demands.specs.Host.{rowBytes, AreBytes, Filled, LineNeeds, joined}
 use Rattle.demands.specs.TableBytes.{rows-room}
 use Rattle.demands.specs.Laws.{found-ended, left-answer, left-numbers, left-table, joined-lines, front-is, front-needs, row-fronted}
 
@@ -44,7 +44,7 @@ pub record Ready (file table′ : List ℕ) (filled : Answer) : Type 0 where
   pub table : TableOf file (numbersIn table′) (filled .count)
 
 -- an accepted index is read
-pub index-ready : (file index table table′ : List ℕ) (filled : Answer) → AreBytes table → Accepts file index → recordCount file * 48 ≤ length table → ReadIndex index table filled table′
+pub index-ready : (file index table table′ : List ℕ) (filled : Answer) → AreBytes table → Accepts file index → recordCount file * rowBytes ≤ length table → ReadIndex index table filled table′
     → Ready file table′ filled
 index-ready file index table table′ filled bytes accepted room read =
     let g : Gives file (indexRows index table) (size table) = accepted-gives file index accepted (size table) (rows-room table (recordCount file) room) in

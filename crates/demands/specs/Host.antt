@@ -1,5 +1,5 @@
 -- What a host sees: the bytes that it lends, the lines that it joins, and what an answer tells it.
-use Prim.Native.Nat.{ℕ, zero, suc, _≤_, _<_}
+use Prim.Native.Nat.{ℕ, zero, suc, _≤_, _<_, _*_}
 use mathlib.Core.Path.{_≡_}
 use mathlib.Core.List.{List, [], _++_}
 use lib.ListN.{length, getD, take, drop}
@@ -9,6 +9,11 @@ use Rattle.wakeluri.specs.declared.answer.Answer.{Answer}
 use Rattle.mission.specs.TableOf.{recordCount}
 use Rattle.mission.specs.Asked.{askedCount, askedBases}
 use Rattle.demands.specs.Calls.{WriteIndexLine}
+use Rattle.table.specs.Rows.{rowWords}
+
+-- how many bytes of a table a row takes
+abbrev pub rowBytes : ℕ
+rowBytes = rowWords * 8
 
 -- what is lent are bytes
 abbrev pub AreBytes : List ℕ → Type 0

@@ -6,12 +6,12 @@ use native.Mathlib.Omega.{arith}
 use lib.ListN.{length, getD, take, drop, set, length-append, length-take, length-drop}
 use lib.Seq.{sets, length-sets, take-at, drop-at, getD-drop}
 use Rattle.record.specs.declared.Record.{Record}
-use Rattle.record.specs.Row.{rowWords, wordsOf, words, rowCount, withRows}
-use Rattle.byte_table.specs.Numbers.{fromBytes, toBytes, firstNumbers, numbersIn, restOf, bytesOf, withNumbers}
-use Rattle.byte_table.specs.Laws.{length-toBytes, from-to, from-fits, length-numbers}
+use Rattle.table.specs.Rows.{rowWords, wordsOf, words, rowCount, withRows}
+use Rattle.table.specs.Numbers.{fromBytes, toBytes, firstNumbers, numbersIn, restOf, bytesOf, withNumbers}
+use Rattle.table.specs.NumberLaws.{length-toBytes, from-to, from-fits, length-numbers}
 use Rattle.mission.specs.Leading.{rowIn}
 use Rattle.mission.specs.TableOf.{Fits}
-use Rattle.demands.specs.Host.{AreBytes}
+use Rattle.demands.specs.Host.{rowBytes, AreBytes}
 
 -- every number fits 64 bits
 abbrev AreNumbers : List ℕ → Type 0
@@ -19,7 +19,7 @@ AreNumbers vs = (i : ℕ) → getD vs i 0 < 2 ^ 64
 
 -- ---- how many rows a table of bytes has
 
-pub rows-room : (t : List ℕ) (n : ℕ) → n * 48 ≤ length t → n ≤ rowCount (numbersIn t)
+pub rows-room : (t : List ℕ) (n : ℕ) → n * rowBytes ≤ length t → n ≤ rowCount (numbersIn t)
 unfolding rowCount
 rows-room t n h = rw (length-numbers t) (omega arith)
 

@@ -1,5 +1,4 @@
 pub mod Place
-pub mod Row
 pub mod EvenLines
 pub mod Bases
 pub mod Laws
