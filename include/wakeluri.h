@@ -1,8 +1,10 @@
 /* Wakeluri's entry points: a FASTA index library whose every answer is proved right.
  *
  * Bytes are lent as a pointer and a length; the pointer may be any non-null value where the length is 0. A table is bytes, eight to
- * a number, low byte first; a row is six numbers (name start, name length, length, position, line bases, line width), and what is
- * left of a last part of a row is ignored and stays. Rows and offsets count from 0, base positions, lines and records from 1.
+ * a number, low byte first; a row is eight numbers (name start, name length, length, position, line bases, line width, description
+ * start, description length), 64 bytes, and what is left of a last part of a row is ignored and stays. Name and description are spans
+ * of the file that was indexed, or of the index text that was read; a row from an index has 0 and 0 for the description, and so has one
+ * of a record without a description or with an empty one. Rows and offsets count from 0, base positions, lines and records from 1.
  * Every answer begins with the refusal's number, 0 for none, and its two numbers. A refusal leaves outputs as they were; rows that
  * were indexed or read before it stay, and are counted. Every call takes any bytes and any numbers. An output or a table that a call
  * changes may not overlap other bytes that are lent to the same call.
@@ -12,6 +14,10 @@
  */
 #ifndef WAKELURI_H
 #define WAKELURI_H
+
+/* The form of rows and answers: it goes up where a program that was compiled with an earlier header would read them wrong. 1 had rows of
+ * six numbers. */
+#define WAKELURI_FORM 2
 
 #include <stddef.h>
 #include <stdint.h>
@@ -45,6 +51,7 @@ struct wakeluri_row {
     uint64_t refusal, first, second;
     uint64_t found, next, plain;
     uint64_t name_start, name_length, length, position, line_bases, line_width;
+    uint64_t description_start, description_length;
 };
 
 /* What a definition line says, given with its end. Refuses 1 to 4; the line begins at 0, so `first` is the place in it. */
@@ -85,7 +92,8 @@ struct wakeluri_row wakeluri_index_content(const uint8_t *content, size_t conten
 /* A row for each line of an index, from the table's first on; names are spans of the index. Refuses 1, 9 to 12, 8. */
 struct wakeluri_answer wakeluri_read_index(const uint8_t *index, size_t index_length, uint8_t *table, size_t table_length);
 
-/* The index line of a row, with its LF, at the front of `out`; tells how many bytes. Refuses 1, 25, 13, 14. */
+/* The index line of a row, with its LF, at the front of `out`; tells how many bytes. Refuses 1, 25 (also for a name or a description
+ * outside of `names`), 13, 14. */
 struct wakeluri_answer wakeluri_write_index_line(const uint8_t *names, size_t names_length, const uint8_t *table, size_t table_length, uint64_t in_use, uint64_t row, uint8_t *out, size_t out_length);
 
 /* The first row in use that has the name, as `count`: look a name up once, and read from its row as often as you like. Refuses 1, 25, 15. */
@@ -109,6 +117,13 @@ struct wakeluri_answer wakeluri_write_record(const uint8_t *name, size_t name_le
 
 /* Bases alone, in lines of `width`, each with LF: the next piece of a record whose pieces so far were whole lines. Refuses 1, 27, 30, 14. */
 struct wakeluri_answer wakeluri_write_sequence(const uint8_t *bases, size_t bases_length, uint64_t width, uint8_t *out, size_t out_length);
+
+/* How many plain sequences a primer of 1 to 31 letters stands for, as `count`. Refuses 1, 36, and 37 with the first letter without a code. */
+struct wakeluri_answer wakeluri_degeneracy(const uint8_t *primer, size_t primer_length);
+
+/* The first place of a primer in a text that is not before `from`: each text letter's bases lie among those of its primer letter. `count` is
+ * 1 and `next` the place, or `count` is 0 where there is none. A byte without a code is in no match. Refuses 1, 36, 37. */
+struct wakeluri_answer wakeluri_find_primer(const uint8_t *primer, size_t primer_length, const uint8_t *text, size_t text_length, uint64_t from);
 
 /* Accepts a FASTA file and an index of any program exactly if the index leads to every base. Refuses 1, 2 to 4, 19, 9 to 12, 21 to 23, 20. */
 struct wakeluri_answer wakeluri_check(const uint8_t *fasta, size_t fasta_length, const uint8_t *index, size_t index_length);

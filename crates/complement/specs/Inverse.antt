@@ -4,7 +4,7 @@ use Prim.Native.Nat.{ℕ}
 use mathlib.Core.Path.{_≡_, ap, sym, _∙_}
 use mathlib.Core.Logic.{_↔_}
 use mathlib.Core.List.{List, [], map, reverse, reverse-reverse}
-use Rattle.complement.specs.Pairing.{partner}
+use Rattle.letters.specs.Letters.{partner}
 use Rattle.complement.specs.Complement.{given, firstOr, faults, complementOf, reverseComplementOf}
 use Rattle.complement.specs.Thymine.{thymine, NoU}
 use Rattle.complement.specs.InverseLaws.{good, faultless, good-map, good-onto, map-onto, twice, inside, exactly}

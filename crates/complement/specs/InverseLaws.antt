@@ -10,9 +10,9 @@ use borrow.Author.Tests.{ne-eqb, eqb-false}
 use native.Mathlib.Omega.{arith}
 use Rattle.refusal.specs.declared.Refusal.{Refusal}
 use Rattle.refusal.specs.declared.Refusal.the-variants.{NoComplement}
-use Rattle.complement.specs.Pairing.{partner}
+use Rattle.letters.specs.Letters.{partner}
 use Rattle.complement.specs.Complement.{Judged, given, firstOr, when, faults}
-use Rattle.complement.specs.Laws.{of-each}
+use Rattle.letters.specs.Laws.{of-each}
 use Rattle.complement.specs.Thymine.{thymine, NoU}
 
 -- the complement's complement is the base, with T in the place of U

@@ -13,10 +13,10 @@ use borrow.Author.Tests.{eqb-true, eqb-false, ne-eqb}
 use native.Mathlib.Omega.{arith}
 use Rattle.refusal.specs.declared.Refusal.{Refusal}
 use Rattle.refusal.specs.declared.Refusal.the-variants.{NoComplement}
-use Rattle.complement.specs.Pairing.{partner}
+use Rattle.letters.specs.Letters.{partner}
 use Rattle.complement.specs.Complement.{given, firstOr, when, faults, complementOf, reverseComplementOf, poured}
 use Rattle.complement.specs.Kinds.{among, isOf, allOf, judgedOf, outputOf}
-use Rattle.complement.specs.Laws.{both}
+use Rattle.letters.specs.Laws.{both}
 
 -- ---- the tests of a byte
 
@@ -89,10 +89,17 @@ unfolding partner
 plain-flips b h = eqb→eq _ _ (of-plain (λ x. eqb (bitXor (bitXor (bitXor x 21) (bitAnd (x / 2) 5)) (bitAnd x 2 * 8)) (partner x)) tt b h)
 
 -- a byte of either kind has a complement
+plain-good : (b : ℕ) → isOf true b ≡ true → partner b ≡ 0 → ⊥
+unfolding partner
+plain-good b h e = rw e at (of-plain (λ x. not (eqb (partner x) 0)) tt b h)
+
+paired-good : (b : ℕ) → isOf false b ≡ true → partner b ≡ 0 → ⊥
+unfolding isOf
+paired-good b h e = let z : _≡_ {A = ℕ} 0 1 = cc in absurd (omega arith)
+
 pub kind-good : (p : Bool) (b : ℕ) → isOf p b ≡ true → partner b ≡ 0 → ⊥
-unfolding isOf partner
-kind-good true b h e = rw e at (of-plain (λ x. not (eqb (partner x) 0)) tt b h)
-kind-good false b h e = let z : _≡_ {A = ℕ} 0 1 = cc in absurd (omega arith)
+kind-good true b h e = plain-good b h e
+kind-good false b h e = paired-good b h e
 
 -- what the test of a byte says of its complement
 pub tested-bad : (v : Bool) (b : ℕ) → v ≡ isOf false b → not v ≡ true → partner b ≡ 0

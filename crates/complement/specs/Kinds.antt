@@ -6,7 +6,7 @@ use mathlib.Core.Bool.{Bool, true, false, cond, not}
 use mathlib.Core.List.{List, [], _∷_}
 use lib.Dec.{eqb}
 use Rattle.output.specs.declared.Written.{Written}
-use Rattle.complement.specs.Pairing.{partner}
+use Rattle.letters.specs.Letters.{partner}
 use Rattle.complement.specs.Complement.{Judged, complementOf, reverseComplementOf, poured}
 
 -- is a byte a letter of a text

@@ -1,50 +1,22 @@
--- Laws of the complement: of the pairing, of the bytes that have none, of the writing, and of what a call tells.
+-- Laws of the complement: of the bytes that have none, of the writing, and of what a call tells.
 use Prim.Native.Nat.{ℕ, suc, _+_, _≤_, _<_}
 use mathlib.Core.Path.{_≡_, refl, sym, _∙_}
-use mathlib.Core.Bool.{Bool, true, false, cond}
 use mathlib.Core.List.{List, [], _∷_, _++_, map, reverse, append-nil, append-assoc, reverse-append, reverse-cons, map-append}
-use lib.Dec.{T, eqb}
+use lib.Dec.{eqb}
 use lib.ListN.{length, take, drop, getD, set, length-map, length-append, length-drop, length-reverse, drop-of-length-le}
 use lib.Seq.{drop-cons, take-suc, set-at, length-take-le, append-snoc}
-use borrow.Author.Tests.{eq-eqb, ne-eqb, eqb-true}
+use borrow.Author.Tests.{eq-eqb, ne-eqb}
 use native.Mathlib.Omega.{arith}
 use native.Mathlib.Numerals.{add-one}
 use native.Mathlib.Nat.{add-zero, zero-add, suc-add, add-suc}
 use Rattle.refusal.specs.declared.Refusal.{Refusal}
 use Rattle.refusal.specs.declared.Refusal.the-variants.{NoComplement}
-use Rattle.complement.specs.Pairing.{looked, rules, partner}
+use Rattle.letters.specs.Letters.{partner}
 use Rattle.complement.specs.Complement.{Judged, given, refused, firstOr, when, faults, sized, poured, complementWritten}
 use Rattle.complement.specs.Kinds.{answerOf, outputOf}
 use Rattle.output.specs.declared.Written.{Written}
 use Rattle.output.specs.declared.Written.the-variants.{Bytes, Refused}
 use Rattle.output.specs.Outcome.{leaves}
-
--- ---- the pairing
-
--- a test at each of some rules
-abbrev pub every : (ℕ → ℕ → Bool) → List (ℕ × ℕ) → Bool
-every f [] = true
-every f (r ∷ rs) = cond (f (r .0) (r .1)) (every f rs) false
-
-pub both : (a b : Bool) → T (cond a b false) → T a × T b
-both true b t = (tt, t)
-both false b t = absurd t
-
-at-rule : (f : ℕ → ℕ → Bool) (rs : List (ℕ × ℕ)) → T (every f rs) → (b : ℕ) → (looked rs b ≡ 0 → ⊥) → T (f b (looked rs b))
-at-rule f [] t b h = absurd (h refl)
-at-rule f (r ∷ rs) t b h = go (eqb b (r .0)) refl (at-rule f rs (tests .1) b) h
-  where
-    tests : T (f (r .0) (r .1)) × T (every f rs)
-    tests = both (f (r .0) (r .1)) (every f rs) t
-
-    go : (v : Bool) → eqb b (r .0) ≡ v → ((looked rs b ≡ 0 → ⊥) → T (f b (looked rs b))) → (cond v (r .1) (looked rs b) ≡ 0 → ⊥) → T (f b (cond v (r .1) (looked rs b)))
-    go true e more h = rw (eqb-true b (r .0) e) (tests .0)
-    go false e more h = more h
-
--- what one computed test finds at each rule holds of each byte that has a complement
-pub of-each : (f : ℕ → ℕ → Bool) → T (every f rules) → (b : ℕ) → (partner b ≡ 0 → ⊥) → T (f b (partner b))
-unfolding partner
-of-each f t b h = at-rule f rules t b h
 
 -- ---- the bytes that have no complement
 

@@ -1,4 +1,3 @@
-pub mod Pairing
 pub mod Complement
 pub mod Kinds
 pub mod Laws
@@ -6,4 +5,3 @@ pub mod KindLaws
 pub mod Thymine
 pub mod InverseLaws
 pub mod Inverse
-pub mod Table

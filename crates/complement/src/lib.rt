@@ -17,10 +17,10 @@ ghost use Prim.Native.Nat.{_≤_};
 ghost use lib.ListN.{length};
 ghost use Rattle.refusal.specs.declared.Refusal.the-variants.{NoRoom, NoComplement};
 ghost use Rattle.output.specs.Outcome.{leaves};
-ghost use Rattle.complement.specs.Pairing.{partner};
+ghost use Rattle.letters.specs.Letters.{partner};
+ghost use Rattle.letters.specs.Table.{IsTable};
 ghost use Rattle.complement.specs.Complement.{given, complementOf, reverseComplementOf, poured, complementWritten};
 ghost use Rattle.complement.specs.Kinds.{isOf, allOf, judgedOf, answerOf, outputOf};
-ghost use Rattle.complement.specs.Table.{IsTable};
 
 // How many bytes are judged at once.
 const BLOCK: usize = 4096;
@@ -93,36 +93,9 @@ fn flipped_plain(b: u8) -> u8
     b ^ 21 ^ ((b / 2) & 5) ^ ((b & 2) * 8)
 }
 
-// The complement of each byte, at the place that the byte numbers; 0 means that it has none. A row has 16 bytes: the upper case
-// letters are in the rows of '@' and 'P', the lower case letters in those 32 further.
-const TABLE: [u8; 256] = *b"\
-    \0\0\0\0\0\0\0\0\0\0\0\0\0\0\0\0\
-    \0\0\0\0\0\0\0\0\0\0\0\0\0\0\0\0\
-    \0\0\0\0\0\0\0\0\0\0\0\0\0\0\0\0\
-    \0\0\0\0\0\0\0\0\0\0\0\0\0\0\0\0\
-    \0TVGH\0\0CD\0\0M\0KN\0\
-    \0\0YSAABW\0R\0\0\0\0\0\0\
-    \0tvgh\0\0cd\0\0m\0kn\0\
-    \0\0ysaabw\0r\0\0\0\0\0\0\
-    \0\0\0\0\0\0\0\0\0\0\0\0\0\0\0\0\
-    \0\0\0\0\0\0\0\0\0\0\0\0\0\0\0\0\
-    \0\0\0\0\0\0\0\0\0\0\0\0\0\0\0\0\
-    \0\0\0\0\0\0\0\0\0\0\0\0\0\0\0\0\
-    \0\0\0\0\0\0\0\0\0\0\0\0\0\0\0\0\
-    \0\0\0\0\0\0\0\0\0\0\0\0\0\0\0\0\
-    \0\0\0\0\0\0\0\0\0\0\0\0\0\0\0\0\
-    \0\0\0\0\0\0\0\0\0\0\0\0\0\0\0\0";
-
-// The table as a value: a loop looks into a copy that is made before it, since the constant would be made anew at each look.
-fn table() -> [u8; 256]
-    ensures { λ r. ⌜ IsTable r ⌝ }
-{
-    TABLE
-}
-
 // The complement of a base of the kind.
 fn complement_base(table: &[u8; 256], b: u8, plain: bool) -> u8
-    requires { ⌜ (isOf plain b ≡ true) × IsTable (now table) ⌝ }
+    requires { ⌜ (isOf plain b ≡ true) × IsTable partner (now table) ⌝ }
     ensures { λ r. ⌜ r ≡ partner b ⌝ }
 {
     if plain {
@@ -185,7 +158,7 @@ fn write(bases: &[u8], out: &mut [u8], plain: bool)
     requires { ⌜ (length (now bases) ≤ length (now out)) × (allOf plain (now bases) ≡ true) ⌝ }
     ensures { λ _. ⌜ now (out .exit) ≡ outputOf (given (map partner (now (bases .entry)))) (now (out .entry)) ⌝ }
 {
-    let table = table();
+    let table = letters::partners();
     let mut i = 0;
     while i < bases.len() {
         out[i] = complement_base(&table, bases[i], plain);
@@ -198,7 +171,7 @@ fn write_reversed(bases: &[u8], out: &mut [u8], plain: bool)
     requires { ⌜ (length (now bases) ≤ length (now out)) × (allOf plain (now bases) ≡ true) ⌝ }
     ensures { λ _. ⌜ now (out .exit) ≡ outputOf (given (reverse (map partner (now (bases .entry))))) (now (out .entry)) ⌝ }
 {
-    let table = table();
+    let table = letters::partners();
     let mut i = bases.len();
     let mut at = 0;
     while 0 < i {

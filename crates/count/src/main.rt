@@ -1,14 +1,16 @@
 // count [WORK FILE ..]: does each work once on its file, so that the instructions it takes can be counted as the difference of two
 // runs (tools/dev instruction-goals). A work is `index`, by the ported rule, `fit`, by the complete one, `check`, with the index on standard
-// input, or `reverse`, the reverse complement of the whole file. It writes a line for each, as `index 1` or `fit 1`, the count of rows,
-// `check 0`, or `reverse 60`, the count of bytes, and then those bytes: a buffer that nobody reads, the compiler would not write. Where
-// it is refused, `refused 24 3 45`. A file, or an index, has at most 65,536 bytes; what is behind them is not read.
+// input, `reverse`, the reverse complement of the whole file, or `primer`, the first place of the primer on standard input. It writes a
+// line for each, as `index 1` or `fit 1`, the count of rows, `check 0`, `primer 3`, the place, or `nothing 0`, or `reverse 60`, the count
+// of bytes, and then those bytes: a buffer that nobody reads, the compiler would not write. Where it is refused, `refused 24 3 45`. A
+// file, or an index, has at most 65,536 bytes; what is behind them is not read.
 ghost use Prim.Native.Nat.{_≤_};
 use checker::Verdict;
 use fitting::Rule;
 use libc::STDIN_FILENO;
 use libc::STDOUT_FILENO;
 use output::Written;
+use primer::Place;
 use refusal::Refusal;
 use table::Stop;
 
@@ -81,6 +83,22 @@ fn reverse(bases: &[u8]) {
     reverse_into(bases, &mut out);
 }
 
+// Finds a primer in a text.
+fn find(primer: &[u8], text: &[u8]) {
+    match primer::find_next(primer, text, 0) {
+        Place::At(k) => say(b"primer", k),
+        Place::Nothing => say(b"nothing", 0),
+        Place::Refused(why) => say_refused(why),
+    }
+}
+
+// Finds the primer on standard input.
+fn find_input(text: &[u8]) {
+    let mut primer = io::large_buffer();
+    let n = io::read_full(STDIN_FILENO, &mut primer);
+    find(&primer[..n], text);
+}
+
 // Does the work whose name has this first letter.
 fn work(letter: u8, file: &[u8]) {
     match letter {
@@ -88,6 +106,7 @@ fn work(letter: u8, file: &[u8]) {
         b'f' => index(b"fit", file, Rule::Complete),
         b'c' => check_input(file),
         b'r' => reverse(file),
+        b'p' => find_input(file),
         _ => {}
     }
 }

@@ -8,7 +8,9 @@ use lib.Seq.{drop-drop, drop-cons, take-all}
 use lib.Dec.{eqb}
 use borrow.Author.Tests.{eq-eqb, ne-eqb}
 use native.Mathlib.Omega.{arith}
+use native.Mathlib.Nat.{sub-zero}
 use Rattle.lines.specs.Lines.{part, contentOf}
+use Rattle.lines.specs.declared.Span.{Span}
 use Rattle.lines.specs.Laws.{part-none, part-snoc, part-length, content-le}
 use Rattle.definition.specs.Definition.{isSpace, spaced, run, kept, keep, described, namedOf, contentSays, definitionSays, failsAt}
 use Rattle.definition.specs.declared.Definition.{Definition}
@@ -176,6 +178,47 @@ name-within l d h = go (contentOf l) (content-le l) h
       where
         prefixed : (t : Bool) → cond t (namedOf s (run (spaced false) s)) (Bad NoPrefix) ≡ Named d
             → (d .name .start ≡ 1) × (1 ≤ d .name .length) × (d .name .start + d .name .length ≤ length l)
+        prefixed true e = some s (run (spaced false) s) (run-le (spaced false) s) a e
+        prefixed false e = let z : _≡_ {A = ℕ} 0 1 = cc in absurd (omega arith)
+
+-- what is kept behind some bytes
+pub keep-drop : (p : ℕ → Bool) (i : ℕ) (s : List ℕ) → keep p (drop i s) ≡ keep p s - i
+unfolding keep
+keep-drop p zero s = sym (sub-zero (keep p s))
+keep-drop p (suc i) [] = omega arith
+keep-drop p (suc i) (b ∷ s) = keep-drop p i s ∙ go (p b) (keep p s)
+  where
+    go : (t : Bool) (n : ℕ) → n - i ≡ kept t n - suc i
+    go true zero = omega arith
+    go false zero = omega arith
+    go t (suc n) = omega arith
+
+-- a span lies in a line, and is 0, 0 where it has no bytes
+abbrev pub Inside : List ℕ → Span → Type 0
+Inside l s = (s .start + s .length ≤ length l) × (s .length ≡ 0 → s .start ≡ 0)
+
+pub description-within : (l : List ℕ) (d : Definition) → definitionSays l ≡ Named d → Inside l (d .description)
+unfolding definitionSays contentSays
+description-within l d h = go (contentOf l) (content-le l) h
+  where
+    span : (at n : ℕ) → (0 < n → at + n ≤ length l) → Inside l (described at n)
+    span at zero k = (omega arith, λ z. refl)
+    span at (suc n) k = (k (omega arith), λ z. absurd (omega arith))
+
+    some : (s : List ℕ) (n : ℕ) → n ≤ length s → suc (length s) ≤ length l → namedOf s n ≡ Named d → Inside l (d .description)
+    some s zero a b e = let z : _≡_ {A = ℕ} 0 1 = cc in absurd (omega arith)
+    some s (suc n) a b e =
+        let k : ℕ = run (spaced true) (drop (suc n) s) in
+        let m : ℕ = keep isSpace (drop k (drop (suc n) s)) in
+        let v : d ≡ record { name = record { start = 1; length = suc n }; description = described (suc (suc n) + k) m } = cc in
+        rw v (span (suc (suc n) + k) m
+        (λ z. omega (arith, keep-le isSpace (drop k (drop (suc n) s)), length-drop k (drop (suc n) s), length-drop (suc n) s, run-le (spaced true) (drop (suc n) s))))
+
+    go : (t : List ℕ) → length t ≤ length l → contentSays t ≡ Named d → Inside l (d .description)
+    go [] a e = let z : _≡_ {A = ℕ} 0 1 = cc in absurd (omega arith)
+    go (b ∷ s) a e = prefixed (eqb b 62) e
+      where
+        prefixed : (t : Bool) → cond t (namedOf s (run (spaced false) s)) (Bad NoPrefix) ≡ Named d → Inside l (d .description)
         prefixed true e = some s (run (spaced false) s) (run-le (spaced false) s) a e
         prefixed false e = let z : _≡_ {A = ℕ} 0 1 = cc in absurd (omega arith)
 

@@ -26,7 +26,7 @@ use Rattle.wakeluri.specs.Answer.{boundOf}
 use Rattle.mission.specs.TableOf.{recordCount}
 use Rattle.mission.specs.Asked.{Asked}
 use Rattle.demands.specs.Calls.{Check, ReadIndex, IndexFile, WriteIndexLine, ReadExact}
-use Rattle.demands.specs.Host.{rowBytes, AreBytes, Exactly, Filled, JustThose, LineNeeds, joined}
+use Rattle.demands.specs.Host.{AreBytes, rowBytes, Exactly, Filled, JustThose, LineNeeds, joined}
 use Rattle.demands.specs.Laws.{accepted-zero, zero-accepted, table-told}
 use Rattle.demands.specs.Chains.{Ready, index-ready, file-ready, line-needs, lines-accepted}
 

@@ -4,7 +4,11 @@ use Prim.Native.Nat.{ℕ}
 use mathlib.Core.Path.{_≡_}
 use mathlib.Core.List.{List}
 use Rattle.table.specs.Rows.{rowCount}
+use Rattle.definition.specs.Definition.{lineRead}
+use Rattle.sequence.specs.Read.{readWhole}
 use Rattle.index_line.specs.IndexLine.{writtenAs}
+use Rattle.writer.specs.Text.{recordWritten}
+use Rattle.indexer.specs.Index.{recordRead}
 use Rattle.index.specs.Index.{indexIn}
 use Rattle.index.specs.Find.{rowRead}
 use Rattle.fitting.specs.declared.Rule.{Rule}
@@ -14,9 +18,11 @@ use Rattle.region.specs.Raw.{rawRead}
 use Rattle.checker.specs.Check.{checkOf}
 use Rattle.table.specs.Numbers.{numbersIn}
 use Rattle.wakeluri.specs.declared.answer.Answer.{Answer}
-use Rattle.wakeluri.specs.Answer.{boundOf, verdictAnswer, foundAnswer}
+use Rattle.wakeluri.specs.declared.answer.DefinitionAnswer.{DefinitionAnswer}
+use Rattle.wakeluri.specs.declared.answer.RowAnswer.{RowAnswer}
+use Rattle.wakeluri.specs.Answer.{boundOf, givenBy, verdictAnswer, foundAnswer, definitionAnswer, stepAnswer}
 use Rattle.output.specs.Outcome.{leaves}
-use Rattle.wakeluri.specs.Told.{filledTold, writtenTold}
+use Rattle.wakeluri.specs.Told.{filledTold, writtenTold, sequenceTold}
 
 -- wakeluri_check(file, index) answers a
 abbrev pub Check : List ℕ → List ℕ → Answer → Type 0
@@ -46,3 +52,20 @@ ReadExact file table in-use row has-start start has-end end out a out′ =
 abbrev pub ReadRaw : List ℕ → List ℕ → ℕ → ℕ → ℕ → ℕ → ℕ → ℕ → List ℕ → Answer → List ℕ → Type 0
 ReadRaw file table in-use row has-start start has-end end out a out′ =
     leaves a out′ ≡ writtenTold (rawRead file (numbersIn table) in-use row (boundOf has-start start) (boundOf has-end end) out)
+
+-- wakeluri_write_record(name, has_description, description, bases, width, out)
+abbrev pub WriteRecord : List ℕ → ℕ → List ℕ → List ℕ → ℕ → List ℕ → Answer → List ℕ → Type 0
+WriteRecord name has-description description bases width out a out′ =
+    leaves a out′ ≡ writtenTold (recordWritten name (givenBy has-description) description bases width out)
+
+-- wakeluri_definition_line(line)
+abbrev pub DefinitionLine : List ℕ → DefinitionAnswer → Type 0
+DefinitionLine line a = a ≡ definitionAnswer (lineRead line)
+
+-- wakeluri_index_record(file, at)
+abbrev pub IndexRecord : List ℕ → ℕ → RowAnswer → Type 0
+IndexRecord file at a = a ≡ stepAnswer (recordRead file (record { at = at }))
+
+-- wakeluri_read_sequence(file, at, out)
+abbrev pub ReadSequence : List ℕ → ℕ → List ℕ → Answer → List ℕ → Type 0
+ReadSequence file at out a out′ = leaves a out′ ≡ sequenceTold (readWhole file (record { at = at }) out)

@@ -23,7 +23,7 @@ use Rattle.mission.specs.TableOf.{recordCount, Gives, TableOf}
 use Rattle.mission.specs.TableLaws.{accepted-gives}
 use Rattle.mission.specs.Tables.{indexed-gives, indexed-leads}
 use Rattle.demands.specs.Calls.{ReadIndex, IndexFile, WriteIndexLine}
-use Rattle.demands.specs.Host.{rowBytes, AreBytes, Filled, LineNeeds, joined}
+use Rattle.demands.specs.Host.{AreBytes, rowBytes, Filled, LineNeeds, joined}
 use Rattle.demands.specs.TableBytes.{rows-room}
 use Rattle.demands.specs.Laws.{found-ended, left-answer, left-numbers, left-table, joined-lines, front-is, front-needs, row-fronted}
 

@@ -1,5 +1,5 @@
 -- What a host sees: the bytes that it lends, the lines that it joins, and what an answer tells it.
-use Prim.Native.Nat.{ℕ, zero, suc, _≤_, _<_, _*_}
+use Prim.Native.Nat.{ℕ, zero, suc, _*_, _≤_, _<_}
 use mathlib.Core.Path.{_≡_}
 use mathlib.Core.List.{List, [], _++_}
 use lib.ListN.{length, getD, take, drop}
@@ -11,13 +11,13 @@ use Rattle.mission.specs.Asked.{askedCount, askedBases}
 use Rattle.demands.specs.Calls.{WriteIndexLine}
 use Rattle.table.specs.Rows.{rowWords}
 
--- how many bytes of a table a row takes
-abbrev pub rowBytes : ℕ
-rowBytes = rowWords * 8
-
 -- what is lent are bytes
 abbrev pub AreBytes : List ℕ → Type 0
 AreBytes t = (i : ℕ) → getD t i 0 < 256
+
+-- the bytes of a row of a table
+abbrev pub rowBytes : ℕ
+rowBytes = rowWords * 8
 
 -- the checker's answer is 0 exactly if the index is accepted
 pub record Exactly (file index : List ℕ) (a : Answer) : Type 0 where

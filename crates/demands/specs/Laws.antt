@@ -135,5 +135,5 @@ pub row-fronted : (f t : List ℕ) (xs : List Record) (s : Stop) (h : Along (Lea
 unfolding writtenAs lineWritten overLimit lineOf
 row-fronted f t xs s h small room k m out =
     let d = leading-at f xs s h k m in
-    rw (le-ltb 1099511627776 (length f) small, row-held t xs noRow k (length f) room m (d .lined (omega arith)) (d .named))
+    rw (le-ltb 1099511627776 (length f) small, row-held t xs noRow k (length f) room m (d .lined (omega arith)) (d .named) (d .described))
     (text-fronted (nameIn f (rowIn xs k)) (columnsOf (rowIn xs k)) out (d .unbroken))

@@ -9,3 +9,5 @@ pub mod LookUpTells
 pub mod LookUpLaws
 pub mod LookUp
 pub mod BadDefinition
+pub mod WritingLaws
+pub mod Writing

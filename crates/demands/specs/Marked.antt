@@ -1,6 +1,6 @@
 -- The marked examples M1 to M13 (docs/RULES.md, R46): one table, one proof. Each asks an entry point's own definition for what a host is told and
 -- for the bytes that it finds afterwards.
-use Prim.Native.Nat.{ℕ, zero, suc}
+use Prim.Native.Nat.{ℕ, zero, suc, _*_}
 use Prim.Native.String.{String}
 use mathlib.Core.Path.{_≡_, refl}
 use mathlib.Core.List.{List, [], _∷_, _++_}
@@ -10,7 +10,7 @@ use Rattle.refusal.specs.Numbers.{numbersOf, overLimit}
 use Rattle.lines.specs.Lines.{lines, chop, ends, contentOf, seqOf, sumBases, sumWidths, upFrom, basesAt}
 use Rattle.lines.specs.Groups.{groups}
 use Rattle.lines.specs.Same.{sameBytes}
-use Rattle.complement.specs.Pairing.{partner}
+use Rattle.letters.specs.Letters.{partner}
 use Rattle.complement.specs.Complement.{firstOr, faults, reverseComplementOf, sized, poured, complementWritten}
 use Rattle.definition.specs.Definition.{isSpace, run, keep, refusalOf}
 use Rattle.definition.specs.Definition as definition
@@ -37,7 +37,7 @@ use Rattle.table.specs.Numbers.{fromBytes, toBytes, firstNumbers, numbersIn, re
 use Rattle.wakeluri.specs.declared.answer.Answer.{Answer}
 use Rattle.wakeluri.specs.Answer.{fine, answerOf, boundOf, writtenAnswer, filledAnswer, verdictAnswer}
 use Rattle.wakeluri.specs.Told.{writtenTold, filledTold}
-use Rattle.demands.specs.Host.{joined}
+use Rattle.demands.specs.Host.{rowBytes, joined}
 
 -- ---- answers
 
@@ -56,7 +56,7 @@ zeros zero = []
 zeros (suc n) = 0 ∷ zeros n
 
 abbrev pub table : List ℕ
-table = zeros 96
+table = zeros (2 * rowBytes)
 
 -- wakeluri_index_file of a file, into such a table
 abbrev pub filled : String → Outcome Answer

@@ -11,7 +11,7 @@ use Rattle.table.specs.Numbers.{fromBytes, toBytes, firstNumbers, numbersIn, re
 use Rattle.table.specs.NumberLaws.{length-toBytes, from-to, from-fits, length-numbers}
 use Rattle.mission.specs.Leading.{rowIn}
 use Rattle.mission.specs.TableOf.{Fits}
-use Rattle.demands.specs.Host.{rowBytes, AreBytes}
+use Rattle.demands.specs.Host.{AreBytes, rowBytes}
 
 -- every number fits 64 bits
 abbrev AreNumbers : List ℕ → Type 0
@@ -78,7 +78,9 @@ words-fit (x ∷ xs) h (suc (suc zero)) = h 0 (omega arith) .lined .fits-length
 words-fit (x ∷ xs) h (suc (suc (suc zero))) = h 0 (omega arith) .lined .fits-position
 words-fit (x ∷ xs) h (suc (suc (suc (suc zero)))) = h 0 (omega arith) .lined .fits-bases
 words-fit (x ∷ xs) h (suc (suc (suc (suc (suc zero))))) = h 0 (omega arith) .lined .fits-width
-words-fit (x ∷ xs) h (suc (suc (suc (suc (suc (suc i)))))) = words-fit xs (λ r m. h (suc r) (omega arith)) i
+words-fit (x ∷ xs) h (suc (suc (suc (suc (suc (suc zero)))))) = h 0 (omega arith) .description-start
+words-fit (x ∷ xs) h (suc (suc (suc (suc (suc (suc (suc zero))))))) = h 0 (omega arith) .description-length
+words-fit (x ∷ xs) h (suc (suc (suc (suc (suc (suc (suc (suc i)))))))) = words-fit xs (λ r m. h (suc r) (omega arith)) i
 
 -- so rows that are put in a table are what it then holds
 pub rows-back : (t : List ℕ) (xs : List Record) → AreBytes t → ((r : ℕ) → r < length xs → Fits (rowIn xs r))

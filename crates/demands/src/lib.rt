@@ -1,11 +1,16 @@
-// Demand 3 at the entry points, and looking up and reading as two calls (request K8). The theorems are in specs/AtTheEdge.antt and
-// specs/LookUp.antt, over the calls' promises as relations (specs/Calls.antt). Here each call is made, and has its relation for a contract: so
-// the theorems are about the calls themselves.
+// Demand 3 at the entry points, looking up and reading as two calls (request K8), and a written record read back (K3). The theorems are in
+// specs/AtTheEdge.antt, LookUp.antt and Writing.antt, over the calls' promises as relations (specs/Calls.antt). Here each call is made, and has
+// its relation for a contract: so the theorems are about the calls themselves.
 use wakeluri::answer::Answer;
+use wakeluri::answer::DefinitionAnswer;
+use wakeluri::answer::RowAnswer;
 use wakeluri::files;
 use wakeluri::rows;
+use wakeluri::scan;
+use wakeluri::text;
+use wakeluri::writing;
 ghost use Rattle.fitting.specs.declared.Rule.the-variants.{Strict, Complete};
-ghost use Rattle.demands.specs.Calls.{Check, ReadIndex, IndexFile, WriteIndexLine, Find, ReadExact, ReadRaw};
+ghost use Rattle.demands.specs.Calls.{Check, ReadIndex, IndexFile, WriteIndexLine, Find, ReadExact, ReadRaw, WriteRecord, DefinitionLine, IndexRecord, ReadSequence};
 
 fn check(file: &[u8], index: &[u8]) -> Answer
     ensures { λ a. ⌜ Check (now (file .entry)) (now (index .entry)) a ⌝ }
@@ -93,4 +98,35 @@ fn read_raw(
         end,
         out,
     )
+}
+
+fn write_record(
+    name: &[u8],
+    has_description: u64,
+    description: &[u8],
+    bases: &[u8],
+    width: u64,
+    out: &mut [u8],
+) -> Answer
+    ensures { λ a. ⌜ WriteRecord (now (name .entry)) «has_description» (now (description .entry)) (now (bases .entry)) width (now (out .entry)) a (now (out .exit)) ⌝ }
+{
+    writing::wakeluri_write_record(name, has_description, description, bases, width, out)
+}
+
+fn definition_line(line: &[u8]) -> DefinitionAnswer
+    ensures { λ a. ⌜ DefinitionLine (now (line .entry)) a ⌝ }
+{
+    text::wakeluri_definition_line(line)
+}
+
+fn index_record(file: &[u8], at: u64) -> RowAnswer
+    ensures { λ a. ⌜ IndexRecord (now (file .entry)) at a ⌝ }
+{
+    files::wakeluri_index_record(file, at)
+}
+
+fn read_sequence(file: &[u8], at: u64, out: &mut [u8]) -> Answer
+    ensures { λ a. ⌜ ReadSequence (now (file .entry)) at (now (out .entry)) a (now (out .exit)) ⌝ }
+{
+    scan::wakeluri_read_sequence(file, at, out)
 }

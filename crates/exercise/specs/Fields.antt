@@ -181,6 +181,8 @@ laterRefusal d refused.BaseUnfit = refused.BaseUnfit
 laterRefusal d (refused.MalformedExercise at) = refused.MalformedExercise (at + d)
 laterRefusal d (refused.UnknownNeededTag at) = refused.UnknownNeededTag (at + d)
 laterRefusal d (refused.UnknownEdition at) = refused.UnknownEdition (at + d)
+laterRefusal d refused.PrimerLength = refused.PrimerLength
+laterRefusal d (refused.PrimerLetter x) = refused.PrimerLetter x
 laterRefusal d (refused.NoIndexFits x y) = refused.NoIndexFits x y
 
 abbrev later : ℕ → Held → Held

@@ -7,11 +7,11 @@ use mathlib.Core.Bool.{cond}
 use lib.ListN.{length, drop}
 use lib.Dec.{eqb}
 use Rattle.refusal.specs.declared.Refusal.the-variants.{NoIndexFits}
-use Rattle.lines.specs.declared.Span.{Span}
+use Rattle.definition.specs.declared.Definition.{Definition}
 use Rattle.lines.specs.Lines.{basesOf, firstLine, sumBases, basesAt}
 use Rattle.record.specs.Place.{placeOf}
 use Rattle.record.specs.declared.Record.{Record}
-use Rattle.indexer.specs.Rule.{Verdict, good, bad, SequenceRule}
+use Rattle.indexer.specs.Rule.{Verdict, good, bad, SequenceRule, rowFor}
 use Rattle.walking.specs.Places.{firstElsewhere}
 use Rattle.walking.specs.declared.Placed.{Placed}
 use Rattle.walking.specs.declared.Placed.the-variants.{There, Elsewhere}
@@ -60,17 +60,9 @@ fit start ls = placesSay (firstElsewhere (placeBy (numbersAt start ls)) 0 (bases
 
 -- ---- a record
 
--- the row of a record, by where its definition begins, the bytes of that line, the name's place in it, and the sequence lines
-abbrev pub completeRow : ℕ → ℕ → Span → List (List ℕ) → Record
-completeRow at n name ls =
-    record {
-      «name_start» = at + name .start;
-      «name_length» = name .length;
-      length = sumBases ls;
-      position = record { 0 = numbersAt (at + n) ls .position };
-      «line_bases» = numbersAt (at + n) ls .bases;
-      «line_width» = numbersAt (at + n) ls .width;
-    }
+-- the row of a record, by where its definition begins, the bytes of that line, what it says, and the sequence lines
+abbrev pub completeRow : ℕ → ℕ → Definition → List (List ℕ) → Record
+completeRow at n d ls = rowFor at d (sumBases ls) (numbersAt (at + n) ls .position) (numbersAt (at + n) ls .bases) (numbersAt (at + n) ls .width)
 
 -- the rule
 abbrev pub complete : SequenceRule

@@ -7,7 +7,7 @@ use native.Mathlib.Omega.{arith}
 use native.Mathlib.Numerals.{add-one}
 use native.Mathlib.Nat.{add-zero, zero-mul, add-mul, one-mul}
 use Rattle.lines.specs.declared.Line.{Line}
-use Rattle.lines.specs.declared.Span.{Span}
+use Rattle.definition.specs.declared.Definition.{Definition}
 use Rattle.lines.specs.Lines.{basesOf, seqAt, firstLine, tailOf, sumBases, sumWidths}
 use Rattle.lines.specs.Laws.{seqAt-next, first-within, bases-le}
 use Rattle.lines.specs.Alike.{alike, alike-passes, LineLike}
@@ -18,7 +18,7 @@ use Rattle.indexer.specs.Laws.{like-room}
 use Rattle.fitting.specs.declared.LineAt.{LineAt}
 use Rattle.fitting.specs.declared.Even.{Even}
 use Rattle.fitting.specs.declared.Even.the-variants.{Lines, Not}
-use Rattle.indexer.specs.Rule.{sequenceBy}
+use Rattle.indexer.specs.Rule.{rowFor, sequenceBy}
 use Rattle.fitting.specs.Complete.{complete}
 use Rattle.fitting.specs.FirstLine.{terminated-here}
 use Rattle.fitting.specs.Even.{FirstLineFits, even-fits}
@@ -129,20 +129,9 @@ module _ (s : List ℕ) (at : ℕ) (h : at ≤ length s) (x : Line) (hx : x ≡ 
 
 -- ---- a record whose lines are even, by its first line x
 
-pub even-record : (s : List ℕ) (at e : ℕ) (name : Span) → at ≤ e → (x : Line) → x ≡ firstLine (seqAt s e) → (n j : ℕ) → EvenLinesAt s e (Lines n j)
-    → record {
-      answer = indexed.Row (record {
-        «name_start» = at + name .start;
-        «name_length» = name .length;
-        length = n;
-        position = record { 0 = e };
-        «line_bases» = x .bases;
-        «line_width» = x .width;
-      });
-      next = record { at = j };
-    }
-    ≡ sequenceBy complete at (e - at) name (seqAt s e)
+pub even-record : (s : List ℕ) (at e : ℕ) (d : Definition) → at ≤ e → (x : Line) → x ≡ firstLine (seqAt s e) → (n j : ℕ) → EvenLinesAt s e (Lines n j)
+    → record { answer = indexed.Row (rowFor at d n e (x .bases) (x .width)); next = record { at = j } } ≡ sequenceBy complete at (e - at) d (seqAt s e)
 unfolding sequenceBy
-even-record s at e name le x hx n j (even same hn hj) =
+even-record s at e d le x hx n j (even same hn hj) =
     let split : at + (e - at) ≡ e = omega arith in
     rw (split, same .fits, hn, hj, hx) (rw (split, same .numbers))

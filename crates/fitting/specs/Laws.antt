@@ -5,13 +5,13 @@ use mathlib.Core.List.{List}
 use lib.ListN.{length}
 use native.Mathlib.Omega.{arith}
 use Rattle.refusal.specs.declared.Refusal.the-variants.{NoIndexFits}
-use Rattle.lines.specs.declared.Span.{Span}
+use Rattle.definition.specs.declared.Definition.{Definition}
 use Rattle.lines.specs.Lines.{seqAt, sumBases, sumWidths}
 use Rattle.record.specs.EvenLines.{length-basesAt}
 use Rattle.record.specs.declared.Position.{Position}
 use Rattle.record.specs.declared.Offset.{Offset}
 use Rattle.indexer.specs.declared.Indexed.the-variants as indexed
-use Rattle.indexer.specs.Rule.{sequenceBy}
+use Rattle.indexer.specs.Rule.{rowFor, sequenceBy}
 use Rattle.walking.specs.Places.{walkedAs}
 use Rattle.walking.specs.declared.Placed.the-variants.{There, Elsewhere}
 use Rattle.walking.specs.declared.Walked.{Walked}
@@ -21,7 +21,7 @@ use Rattle.fitting.specs.BlankLines.{NumbersAt}
 
 -- ---- a record whose definition line has been read, by its numbers r and the walk v from their position on
 
-module _ (s : List ℕ) (at e : ℕ) (name : Span) (le : at ≤ e) (r : Numbers) (n : NumbersAt s e r) where
+module _ (s : List ℕ) (at e : ℕ) (d : Definition) (le : at ≤ e) (r : Numbers) (n : NumbersAt s e r) where
   split : at + (e - at) ≡ e
   split = omega arith
 
@@ -39,22 +39,11 @@ module _ (s : List ℕ) (at e : ℕ) (name : Span) (le : at ≤ e) (r : Numbers)
     verdict = rw (← n .numbers, ← n .same .offsets, h)
 
     pub fit-there : v .placed ≡ There
-        → record {
-          answer = indexed.Row (record {
-            «name_start» = at + name .start;
-            «name_length» = name .length;
-            length = v .bases;
-            position = record { 0 = r .position };
-            «line_bases» = r .bases;
-            «line_width» = r .width;
-          });
-          next = record { at = v .next };
-        }
-        ≡ sequenceBy complete at (e - at) name (seqAt s e)
+        → record { answer = indexed.Row (rowFor at d (v .bases) (r .position) (r .bases) (r .width)); next = record { at = v .next } } ≡ sequenceBy complete at (e - at) d (seqAt s e)
     unfolding sequenceBy
     fit-there t = rw (split, verdict, t, same-bases, same-next, n .numbers, split)
 
     pub fit-elsewhere : (p : Position) (o : Offset) → v .placed ≡ Elsewhere p o
-        → record { answer = indexed.Refused (NoIndexFits (o .0) (p .0)); next = record { at = at } } ≡ sequenceBy complete at (e - at) name (seqAt s e)
+        → record { answer = indexed.Refused (NoIndexFits (o .0) (p .0)); next = record { at = at } } ≡ sequenceBy complete at (e - at) d (seqAt s e)
     unfolding sequenceBy
     fit-elsewhere p o t = rw (split, verdict, t)

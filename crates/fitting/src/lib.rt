@@ -4,12 +4,12 @@
 // base that no numbers can lead to (42), and a table without a free row (8).
 pub mod bytes;
 
+use definition::Definition;
 use definition::Parsed;
 use indexer::Indexed;
 use indexer::Indexer;
 use indexer::Step;
 use lines::Line;
-use lines::Span;
 use record::Offset;
 use record::Record;
 use refusal::Refusal;
@@ -125,10 +125,10 @@ fn numbers_at(s: &[u8], at: usize) -> Numbers
     }
 }
 
-// The record at `at`, whose definition line ends at `e` and gives a name, whatever its lines.
-fn fit_lines(s: &[u8], at: usize, e: usize, name: Span) -> Step
-    requires { ⌜ (at < e) × (e ≤ length (now s)) × (name .start ≤ e - at) ⌝ }
-    ensures { λ r. ⌜ r ≡ sequenceBy complete at (e - at) name (seqAt (now (s .entry)) e) ⌝ }
+// The record at `at`, whose definition line ends at `e` and says `d`, whatever its lines.
+fn fit_lines(s: &[u8], at: usize, e: usize, d: Definition) -> Step
+    requires { ⌜ (at < e) × (e ≤ length (now s)) × (d .name .start ≤ e - at) × (d .description .start ≤ e - at) ⌝ }
+    ensures { λ r. ⌜ r ≡ sequenceBy complete at (e - at) d (seqAt (now (s .entry)) e) ⌝ }
 {
     let n = numbers_at(s, e);
     let p = n.position;
@@ -137,14 +137,17 @@ fn fit_lines(s: &[u8], at: usize, e: usize, name: Span) -> Step
     let placed = found.placed;
     match placed {
         Placed::There => {
+            let name = d.name;
+            let text = d.description;
             let y = Record::unnamed(
                 found.bases,
                 Offset(p as u64),
                 n.bases as u64,
                 n.width as u64,
             );
+            let z = y.named((at + name.start) as u64, name.length as u64);
             Step {
-                answer: Indexed::Row(y.named((at + name.start) as u64, name.length as u64)),
+                answer: Indexed::Row(z.described((at + text.start) as u64, text.length as u64)),
                 next: Indexer { at: found.next },
             }
         }
@@ -158,27 +161,30 @@ fn fit_lines(s: &[u8], at: usize, e: usize, name: Span) -> Step
     }
 }
 
-// The record at `at`, whose definition line ends at `e` and gives a name.
-fn fit_sequence(s: &[u8], at: usize, e: usize, name: Span) -> Step
-    requires { ⌜ (at < e) × (e ≤ length (now s)) × (name .start ≤ e - at) ⌝ }
-    ensures { λ r. ⌜ r ≡ sequenceBy complete at (e - at) name (seqAt (now (s .entry)) e) ⌝ }
+// The record at `at`, whose definition line ends at `e` and says `d`.
+fn fit_sequence(s: &[u8], at: usize, e: usize, d: Definition) -> Step
+    requires { ⌜ (at < e) × (e ≤ length (now s)) × (d .name .start ≤ e - at) × (d .description .start ≤ e - at) ⌝ }
+    ensures { λ r. ⌜ r ≡ sequenceBy complete at (e - at) d (seqAt (now (s .entry)) e) ⌝ }
 {
     let first = lines::sequence_line(s, e);
     let found = even_lines(s, e, first);
     match found {
         Even::Lines { bases, next } => {
+            let name = d.name;
+            let text = d.description;
             let x = Record::unnamed(
                 bases as u64,
                 Offset(e as u64),
                 first.bases as u64,
                 first.width as u64,
             );
+            let y = x.named((at + name.start) as u64, name.length as u64);
             Step {
-                answer: Indexed::Row(x.named((at + name.start) as u64, name.length as u64)),
+                answer: Indexed::Row(y.described((at + text.start) as u64, text.length as u64)),
                 next: Indexer { at: next },
             }
         }
-        Even::Not => fit_lines(s, at, e, name),
+        Even::Not => fit_lines(s, at, e, d),
     }
 }
 
@@ -195,10 +201,7 @@ fn fit_at(s: &[u8], at: usize) -> Step
     let e = lines::line_end(s, at);
     let d = definition::parse_line(&s[at..e]);
     match d {
-        Parsed::Named(x) => {
-            let name = x.name;
-            fit_sequence(s, at, e, name)
-        }
+        Parsed::Named(x) => fit_sequence(s, at, e, x),
         Parsed::Bad(f) => Step {
             answer: Indexed::Refused(f.refusal((at + f.place()) as u64, 0)),
             next: Indexer { at },

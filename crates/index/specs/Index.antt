@@ -25,6 +25,8 @@ placedAt at x =
       position = x .position;
       «line_bases» = x .«line_bases»;
       «line_width» = x .«line_width»;
+      «description_start» = x .«description_start»;
+      «description_length» = x .«description_length»;
     }
 
 -- what a line says, which begins at an offset and ends at another

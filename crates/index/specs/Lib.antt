@@ -4,3 +4,4 @@ pub mod Laws
 pub mod First
 pub mod FirstLaws
 pub mod FirstNamed
+pub mod Undescribed

@@ -26,7 +26,7 @@ unfoldable pub fieldsOf : List ℕ → List (List ℕ)
 fieldsOf [] = []
 fieldsOf (b ∷ l) = cutAt 4 (b ∷ l)
 
--- the record of a name of n bytes at the front of its line, and of the four numbers
+-- the record of a name of n bytes at the front of its line, and of the four numbers; a line has no description
 abbrev pub recordOf : ℕ → List ℕ → Record
 recordOf n vs = record {
   «name_start» = 0;
@@ -35,6 +35,8 @@ recordOf n vs = record {
   position = record { 0 = getD vs 1 0 };
   «line_bases» = getD vs 2 0;
   «line_width» = getD vs 3 0;
+  «description_start» = 0;
+  «description_length» = 0;
 }
 
 abbrev pub entryRead : ℕ → Numbers → LineRead

@@ -108,12 +108,13 @@ line-any line other l e h = go (contentSays line (contentOf l)) refl h
     go (Refused r) c k = let z : _≡_ {A = ℕ} 0 1 = cc in absurd (omega arith)
     go (Row x) c k = rw (content-any line other (contentOf l) x c) k
 
--- its record: the name is the front of the line, and the numbers can stand in a line
+-- its record: the name is the front of the line, the numbers can stand in a line, and there is no description
 pub record LineSound (l : List ℕ) (x : Record) : Type 0 where
   pub start : x .«name_start» ≡ 0
   pub name : take (x .«name_length») l ≡ nameOf l
   pub inside : x .«name_length» ≤ length l
   pub lined : Lined x
+  pub no-description : (x .«description_start» ≡ 0) × (x .«description_length» ≡ 0)
 
 name-front : (l name : List ℕ) (fs : List (List ℕ)) → fieldsOf (contentOf l) ≡ name ∷ fs → (take (length name) l ≡ name) × (length name ≤ length l)
 name-front l name fs e =
@@ -149,4 +150,5 @@ line-sound line l e h =
         fits-bases = a 2 (omega arith) .0;
         fits-width = a 3 (omega arith) .0;
       };
+      no-description = (refl, refl);
     })

@@ -32,7 +32,7 @@ plain-row l e t n r out h p some used row room =
     let k = line-sound 1 l (w .entry) (w .says) in
     let text : lineOf (take (x .«name_length») l) x ≡ l = plain-writes 1 l (w .entry) (w .says) (b .1) in
     let whole : Lacks splits (take (x .«name_length») l) = unsplit l (w .entry) (w .says) (b .1) (b .0) in
-    let named : namedAt t n r (length l) ≡ held.Row x = row-named t n r x some used (row ∙ w .same) (length l) (k .lined) (omega (arith, k .start, k .inside)) in
+    let named : namedAt t n r (length l) ≡ held.Row x = row-named t n r x some used (row ∙ w .same) (length l) (k .lined) (omega (arith, k .start, k .inside)) (omega (arith, k .no-description)) in
     rw (w .small, named, k .start, le-ltb (firstWhere splits (take (x .«name_length») l)) (length (take (x .«name_length») l)) (omega (arith, whole)), text, le-ltb _ _ room)
 
 -- the same, where the record was stored there

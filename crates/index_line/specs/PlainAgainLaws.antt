@@ -63,6 +63,6 @@ module _ (l : List ℕ) (e : Entry) (h : indexLineSays 1 l ≡ read.Row e) where
 
 -- a record that is in a row in use is held there
 module _ (t : List ℕ) (n r : ℕ) (x : Record) (some : n ≤ rowCount t) (used : r < n) (row : rowAt t r ≡ x) (bytes : ℕ) where
-  pub row-named : Lined x → x .«name_start» + x .«name_length» ≤ bytes → namedAt t n r bytes ≡ held.Row x
-  row-named lined inside =
-      named-row t n r bytes x (held-row t n r some used (rw row (lined .some-bases)) (rw row (lined .some-width)) ∙ ap held.Row row) ∙ sym (name-inside r x bytes inside)
+  pub row-named : Lined x → x .«name_start» + x .«name_length» ≤ bytes → x .«description_start» + x .«description_length» ≤ bytes → namedAt t n r bytes ≡ held.Row x
+  row-named lined inside described =
+      named-row t n r bytes x (held-row t n r some used (rw row (lined .some-bases)) (rw row (lined .some-width)) ∙ ap held.Row row) ∙ sym (name-inside r x bytes inside described)

@@ -11,7 +11,7 @@ use native.Mathlib.Omega.{arith}
 use native.Mathlib.Nat.{add-zero}
 use Rattle.refusal.specs.declared.Refusal.the-variants.{NoBases, LineBases, LineWidth, TableFull}
 use Rattle.lines.specs.declared.Line.{Line}
-use Rattle.lines.specs.declared.Span.{Span}
+use Rattle.definition.specs.declared.Definition.{Definition}
 use Rattle.lines.specs.Lines.{lines, basesOf, begins, seqOf, none, sumBases, sumWidths}
 use Rattle.lines.specs.Groups.{groups}
 use Rattle.lines.specs.GroupLaws.{afterSeq, groups-cut}
@@ -27,18 +27,18 @@ use Rattle.table.specs.Laws.{held-nothing, held-none, held-first}
 use Rattle.indexer.specs.declared.Indexed.the-variants as indexed
 use Rattle.indexer.specs.declared.Step.{Step}
 use Rattle.indexer.specs.declared.Rest.{Rest}
-use Rattle.indexer.specs.Rule.{definedBy, stepped, groupsBy, fileBy}
+use Rattle.indexer.specs.Rule.{rowFor, definedBy, stepped, groupsBy, fileBy}
 use Rattle.indexer.specs.Index.{lineOf, fitsLast, restOf, ported, sequenceSays, restSays}
 use Rattle.indexer.specs.File.{fileOf, fileAt}
 use Rattle.indexer.specs.Laws.{rest-done, rest-bases, rest-width, rest-on, answerAs, judge-none, judge-some}
 
 -- ---- the machine
 
--- a record whose definition line has been read: where it begins, its bytes, and the name's place in it
+-- a record whose definition line has been read: where it begins, its bytes, and what it says
 pub record Opened : Type 0 where
   pub at : ℕ
   pub width : ℕ
-  pub name : Span
+  pub said : Definition
 
 -- what is awaited: a definition at an offset; the first sequence line; a further one, with the first, the bases so far and the offset; nothing
 pub data Phase : Type 0 where
@@ -53,18 +53,11 @@ pub data Out : Type 0 where
   emits : Record → ℕ → Out
 
 abbrev pub rowIn : Opened → Line → ℕ → Record
-rowIn d first m = record {
-  «name_start» = d .at + d .name .start;
-  «name_length» = d .name .length;
-  length = m;
-  position = record { 0 = d .at + d .width };
-  «line_bases» = first .bases;
-  «line_width» = first .width;
-}
+rowIn d first m = rowFor (d .at) (d .said) m (d .at + d .width) (first .bases) (first .width)
 
 -- a definition line of w bytes
 unfoldable pub definitionOut : ℕ → ℕ → Bool → Parsed → Out
-definitionOut at w last (Named d) = cond last (keeps (halted (Refused (NoBases (at + w))))) (keeps (wants-first (record { at = at; width = w; name = d .name })))
+definitionOut at w last (Named d) = cond last (keeps (halted (Refused (NoBases (at + w))))) (keeps (wants-first (record { at = at; width = w; said = d })))
 definitionOut at w last (Bad f) = keeps (halted (Refused (refusalAt f at)))
 
 -- a first sequence line
@@ -183,10 +176,10 @@ module _ (all : ℕ) where
   Claim : List (List ℕ) → Phase → Type 0
   Claim ls (wants-definition at) = (f : ℕ) (rs : List Record) → found (run (state (wants-definition at) f rs) ls) ≡ plus rs (heldIn f all (fileOf (groups ls) at))
   Claim ls (wants-first d) = (f : ℕ) (rs : List Record) → none (seqOf ls) ≡ false
-      → found (run (state (wants-first d) f rs) ls) ≡ plus rs (heldIn f all (stepped (sequenceSays (d .at) (d .width) (d .name) (seqOf ls)) (fileOf (groups (afterSeq ls)))))
+      → found (run (state (wants-first d) f rs) ls) ≡ plus rs (heldIn f all (stepped (sequenceSays (d .at) (d .width) (d .said) (seqOf ls)) (fileOf (groups (afterSeq ls)))))
   Claim ls (wants-line d x m z) = (f : ℕ) (rs : List Record) → none (seqOf ls) ≡ false
       → found (run (state (wants-line d x m z) f rs) ls)
-      ≡ plus rs (heldIn f all (stepped (answerAs (d .at) (d .name) (d .at + d .width) x (restSays x m z (seqOf ls))) (fileOf (groups (afterSeq ls)))))
+      ≡ plus rs (heldIn f all (stepped (answerAs (d .at) (d .said) (d .at + d .width) x (restSays x m z (seqOf ls))) (fileOf (groups (afterSeq ls)))))
   Claim ls (halted s) = Unit {0}
 
   -- a refusal, and a row
@@ -206,9 +199,9 @@ module _ (all : ℕ) where
       ∙ ap (plus rs) (sym (held-first k all x (fileOf (groups ls) z)))
 
   one-line : (d : Opened) (l : List ℕ) → (length (basesOf l) ≡ 0 → ⊥)
-      → record { answer = indexed.Row (rowIn d (lineOf l) (length (basesOf l))); next = record { at = d .at + d .width + length l } } ≡ sequenceSays (d .at) (d .width) (d .name) (l ∷ [])
+      → record { answer = indexed.Row (rowIn d (lineOf l) (length (basesOf l))); next = record { at = d .at + d .width + length l } } ≡ sequenceSays (d .at) (d .width) (d .said) (l ∷ [])
   unfolding restSays restOf sumBases sumWidths
-  one-line d l h = rw (add-zero (length (basesOf l)), add-zero (d .at + d .width + length l)) at (judge-some (d .at) (d .width) (d .name) (l ∷ []) h)
+  one-line d l h = rw (add-zero (length (basesOf l)), add-zero (d .at + d .width + length l)) at (judge-some (d .at) (d .width) (d .said) (l ∷ []) h)
 
   module _ (l : List ℕ) (ls : List (List ℕ)) (ih : (c : Phase) → Claim ls c) where
     definition-step : (at : ℕ) → Claim (l ∷ ls) (wants-definition at)
@@ -219,8 +212,8 @@ module _ (all : ℕ) where
             → found (run (applied all f rs (definitionOut at (length l) t p)) ls) ≡ plus rs (heldIn f all (stepped (definedBy ported at (length l) (seqOf ls) p) (fileOf (groups (afterSeq ls)))))
         go (Named d) true e =
             refused-step (Refused (NoBases (at + length l))) f rs ls
-            ∙ same-step rs f (fileOf (groups (afterSeq ls))) (rw (add-zero (at + length l)) at (judge-none at (length l) (d .name) [] refl) ∙ ap (sequenceSays at (length l) (d .name)) (sym (none-seq ls e)))
-        go (Named d) false e = ih (wants-first (record { at = at; width = length l; name = d .name })) f rs e
+            ∙ same-step rs f (fileOf (groups (afterSeq ls))) (rw (add-zero (at + length l)) at (judge-none at (length l) d [] refl) ∙ ap (sequenceSays at (length l) d) (sym (none-seq ls e)))
+        go (Named d) false e = ih (wants-first (record { at = at; width = length l; said = d })) f rs e
         go (Bad x) t e = refused-step (Refused (refusalAt x at)) f rs ls
 
     first-step : (d : Opened) → Claim (l ∷ ls) (wants-first d)
@@ -230,17 +223,17 @@ module _ (all : ℕ) where
         go : (u : Bool) → eqb (length (basesOf l)) 0 ≡ u → (t : Bool) → none (seqOf ls) ≡ t
             → found (run (applied all f rs (cond u (keeps (halted (Refused (NoBases (d .at + d .width + length l)))))
             (cond t (emits (rowIn d (lineOf l) (length (basesOf l))) (d .at + d .width + length l)) (keeps (wants-line d (lineOf l) (length (basesOf l)) (d .at + d .width + length l)))))) ls)
-            ≡ plus rs (heldIn f all (stepped (sequenceSays (d .at) (d .width) (d .name) (l ∷ seqOf ls)) (fileOf (groups (afterSeq ls)))))
+            ≡ plus rs (heldIn f all (stepped (sequenceSays (d .at) (d .width) (d .said) (l ∷ seqOf ls)) (fileOf (groups (afterSeq ls)))))
         go true u t e =
             refused-step (Refused (NoBases (d .at + d .width + length l))) f rs ls
-            ∙ same-step rs f (fileOf (groups (afterSeq ls))) (judge-none (d .at) (d .width) (d .name) (l ∷ seqOf ls) (eqb-true _ _ u))
+            ∙ same-step rs f (fileOf (groups (afterSeq ls))) (judge-none (d .at) (d .width) (d .said) (l ∷ seqOf ls) (eqb-true _ _ u))
         go false u true e =
             rw (none-after ls e, none-seq ls e)
             (row-step ls (d .at + d .width + length l) (ih (wants-definition (d .at + d .width + length l))) f rs (rowIn d (lineOf l) (length (basesOf l)))
             ∙ same-step rs f (fileOf (groups ls)) (one-line d l (eqb-false _ _ u)))
         go false u false e =
             ih (wants-line d (lineOf l) (length (basesOf l)) (d .at + d .width + length l)) f rs e
-            ∙ same-step rs f (fileOf (groups (afterSeq ls))) (judge-some (d .at) (d .width) (d .name) (l ∷ seqOf ls) (eqb-false _ _ u))
+            ∙ same-step rs f (fileOf (groups (afterSeq ls))) (judge-some (d .at) (d .width) (d .said) (l ∷ seqOf ls) (eqb-false _ _ u))
 
     line-step : (d : Opened) (x : Line) (m z : ℕ) → Claim (l ∷ ls) (wants-line d x m z)
     unfolding Claim judgeAll lineOut
@@ -248,19 +241,19 @@ module _ (all : ℕ) where
         (go (fitsLast (none (seqOf ls)) (lineOf l) x) refl (eqb (length (basesOf l)) (x .bases)) refl (eqb (length l) (x .width)) refl)
       where
         said : {v : Rest} → v ≡ restSays x m z (l ∷ seqOf ls)
-            → plus rs (heldIn f all (stepped (answerAs (d .at) (d .name) (d .at + d .width) x v) (fileOf (groups (afterSeq ls)))))
-            ≡ plus rs (heldIn f all (stepped (answerAs (d .at) (d .name) (d .at + d .width) x (restSays x m z (l ∷ seqOf ls))) (fileOf (groups (afterSeq ls)))))
-        said e = same-step rs f (fileOf (groups (afterSeq ls))) (ap (answerAs (d .at) (d .name) (d .at + d .width) x) e)
+            → plus rs (heldIn f all (stepped (answerAs (d .at) (d .said) (d .at + d .width) x v) (fileOf (groups (afterSeq ls)))))
+            ≡ plus rs (heldIn f all (stepped (answerAs (d .at) (d .said) (d .at + d .width) x (restSays x m z (l ∷ seqOf ls))) (fileOf (groups (afterSeq ls)))))
+        said e = same-step rs f (fileOf (groups (afterSeq ls))) (ap (answerAs (d .at) (d .said) (d .at + d .width) x) e)
 
         go : (u : Bool) → fitsLast (none (seqOf ls)) (lineOf l) x ≡ u → (v : Bool) → eqb (length (basesOf l)) (x .bases) ≡ v → (w : Bool) → eqb (length l) (x .width) ≡ w
             → found (run (applied all f rs (cond u (emits (rowIn d x (m + length (basesOf l))) (z + length l))
             (cond v (cond w (keeps (wants-line d x (m + length (basesOf l)) (z + length l))) (keeps (halted (Refused (LineWidth (length l) (x .width))))))
             (keeps (halted (Refused (LineBases (length (basesOf l)) (x .bases)))))))) ls)
-            ≡ plus rs (heldIn f all (stepped (answerAs (d .at) (d .name) (d .at + d .width) x (restSays x m z (l ∷ seqOf ls))) (fileOf (groups (afterSeq ls)))))
+            ≡ plus rs (heldIn f all (stepped (answerAs (d .at) (d .said) (d .at + d .width) x (restSays x m z (l ∷ seqOf ls))) (fileOf (groups (afterSeq ls)))))
         go true p v q w r =
             rw (none-after ls (fits-last _ _ _ p))
             (row-step ls (z + length l) (ih (wants-definition (z + length l))) f rs (rowIn d x (m + length (basesOf l)))
-            ∙ same-step rs f (fileOf (groups ls)) (ap (answerAs (d .at) (d .name) (d .at + d .width) x) (rest-done x m z (l ∷ seqOf ls) p)))
+            ∙ same-step rs f (fileOf (groups ls)) (ap (answerAs (d .at) (d .said) (d .at + d .width) x) (rest-done x m z (l ∷ seqOf ls) p)))
         go false p false q w r = refused-step (Refused (LineBases (length (basesOf l)) (x .bases))) f rs ls ∙ said (rest-bases x m z (l ∷ seqOf ls) p (eqb-false _ _ q))
         go false p true q false r = refused-step (Refused (LineWidth (length l) (x .width))) f rs ls ∙ said (rest-width x m z (l ∷ seqOf ls) p (eqb-true _ _ q) (eqb-false _ _ r))
         go false p true q true r =

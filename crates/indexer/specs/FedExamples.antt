@@ -8,13 +8,13 @@ use Rattle.ascii.specs.Text.{text}
 use Rattle.refusal.specs.declared.Refusal.the-variants.{NoBases, TableFull}
 use Rattle.lines.specs.Lines.{lines, chop, ends}
 use Rattle.lines.specs.Feeding.{FedSum, absorbSum, absorbSums, feedSum, feedSums, finishSum}
-use Rattle.definition.specs.Definition.{isSpace, run}
+use Rattle.definition.specs.Definition.{isSpace, run, keep}
 use Rattle.table.specs.Rows.{wordsOf, words}
 use Rattle.table.specs.declared.Stop.{Stop}
 use Rattle.table.specs.declared.Stop.the-variants.{Ended, Refused}
 use Rattle.indexer.specs.Index.{fitsLast}
 use Rattle.indexer.specs.ByLines.{definitionOut, firstOut, lineOut, State, start, found}
-use Rattle.indexer.specs.LineSums.{Sum, sumOf, grow, sumSays, stepSum, sums}
+use Rattle.indexer.specs.LineSums.{Sum, skip, sumOf, grow, sumSays, stepSum, sums}
 
 record Answer : Type 0 where
   before : List ℕ
@@ -42,12 +42,12 @@ files =
 
 unfoldable answers : List Answer
 answers =
-    record { before = []; numbers = 1 ∷ 1 ∷ 6 ∷ 3 ∷ 4 ∷ 6 ∷ []; stop = Ended }
-    ∷ record { before = 1 ∷ 2 ∷ 1 ∷ 6 ∷ 1 ∷ 2 ∷ []; numbers = 1 ∷ 2 ∷ 1 ∷ 6 ∷ 1 ∷ 2 ∷ []; stop = Refused (TableFull 1) }
+    record { before = []; numbers = 1 ∷ 1 ∷ 6 ∷ 3 ∷ 4 ∷ 6 ∷ 0 ∷ 0 ∷ []; stop = Ended }
+    ∷ record { before = 1 ∷ 2 ∷ 1 ∷ 6 ∷ 1 ∷ 2 ∷ 4 ∷ 1 ∷ []; numbers = 1 ∷ 2 ∷ 1 ∷ 6 ∷ 1 ∷ 2 ∷ 4 ∷ 1 ∷ []; stop = Refused (TableFull 1) }
     ∷ record { before = []; numbers = []; stop = Refused (NoBases 3) }
-    ∷ record { before = 1 ∷ 1 ∷ 1 ∷ 3 ∷ 1 ∷ 2 ∷ []; numbers = 1 ∷ 1 ∷ 1 ∷ 3 ∷ 1 ∷ 2 ∷ []; stop = Refused (TableFull 1) }
+    ∷ record { before = 1 ∷ 1 ∷ 1 ∷ 3 ∷ 1 ∷ 2 ∷ 0 ∷ 0 ∷ []; numbers = 1 ∷ 1 ∷ 1 ∷ 3 ∷ 1 ∷ 2 ∷ 0 ∷ 0 ∷ []; stop = Refused (TableFull 1) }
     ∷ []
 
 fed-marked : map (answerOf 1) files ≡ answers
-unfolding files answers lines chop ends absorbSum absorbSums feedSum feedSums finishSum isSpace run wordsOf words fitsLast definitionOut firstOut lineOut sumOf grow sumSays stepSum
+unfolding files answers lines chop ends absorbSum absorbSums feedSum feedSums finishSum isSpace run keep skip wordsOf words fitsLast definitionOut firstOut lineOut sumOf grow sumSays stepSum
 fed-marked = refl

@@ -7,7 +7,7 @@ use lib.Dec.{eqb, leb}
 use Rattle.refusal.specs.Numbers.{overLimit}
 use Rattle.refusal.specs.declared.Refusal.the-variants.{TooLong, NoBases, LineBases, LineWidth}
 use Rattle.lines.specs.declared.Line.{Line}
-use Rattle.lines.specs.declared.Span.{Span}
+use Rattle.definition.specs.declared.Definition.{Definition}
 use Rattle.lines.specs.Lines.{basesOf, firstLine, none, sumBases, sumWidths}
 use Rattle.record.specs.declared.Record.{Record}
 use Rattle.indexer.specs.declared.Indexer.{Indexer}
@@ -15,7 +15,7 @@ use Rattle.indexer.specs.declared.Indexed.the-variants as indexed
 use Rattle.indexer.specs.declared.Step.{Step}
 use Rattle.indexer.specs.declared.Rest.{Rest}
 use Rattle.indexer.specs.declared.Rest.the-variants as rest
-use Rattle.indexer.specs.Rule.{Verdict, good, bad, SequenceRule, sequenceBy, recordBy}
+use Rattle.indexer.specs.Rule.{Verdict, good, bad, SequenceRule, rowFor, sequenceBy, recordBy}
 
 -- width and bases of a line
 abbrev pub lineOf : List ℕ → Line
@@ -39,24 +39,16 @@ unfoldable pub judge : ℕ → List (List ℕ) → Verdict
 judge at [] = bad (NoBases at)
 judge at (l ∷ ls) = cond (eqb (lineOf l .bases) 0) (bad (NoBases (at + length l))) (restOf (lineOf l) ls)
 
--- the row of a record, by where its definition begins, the bytes of that line, the name's place in it, and the sequence lines
-abbrev pub rowOf : ℕ → ℕ → Span → List (List ℕ) → Record
-rowOf at n name ls =
-    record {
-      «name_start» = at + name .start;
-      «name_length» = name .length;
-      length = sumBases ls;
-      position = record { 0 = at + n };
-      «line_bases» = firstLine ls .bases;
-      «line_width» = firstLine ls .width;
-    }
+-- the row of a record, by where its definition begins, the bytes of that line, what it says, and the sequence lines
+abbrev pub rowOf : ℕ → ℕ → Definition → List (List ℕ) → Record
+rowOf at n d ls = rowFor at d (sumBases ls) (at + n) (firstLine ls .bases) (firstLine ls .width)
 
 -- the rule
 abbrev pub ported : SequenceRule
 ported = record { judge = judge; row = rowOf }
 
 -- a record whose definition line has been read
-abbrev pub sequenceSays : ℕ → ℕ → Span → List (List ℕ) → Step
+abbrev pub sequenceSays : ℕ → ℕ → Definition → List (List ℕ) → Step
 sequenceSays = sequenceBy ported
 
 -- the record at an offset of a file

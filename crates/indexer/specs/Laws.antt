@@ -12,11 +12,11 @@ use native.Mathlib.Nat.{add-zero, add-assoc, add-mul, one-mul, zero-mul, mul-le-
 use Rattle.refusal.specs.declared.Refusal.{Refusal}
 use Rattle.refusal.specs.declared.Refusal.the-variants.{NoBases, LineBases, LineWidth}
 use Rattle.lines.specs.declared.Line.{Line}
-use Rattle.lines.specs.declared.Span.{Span}
+use Rattle.definition.specs.declared.Definition.{Definition}
 use Rattle.lines.specs.Lines.{basesOf, seqAt, firstLine, tailOf, none, sumBases, sumWidths}
 use Rattle.lines.specs.Laws.{seqAt-next}
 use Rattle.lines.specs.Alike.{LineLike, firstLike, alike, alike-passes, alike-within, alike-ends, unlike-last}
-use Rattle.indexer.specs.Rule.{Verdict, good, bad, judgedBy, sequenceBy}
+use Rattle.indexer.specs.Rule.{Verdict, good, bad, rowFor, judgedBy, sequenceBy}
 use Rattle.indexer.specs.Index.{fitsLast, restOf, judge, ported, sequenceSays, restAs, restSays}
 use Rattle.indexer.specs.declared.Indexed.{Indexed}
 use Rattle.indexer.specs.declared.Indexed.the-variants as indexed
@@ -153,47 +153,36 @@ module _ (s : List ℕ) (at : ℕ) (first : Line) (h : at ≤ length s) where
 -- ---- a record from its first line on
 
 -- what the rest says, as the answer on the whole record
-abbrev pub answerAs : ℕ → Span → ℕ → Line → Rest → Step
-answerAs at name p x (rest.Done m e) =
-    record {
-      answer = indexed.Row (record {
-        «name_start» = at + name .start;
-        «name_length» = name .length;
-        length = m;
-        position = record { 0 = p };
-        «line_bases» = x .bases;
-        «line_width» = x .width;
-      });
-      next = record { at = e };
-    }
-answerAs at name p x (rest.Refused r) = record { answer = indexed.Refused r; next = record { at = at } }
+abbrev pub answerAs : ℕ → Definition → ℕ → Line → Rest → Step
+answerAs at d p x (rest.Done m e) = record { answer = indexed.Row (rowFor at d m p (x .bases) (x .width)); next = record { at = e } }
+answerAs at d p x (rest.Refused r) = record { answer = indexed.Refused r; next = record { at = at } }
 
-module _ (at n : ℕ) (name : Span) where
+module _ (at n : ℕ) (d : Definition) where
   pub judge-none : (ls : List (List ℕ)) → firstLine ls .bases ≡ 0
-      → record { answer = indexed.Refused (NoBases (at + n + firstLine ls .width)); next = record { at = at } } ≡ sequenceSays at n name ls
+      → record { answer = indexed.Refused (NoBases (at + n + firstLine ls .width)); next = record { at = at } } ≡ sequenceSays at n d ls
   unfolding judge sequenceBy
   judge-none [] h = rw (add-zero (at + n))
   judge-none (l ∷ ls) h = rw (eq-eqb (length (basesOf l)) 0 h)
 
   pub judge-some : (ls : List (List ℕ)) → (firstLine ls .bases ≡ 0 → ⊥)
-      → answerAs at name (at + n) (firstLine ls) (restSays (firstLine ls) (firstLine ls .bases) (at + n + firstLine ls .width) (tailOf ls)) ≡ sequenceSays at n name ls
+      → answerAs at d (at + n) (firstLine ls) (restSays (firstLine ls) (firstLine ls .bases) (at + n + firstLine ls .width) (tailOf ls)) ≡ sequenceSays at n d ls
   unfolding judge sequenceBy restSays sumBases sumWidths
   judge-some [] h = absurd (h refl)
   judge-some (l ∷ ls) h = rw (ne-eqb (length (basesOf l)) 0 h) (go (restOf (firstLine (l ∷ ls)) ls))
     where
-      go : (v : Verdict) → answerAs at name (at + n) (firstLine (l ∷ ls)) (restAs (length (basesOf l)) (at + n + length l) ls v) ≡ judgedBy ported at n name (l ∷ ls) v
+      go : (v : Verdict) → answerAs at d (at + n) (firstLine (l ∷ ls)) (restAs (length (basesOf l)) (at + n + length l) ls v) ≡ judgedBy ported at n d (l ∷ ls) v
       go good = rw (add-assoc (at + n) (length l) (sumWidths ls))
       go (bad r) = refl
 
 -- the same, by what the code has at hand: the first line x at e
-module _ (s : List ℕ) (at e : ℕ) (name : Span) (le : at ≤ e) (h : e ≤ length s) (x : Line) (hx : x ≡ firstLine (seqAt s e)) where
+module _ (s : List ℕ) (at e : ℕ) (d : Definition) (le : at ≤ e) (h : e ≤ length s) (x : Line) (hx : x ≡ firstLine (seqAt s e)) where
   split : at + (e - at) ≡ e
   split = omega arith
 
-  pub record-none : x .bases ≡ 0 → record { answer = indexed.Refused (NoBases (e + x .width)); next = record { at = at } } ≡ sequenceSays at (e - at) name (seqAt s e)
-  record-none z = rw hx (rw split at (judge-none at (e - at) name (seqAt s e) (rw hx at z)))
+  pub record-none : x .bases ≡ 0 → record { answer = indexed.Refused (NoBases (e + x .width)); next = record { at = at } } ≡ sequenceSays at (e - at) d (seqAt s e)
+  record-none z = rw hx (rw split at (judge-none at (e - at) d (seqAt s e) (rw hx at z)))
 
   pub record-some : (x .bases ≡ 0 → ⊥) → (r v : Rest) → r ≡ restSays x (x .bases) (e + x .width) (seqAt s (e + x .width)) → r ≡ v
-      → answerAs at name e x v ≡ sequenceSays at (e - at) name (seqAt s e)
+      → answerAs at d e x v ≡ sequenceSays at (e - at) d (seqAt s e)
   record-some z r v hr hv =
-      rw (← hv, hr, hx, seqAt-next s e h) (rw split at (judge-some at (e - at) name (seqAt s e) (rw hx at z)))
+      rw (← hv, hr, hx, seqAt-next s e h) (rw split at (judge-some at (e - at) d (seqAt s e) (rw hx at z)))

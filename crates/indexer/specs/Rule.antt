@@ -7,13 +7,14 @@ use lib.ListN.{length, drop}
 use Rattle.refusal.specs.Numbers.{overLimit}
 use Rattle.refusal.specs.declared.Refusal.{Refusal}
 use Rattle.refusal.specs.declared.Refusal.the-variants.{TooLong}
-use Rattle.lines.specs.declared.Span.{Span}
 use Rattle.lines.specs.Lines.{lines, seqOf, sumWidths}
 use Rattle.lines.specs.Groups.{Group, groups}
+use Rattle.definition.specs.declared.Definition.{Definition}
 use Rattle.definition.specs.declared.Parsed.{Parsed}
 use Rattle.definition.specs.declared.Parsed.the-variants.{Named, Bad}
 use Rattle.definition.specs.Definition.{definitionSays, refusalAt}
 use Rattle.record.specs.declared.Record.{Record}
+use Rattle.record.specs.Description.{describedAt}
 use Rattle.table.specs.Fill.{Found, nothing, withFirst, heldIn}
 use Rattle.table.specs.declared.Stop.the-variants.{Ended, Refused}
 use Rattle.indexer.specs.declared.Indexed.{Indexed}
@@ -28,22 +29,37 @@ pub data Verdict : Type 0 where
 pub record SequenceRule : Type 0 where
   -- the verdict on sequence lines, which begin at an offset
   pub judge : ℕ → List (List ℕ) → Verdict
-  -- the row of a record, by where its definition begins, the bytes of that line, the name's place in it, and the sequence lines
-  pub row : ℕ → ℕ → Span → List (List ℕ) → Record
+  -- the row of a record, by where its definition begins, the bytes of that line, what it says, and the sequence lines
+  pub row : ℕ → ℕ → Definition → List (List ℕ) → Record
+
+-- the row of a record whose definition begins at an offset, by what that says, the length, the position, the line bases and the line width: name
+-- and description are spans of the file
+abbrev pub rowFor : ℕ → Definition → ℕ → ℕ → ℕ → ℕ → Record
+rowFor at d n p b w =
+    record {
+      «name_start» = at + d .name .start;
+      «name_length» = d .name .length;
+      length = n;
+      position = record { 0 = p };
+      «line_bases» = b;
+      «line_width» = w;
+      «description_start» = describedAt (at + d .description .start) (d .description .length);
+      «description_length» = d .description .length;
+    }
 
 -- ---- one record
 
 -- an answer, with the place behind a record, or the place where it was
-abbrev pub judgedBy : SequenceRule → ℕ → ℕ → Span → List (List ℕ) → Verdict → Step
-judgedBy rule at n name ls good = record { answer = indexed.Row (rule .row at n name ls); next = record { at = at + n + sumWidths ls } }
-judgedBy rule at n name ls (bad x) = record { answer = indexed.Refused x; next = record { at = at } }
+abbrev pub judgedBy : SequenceRule → ℕ → ℕ → Definition → List (List ℕ) → Verdict → Step
+judgedBy rule at n d ls good = record { answer = indexed.Row (rule .row at n d ls); next = record { at = at + n + sumWidths ls } }
+judgedBy rule at n d ls (bad x) = record { answer = indexed.Refused x; next = record { at = at } }
 
 -- a record whose definition line has been read
-unfoldable pub sequenceBy : SequenceRule → ℕ → ℕ → Span → List (List ℕ) → Step
-sequenceBy rule at n name ls = judgedBy rule at n name ls (rule .judge (at + n) ls)
+unfoldable pub sequenceBy : SequenceRule → ℕ → ℕ → Definition → List (List ℕ) → Step
+sequenceBy rule at n d ls = judgedBy rule at n d ls (rule .judge (at + n) ls)
 
 abbrev pub definedBy : SequenceRule → ℕ → ℕ → List (List ℕ) → Parsed → Step
-definedBy rule at n ls (Named d) = sequenceBy rule at n (d .name) ls
+definedBy rule at n ls (Named d) = sequenceBy rule at n d ls
 definedBy rule at n ls (Bad f) = record { answer = indexed.Refused (refusalAt f at); next = record { at = at } }
 
 -- the record whose definition is the first of some lines, which begin at an offset

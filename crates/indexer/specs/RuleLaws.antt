@@ -8,7 +8,6 @@ use lib.Dec.{ltb}
 use borrow.Author.Tests.{ltb-true, ltb-false}
 use native.Mathlib.Omega.{arith}
 use Rattle.refusal.specs.declared.Refusal.{Refusal}
-use Rattle.lines.specs.declared.Span.{Span}
 use Rattle.lines.specs.Lines.{part, lineEnd, lines, seqOf, seqAt, sumWidths}
 use Rattle.lines.specs.Laws.{linesAt-cut, lineEnd-le, lineEnd-gt, part-length}
 use Rattle.lines.specs.Groups.{groups}
@@ -46,7 +45,7 @@ module _ (rule : SequenceRule) where
   unfolding sequenceBy
   step-same f g at n q h (Named d) = go (rule .judge (at + n) q)
     where
-      go : (v : Verdict) → stepped (judgedBy rule at n (d .name) q v) f ≡ stepped (judgedBy rule at n (d .name) q v) g
+      go : (v : Verdict) → stepped (judgedBy rule at n d q v) f ≡ stepped (judgedBy rule at n d q v) g
       go good = ap (withFirst _) h
       go (bad x) = refl
   step-same f g at n q h (Bad e) = refl
@@ -72,7 +71,7 @@ module _ (rule : SequenceRule) where
   unfolding sequenceBy
   defined-next at n q (Named d) x h = go (rule .judge (at + n) q) h
     where
-      go : (v : Verdict) → judgedBy rule at n (d .name) q v .answer ≡ indexed.Row x → judgedBy rule at n (d .name) q v .next .at ≡ at + n + sumWidths q
+      go : (v : Verdict) → judgedBy rule at n d q v .answer ≡ indexed.Row x → judgedBy rule at n d q v .next .at ≡ at + n + sumWidths q
       go good e = refl
       go (bad y) e = let z : _≡_ {A = ℕ} 0 1 = cc in absurd (omega arith)
   defined-next at n q (Bad f) x h = let z : _≡_ {A = ℕ} 0 1 = cc in absurd (omega arith)

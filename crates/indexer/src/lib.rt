@@ -6,9 +6,9 @@ ghost use Prim.Native.Nat.{_+_, _-_, _≤_, _<_};
 ghost use lib.ListN.{length};
 ghost use Rattle.lines.specs.Lines.{seqAt};
 ghost use Rattle.indexer.specs.Index.{fitsLast, restSays, sequenceSays, recordAt, recordRead};
+use definition::Definition;
 use definition::Parsed;
 use lines::Line;
-use lines::Span;
 use record::Offset;
 use record::Record;
 use refusal::Refusal;
@@ -77,10 +77,10 @@ fn index_rest(s: &[u8], at: usize, first: Line) -> Rest
     })
 }
 
-// The record at `at`, whose definition line ends at `e` and gives a name.
-fn index_sequence(s: &[u8], at: usize, e: usize, name: Span) -> Step
-    requires { ⌜ (at < e) × (e ≤ length (now s)) × (name .start ≤ e - at) ⌝ }
-    ensures { λ r. ⌜ r ≡ sequenceSays at (e - at) name (seqAt (now (s .entry)) e) ⌝ }
+// The record at `at`, whose definition line ends at `e` and says `d`.
+fn index_sequence(s: &[u8], at: usize, e: usize, d: Definition) -> Step
+    requires { ⌜ (at < e) × (e ≤ length (now s)) × (d .name .start ≤ e - at) × (d .description .start ≤ e - at) ⌝ }
+    ensures { λ r. ⌜ r ≡ sequenceSays at (e - at) d (seqAt (now (s .entry)) e) ⌝ }
 {
     let first = lines::sequence_line(s, e);
     let next = e + first.width;
@@ -95,14 +95,17 @@ fn index_sequence(s: &[u8], at: usize, e: usize, name: Span) -> Step
     let r = index_rest(s, next, first);
     match r {
         Rest::Done { length, next } => {
+            let name = d.name;
+            let text = d.description;
             let x = Record::unnamed(
                 length as u64,
                 Offset(e as u64),
                 first.bases as u64,
                 first.width as u64,
             );
+            let y = x.named((at + name.start) as u64, name.length as u64);
             Step {
-                answer: Indexed::Row(x.named((at + name.start) as u64, name.length as u64)),
+                answer: Indexed::Row(y.described((at + text.start) as u64, text.length as u64)),
                 next: Indexer { at: next },
             }
         }
@@ -126,10 +129,7 @@ pub fn index_at(s: &[u8], at: usize) -> Step
     let e = lines::line_end(s, at);
     let d = definition::parse_line(&s[at..e]);
     match d {
-        Parsed::Named(x) => {
-            let name = x.name;
-            index_sequence(s, at, e, name)
-        }
+        Parsed::Named(x) => index_sequence(s, at, e, x),
         Parsed::Bad(f) => Step {
             answer: Indexed::Refused(f.refusal((at + f.place()) as u64, 0)),
             next: Indexer { at },

@@ -61,7 +61,7 @@ High x = 5 ≤ numbersOf x .refusal
 module _ (rule : SequenceRule) where
   -- the first group gives a row, or is the one that is refused
   data Began (at : ℕ) (g : Group) (gs : List Group) : Found → Type 0 where
-    a-row : {f : Found} → (d : Definition) → definitionSays (g .def) ≡ Named d → f .rows ≡ rule .row at (length (g .def)) (d .name) (g .seq) ∷ groupsBy rule gs (at + length (g .def) + sumWidths (g .seq)) .rows
+    a-row : {f : Found} → (d : Definition) → definitionSays (g .def) ≡ Named d → f .rows ≡ rule .row at (length (g .def)) d (g .seq) ∷ groupsBy rule gs (at + length (g .def) + sumWidths (g .seq)) .rows
         → f .stop ≡ groupsBy rule gs (at + length (g .def) + sumWidths (g .seq)) .stop → Began at g gs f
     a-fault : (e : Fault) → definitionSays (g .def) ≡ Bad e → Began at g gs (nothing (stop.Refused (refusalAt e at)))
     a-sequence : (d : Definition) (x : Refusal) → definitionSays (g .def) ≡ Named d → rule .judge (at + length (g .def)) (g .seq) ≡ bad x → Began at g gs (nothing (stop.Refused x))
@@ -71,7 +71,7 @@ module _ (rule : SequenceRule) where
   began at g gs = go (definitionSays (g .def)) refl
     where
       judged : (d : Definition) → definitionSays (g .def) ≡ Named d → (v : Verdict) → rule .judge (at + length (g .def)) (g .seq) ≡ v
-          → Began at g gs (stepped (judgedBy rule at (length (g .def)) (d .name) (g .seq) v) (groupsBy rule gs))
+          → Began at g gs (stepped (judgedBy rule at (length (g .def)) d (g .seq) v) (groupsBy rule gs))
       judged d h good e = a-row d h refl refl
       judged d h (bad x) e = a-sequence d x h e
 

@@ -27,6 +27,8 @@ pub record Describes (f : List ℕ) (start : ℕ) (g : Group) (x : Record) : Typ
   pub named : x .«name_start» + x .«name_length» ≤ length f
   pub name : nameIn f x ≡ spanOf (g .def) (said .name)
   pub unbroken : Lacks isSpace (nameIn f x)
+  -- its description lies in the file too
+  pub described : x .«description_start» + x .«description_length» ≤ length f
   -- its length is how many bases the sequence lines have
   pub counted : x .length ≡ length (allBases (g .seq))
   pub summed : x .length ≡ sumBases (g .seq)

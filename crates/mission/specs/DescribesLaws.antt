@@ -17,13 +17,13 @@ use Rattle.record.specs.declared.Record.{Record}
 use Rattle.indexer.specs.Rule.{good}
 use Rattle.indexer.specs.Index.{judge, rowOf, ported}
 use Rattle.indexer.specs.File.{fileAt}
-use Rattle.mission.specs.IndexedLaws.{name-spaceless, name-bytes, sequence-within, FirstGroup, good-even, good-places, first-within, Along, along-file, along-map}
+use Rattle.mission.specs.IndexedLaws.{name-spaceless, name-bytes, description-inside, sequence-within, FirstGroup, good-even, good-places, first-within, Along, along-file, along-map}
 use Rattle.mission.specs.Leading.{LeadsTo}
 use Rattle.mission.specs.Describes.{Describes}
 
 -- the row of the first group of a file from an offset on
 described : (f : List ℕ) (at : ℕ) (g : Group) (gs : List Group) (d : Definition) → FirstGroup f at g gs → definition.definitionSays (g .def) ≡ Named d → judge (at + length (g .def)) (g .seq) ≡ good
-    → Describes f (at + length (g .def)) g (rowOf at (length (g .def)) (d .name) (g .seq))
+    → Describes f (at + length (g .def)) g (rowOf at (length (g .def)) d (g .seq))
 described f at g gs d h e j =
     let n = name-bytes f at (g .def) (h .others) d (g .seq) (h .here) e in
     let i = rw (h .sequence) at (sequence-within f at (g .def) (h .others) (h .here)) in
@@ -33,6 +33,7 @@ described f at g gs d h e j =
       named = omega (arith, name-within (g .def) d e, i);
       name = n;
       unbroken = rw n (name-spaceless (g .def) d e);
+      described = description-inside f (g .def) at d e (omega (arith, i));
       counted = sym (length-allBases (g .seq));
       summed = refl;
       position = refl;
@@ -40,7 +41,7 @@ described f at g gs d h e j =
       first-bases = refl;
       first-width = refl;
       some-bases = good-even (at + length (g .def)) (g .seq) j .1;
-      places = good-places at (length (g .def)) (d .name) (g .seq) j;
+      places = good-places at (length (g .def)) d (g .seq) j;
     }
 
 -- such a row leads to the record's bases
@@ -52,6 +53,7 @@ leads-to {f} {start} {g} {x} d =
       named = d .named;
       name = d .name;
       unbroken = d .unbroken;
+      described = d .described;
       summed = d .summed;
       lined = λ small. record {
         some-bases = d .some-bases;

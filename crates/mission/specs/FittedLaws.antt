@@ -32,14 +32,14 @@ use Rattle.fitting.specs.Sound.{numbers-sound}
 use Rattle.fitting.specs.FirstLine.{Terminated, terminated-here}
 use Rattle.fitting.specs.Even.{FirstLineFits, even-fits}
 use Rattle.checker.specs.Accepts.{bytesOf, recordAt, sequenceAt, Matches}
-use Rattle.mission.specs.IndexedLaws.{name-spaceless, name-bytes, sequence-within, FirstGroup, first-group, good-even, Along, along-file}
+use Rattle.mission.specs.IndexedLaws.{name-spaceless, name-bytes, description-inside, sequence-within, FirstGroup, first-group, good-even, Along, along-file}
 use Rattle.mission.specs.Leading.{LeadsTo}
 
 -- ---- the rows that it gives lead to every base
 
 -- the row of the first group of a file from an offset on
 led : (f : List ℕ) (at : ℕ) (g : Group) (gs : List Group) (d : Definition) → FirstGroup f at g gs → definitionSays (g .def) ≡ Named d → fit (at + length (g .def)) (g .seq) ≡ good
-    → LeadsTo f (at + length (g .def)) g (completeRow at (length (g .def)) (d .name) (g .seq))
+    → LeadsTo f (at + length (g .def)) g (completeRow at (length (g .def)) d (g .seq))
 unfolding fit nameIn
 led f at g gs d h e j =
     let n = name-bytes f at (g .def) (h .others) d (g .seq) (h .here) e in
@@ -51,6 +51,7 @@ led f at g gs d h e j =
       named = omega (arith, name-within (g .def) d e, i);
       name = n;
       unbroken = rw n (name-spaceless (g .def) d e);
+      described = description-inside f (g .def) at d e (omega (arith, i));
       summed = refl;
       lined = λ m. record {
         some-bases = v .some-bases;
@@ -108,7 +109,7 @@ lines-terminated f at l ls h =
     rw e at (terminated-here f (at + length l) (omega (arith, sequence-within f at l ls h)))
 
 -- a good record's answer is the same
-same-answer : (at n : ℕ) (d : Definition) (ls : List (List ℕ)) → judge (at + n) ls ≡ good → Terminated ls → sequenceBy complete at n (d .name) ls ≡ sequenceBy ported at n (d .name) ls
+same-answer : (at n : ℕ) (d : Definition) (ls : List (List ℕ)) → judge (at + n) ls ≡ good → Terminated ls → sequenceBy complete at n d ls ≡ sequenceBy ported at n d ls
 unfolding sequenceBy
 same-answer at n d ls j b =
     let s = good-fits (at + n) ls j b in
@@ -120,8 +121,8 @@ module _ (f : List ℕ) where
   unfolding recordBy sequenceBy
   same-record at x h = go (lines (drop at f)) refl h
     where
-      judged : (l : List ℕ) (ls : List (List ℕ)) → Terminated (seqOf ls) → (d : Definition) (v : Verdict) → judge (at + length l) (seqOf ls) ≡ v → judgedBy ported at (length l) (d .name) (seqOf ls) v .answer ≡ indexed.Row x
-          → sequenceBy complete at (length l) (d .name) (seqOf ls) ≡ sequenceBy ported at (length l) (d .name) (seqOf ls)
+      judged : (l : List ℕ) (ls : List (List ℕ)) → Terminated (seqOf ls) → (d : Definition) (v : Verdict) → judge (at + length l) (seqOf ls) ≡ v → judgedBy ported at (length l) d (seqOf ls) v .answer ≡ indexed.Row x
+          → sequenceBy complete at (length l) d (seqOf ls) ≡ sequenceBy ported at (length l) d (seqOf ls)
       judged l ls b d good j q = same-answer at (length l) d (seqOf ls) j b
       judged l ls b d (bad y) j q = let z : _≡_ {A = ℕ} 0 1 = cc in absurd (omega arith)
 
@@ -149,8 +150,8 @@ module _ (f : List ℕ) where
       Behind : Type 0
       Behind = (o : ℕ) → groups (lines (drop o f)) ≡ gs → groupsBy ported gs o .stop ≡ stop.Ended → groupsBy complete gs o ≡ groupsBy ported gs o
 
-      judged : Behind → (d : Definition) (v : Verdict) → judge (at + length (g .def)) (g .seq) ≡ v → stepped (judgedBy ported at (length (g .def)) (d .name) (g .seq) v) (groupsBy ported gs) .stop ≡ stop.Ended
-          → stepped (sequenceBy complete at (length (g .def)) (d .name) (g .seq)) (groupsBy complete gs) ≡ stepped (sequenceBy ported at (length (g .def)) (d .name) (g .seq)) (groupsBy ported gs)
+      judged : Behind → (d : Definition) (v : Verdict) → judge (at + length (g .def)) (g .seq) ≡ v → stepped (judgedBy ported at (length (g .def)) d (g .seq) v) (groupsBy ported gs) .stop ≡ stop.Ended
+          → stepped (sequenceBy complete at (length (g .def)) d (g .seq)) (groupsBy complete gs) ≡ stepped (sequenceBy ported at (length (g .def)) d (g .seq)) (groupsBy ported gs)
       judged more d good j q = rw (same-answer at (length (g .def)) d (g .seq) j broken, j) (ap (withFirst _) (more (at + length (g .def) + sumWidths (g .seq)) (k .behind) q))
       judged more d (bad y) j q = let z : _≡_ {A = ℕ} 0 1 = cc in absurd (omega arith)
 

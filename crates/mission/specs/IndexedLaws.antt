@@ -19,12 +19,13 @@ use Rattle.lines.specs.GroupLaws.{afterSeq, groups-cut, lines-next}
 use Rattle.lines.specs.declared.Line.{Line}
 use Rattle.lines.specs.declared.Span.{Span}
 use Rattle.definition.specs.Definition.{isSpace, spaced, run, keep, described, namedOf, contentSays, definitionSays}
-use Rattle.definition.specs.Laws.{run-le, name-within}
+use Rattle.definition.specs.Laws.{run-le, name-within, description-within}
 use Rattle.definition.specs.declared.Definition.{Definition}
 use Rattle.definition.specs.declared.Fault.the-variants.{NoPrefix}
 use Rattle.definition.specs.declared.Parsed.{Parsed}
 use Rattle.definition.specs.declared.Parsed.the-variants.{Named, Bad}
 use Rattle.record.specs.Place.{placeIn}
+use Rattle.record.specs.Description.{describedAt}
 use Rattle.table.specs.Rows.{rowCount, withRows, namedAt}
 use Rattle.table.specs.RowLaws.{sound-row, named-row, name-inside, held-stored}
 use Rattle.record.specs.EvenLines.{EvenLines, even-place, length-basesAt}
@@ -115,17 +116,30 @@ line-front (b ∷ s) l ls h =
     let r : length l ≡ lineLen (b ∷ s) = ap length (sym p) ∙ length-take-le (lineLen (b ∷ s)) (b ∷ s) (lineLen-le (b ∷ s)) in
     rw r p
 
--- a name's bytes in the file are those in its definition line, which begins at an offset
-pub name-bytes : (f : List ℕ) (at : ℕ) (l : List ℕ) (ls : List (List ℕ)) (d : Definition) (q : List (List ℕ)) → lines (drop at f) ≡ l ∷ ls → definitionSays l ≡ Named d
-    → nameIn f (rowOf at (length l) (d .name) q) ≡ spanOf l (d .name)
-unfolding nameIn
-name-bytes f at l ls d q h e =
-    let w = name-within l d e in
-    let a : ℕ = d .name .start in
-    let n : ℕ = d .name .length in
+-- the bytes of a span of a line, which begins at an offset, are those in the file
+pub span-bytes : (f : List ℕ) (at : ℕ) (l : List ℕ) (ls : List (List ℕ)) (p : Span) → lines (drop at f) ≡ l ∷ ls → p .start + p .length ≤ length l
+    → take (p .length) (drop (at + p .start) f) ≡ spanOf l p
+span-bytes f at l ls p h w =
+    let a : ℕ = p .start in
+    let n : ℕ = p .length in
     let s : List ℕ = drop at f in
     rw (← drop-drop a at f)
     (sym (take-take n (length l - a) (drop a s) (omega arith)) ∙ ap (take n) (part-slice s a (length l) (omega arith) ∙ ap (drop a) (line-front s l ls h)))
+
+-- so a name's bytes in the file are those in its definition line
+pub name-bytes : (f : List ℕ) (at : ℕ) (l : List ℕ) (ls : List (List ℕ)) (d : Definition) (q : List (List ℕ)) → lines (drop at f) ≡ l ∷ ls → definitionSays l ≡ Named d
+    → nameIn f (rowOf at (length l) d q) ≡ spanOf l (d .name)
+unfolding nameIn
+name-bytes f at l ls d q h e = span-bytes f at l ls (d .name) h (name-within l d e .2)
+
+-- a description that lies in its line, which begins at an offset and lies in the file, lies in the file
+pub description-inside : (f l : List ℕ) (at : ℕ) (d : Definition) → definitionSays l ≡ Named d → at + length l ≤ length f
+    → describedAt (at + d .description .start) (d .description .length) + d .description .length ≤ length f
+description-inside f l at d e h = go (d .description .length) refl
+  where
+    go : (n : ℕ) → d .description .length ≡ n → describedAt (at + d .description .start) n + n ≤ length f
+    go zero q = omega arith
+    go (suc n) q = omega (arith, description-within l d e .0, q)
 
 -- the sequence behind it lies in the file
 pub sequence-within : (f : List ℕ) (at : ℕ) (l : List ℕ) (ls : List (List ℕ)) → lines (drop at f) ≡ l ∷ ls → at + length l + sumWidths (seqOf ls) ≤ length f
@@ -200,9 +214,9 @@ good-even at (l ∷ ls) h = go (eqb (length (basesOf l)) 0) refl h
     go false e k = (line-more refl refl (rest-even (lineOf l) ls k), omega (arith, eqb-false (length (basesOf l)) 0 e))
 
 -- so every base is where the numbers of its row say
-pub good-places : (at n : ℕ) (name : Span) (ls : List (List ℕ)) → judge (at + n) ls ≡ good
-    → (j : ℕ) → j < sumBases ls → getD (basesAt (at + n) ls) j 0 ≡ placeIn (rowOf at n name ls) j
-good-places at n name ls h j m =
+pub good-places : (at n : ℕ) (d : Definition) (ls : List (List ℕ)) → judge (at + n) ls ≡ good
+    → (j : ℕ) → j < sumBases ls → getD (basesAt (at + n) ls) j 0 ≡ placeIn (rowOf at n d ls) j
+good-places at n d ls h j m =
     let e = good-even (at + n) ls h in
     even-place (firstLine ls .bases) (firstLine ls .width) (e .1) (at + n) ls (e .0) j (rw length-basesAt m)
 
@@ -217,7 +231,7 @@ first-within (l ∷ ls) = omega arith
 -- what a group, which begins at an offset, adds: its row, or the refusal that ends the file
 data GroupSaid (rule : SequenceRule) (at : ℕ) (g : Group) (behind : ℕ → Found) : Found → Type 0 where
   its-row : (d : Definition) → definitionSays (g .def) ≡ Named d → rule .judge (at + length (g .def)) (g .seq) ≡ good
-      → GroupSaid rule at g behind (withFirst (rule .row at (length (g .def)) (d .name) (g .seq)) (behind (at + length (g .def) + sumWidths (g .seq))))
+      → GroupSaid rule at g behind (withFirst (rule .row at (length (g .def)) d (g .seq)) (behind (at + length (g .def) + sumWidths (g .seq))))
   its-refusal : (x : Refusal) → GroupSaid rule at g behind (nothing (stop.Refused x))
 
 group-said : (rule : SequenceRule) (at : ℕ) (g : Group) (behind : ℕ → Found) → GroupSaid rule at g behind (stepped (groupBy rule at g) behind)
@@ -225,7 +239,7 @@ unfolding sequenceBy
 group-said rule at g behind = go (definitionSays (g .def)) refl
   where
     judged : (d : Definition) → definitionSays (g .def) ≡ Named d → (v : Verdict) → rule .judge (at + length (g .def)) (g .seq) ≡ v
-        → GroupSaid rule at g behind (stepped (judgedBy rule at (length (g .def)) (d .name) (g .seq) v) behind)
+        → GroupSaid rule at g behind (stepped (judgedBy rule at (length (g .def)) d (g .seq) v) behind)
     judged d h good e = its-row d h e
     judged d h (bad x) e = its-refusal x
 
@@ -244,7 +258,7 @@ pub data Along (P : ℕ → Group → Record → Type 0) : ℕ → List Group �
 -- what holds of the row of every group of a file holds along its rows
 module _ (rule : SequenceRule) (P : ℕ → Group → Record → Type 0) (f : List ℕ)
     (holds : (at : ℕ) (g : Group) (gs : List Group) (d : Definition) → FirstGroup f at g gs → definitionSays (g .def) ≡ Named d → rule .judge (at + length (g .def)) (g .seq) ≡ good
-    → P (at + length (g .def)) g (rule .row at (length (g .def)) (d .name) (g .seq))) where
+    → P (at + length (g .def)) g (rule .row at (length (g .def)) d (g .seq))) where
   along-groups : (gs : List Group) (at : ℕ) → groups (lines (drop at f)) ≡ gs → Along P at gs (groupsBy rule gs at .rows) (groupsBy rule gs at .stop)
   unfolding groupsBy
   along-groups [] at h = at-end
@@ -372,10 +386,11 @@ pub text-written : (name ns out : List ℕ) → Lacks isSpace name → length (t
 unfolding pours
 text-written name ns out h r = text-fronted name ns out h ∙ rw (le-ltb _ _ r)
 
--- a row of a table that was filled with some holds its record, if its name lies in the bytes
+-- a row of a table that was filled with some holds its record, if its name and its description lie in the bytes
 pub row-held : (t : List ℕ) (xs : List Record) (d : Record) (k bytes : ℕ) → length xs ≤ rowCount t → k < length xs → Lined (getD xs k d)
-    → getD xs k d .«name_start» + getD xs k d .«name_length» ≤ bytes → namedAt (withRows t 0 xs) (length xs) k bytes ≡ held.Row (getD xs k d)
-row-held t xs d k bytes h m p n =
+    → getD xs k d .«name_start» + getD xs k d .«name_length» ≤ bytes → getD xs k d .«description_start» + getD xs k d .«description_length» ≤ bytes
+    → namedAt (withRows t 0 xs) (length xs) k bytes ≡ held.Row (getD xs k d)
+row-held t xs d k bytes h m p n i =
     named-row (withRows t 0 xs) (length xs) k bytes (getD xs k d)
     (held-stored t d xs k h m ∙ sym (sound-row k (getD xs k d) (λ e. omega (arith, p .some-bases)) (λ e. omega (arith, p .some-width))))
-    ∙ sym (name-inside k (getD xs k d) bytes n)
+    ∙ sym (name-inside k (getD xs k d) bytes n i)

@@ -47,7 +47,7 @@ indexText f (x ∷ xs) = lineIn f x ++ indexText f xs
 
 -- row k of some; beyond them, zeros
 abbrev pub noRow : Record
-noRow = record { «name_start» = 0; «name_length» = 0; length = 0; position = record { 0 = 0 }; «line_bases» = 0; «line_width» = 0 }
+noRow = record { «name_start» = 0; «name_length» = 0; length = 0; position = record { 0 = 0 }; «line_bases» = 0; «line_width» = 0; «description_start» = 0; «description_length» = 0 }
 
 abbrev pub rowIn : List Record → ℕ → Record
 rowIn xs k = getD xs k noRow
@@ -60,6 +60,8 @@ pub record LeadsTo (f : List ℕ) (start : ℕ) (g : Group) (x : Record) : Type 
   pub named : x .«name_start» + x .«name_length» ≤ length f
   pub name : nameIn f x ≡ spanOf (g .def) (said .name)
   pub unbroken : Lacks isSpace (nameIn f x)
+  -- its description lies in the file too
+  pub described : x .«description_start» + x .«description_length» ≤ length f
   -- its length is how many bases the sequence lines have
   pub summed : x .length ≡ sumBases (g .seq)
   -- its numbers can stand in a line
@@ -154,7 +156,7 @@ module _ (f : List ℕ) (xs : List Record) (s : Stop) (h : Along (LeadsTo f) 0 (
   unfolding writtenAs lineWritten overLimit lineOf
   leading-written t out k m e q r =
       let d = leading-at k q in
-      rw (le-ltb _ _ m, row-held t xs noRow k (length f) e q (d .lined (omega arith)) (d .named))
+      rw (le-ltb _ _ m, row-held t xs noRow k (length f) e q (d .lined (omega arith)) (d .named) (d .described))
       (text-written (nameIn f (rowIn xs k)) (columnsOf (rowIn xs k)) out (d .unbroken) r)
 
   -- the index lines read back to rows with the same names and the same four numbers

@@ -15,3 +15,4 @@ pub mod Covers
 pub mod MendingLaws
 pub mod Mending
 pub mod BadDefinition
+pub mod Described

@@ -140,6 +140,8 @@ module _ (f i : List ℕ) (accepted : Accepts f i) where
         (record {
           name-start = omega (arith, w, widths-lines i, accepted .limits .index);
           name-length = omega (arith, w, widths-lines i, accepted .limits .index, sound .inside);
+          description-start = omega (arith, sound .no-description);
+          description-length = omega (arith, sound .no-description);
           lined = record {
             some-bases = l .some-bases;
             some-width = l .some-width;
@@ -182,7 +184,13 @@ module _ (f : List ℕ) (xs : List Record) (s : Stop) (h : Along (LeadsTo f) 0 (
       fits : (r : ℕ) → r < length xs → Fits (rowIn xs r)
       fits r k =
           let d = leading-at f xs s h r k in
-          record { name-start = omega (arith, d .named); name-length = omega (arith, d .named); lined = d .lined (omega arith) }
+          record {
+            name-start = omega (arith, d .named);
+            name-length = omega (arith, d .named);
+            description-start = omega (arith, d .described);
+            description-length = omega (arith, d .described);
+            lined = d .lined (omega arith);
+          }
 
 -- ---- rows put in a table
 

@@ -35,6 +35,8 @@ pub record RowOf (f : List ℕ) (r : ℕ) (x : Record) : Type 0 where
 pub record Fits (x : Record) : Type 0 where
   pub name-start : x .«name_start» < 2 ^ 64
   pub name-length : x .«name_length» < 2 ^ 64
+  pub description-start : x .«description_start» < 2 ^ 64
+  pub description-length : x .«description_length» < 2 ^ 64
   pub lined : Lined x
 
 -- some rows are about a file's records, one for each

@@ -5,10 +5,7 @@ use mathlib.Core.Bool.{Bool, true, false, _&&_}
 use native.Mathlib.Nat.{pow-suc, le-of-suc-le-suc, not-suc-le-zero}
 use native.Mathlib.Omega.{arith}
 use lib.Bits.{bitAnd, and-block, and-zero-r}
-
-abbrev pub bit : Bool → ℕ
-bit true = 1
-bit false = 0
+use Rattle.letters.specs.Sets.{bit, bit-lt}
 
 -- the tests of the numbers below m, as the bits of a number: the test of 0 is the lowest
 unfoldable pub number : (ℕ → Bool) → ℕ → ℕ
@@ -19,10 +16,6 @@ number f (suc m) = number (λ j. f (suc j)) m * 2 + bit (f zero)
 abbrev pub shifted : (ℕ → Bool) → ℕ → Bool
 shifted f zero = true
 shifted f (suc j) = f j
-
-pub bit-lt : (b : Bool) → bit b < 2
-bit-lt true = omega arith
-bit-lt false = omega arith
 
 bit-and : (a b : Bool) → bitAnd (bit a) (bit b) ≡ bit (a && b)
 bit-and true true = refl

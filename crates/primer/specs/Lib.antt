@@ -1,5 +1,14 @@
-pub mod Codes
 pub mod Search
+pub mod Sequences
+pub mod Primer
 pub mod Bits
+pub mod Filled
 pub mod Live
-pub mod Table
+pub mod SequenceLaws
+pub mod Laws
+pub mod Places
+pub mod PlaceLaws
+pub mod AnswerLaws
+pub mod PlaceTheorems
+pub mod StrandLaws
+pub mod Strands

@@ -13,9 +13,10 @@ use lib.Dec.{ltb}
 use borrow.Author.Tests.{ltb-true, ltb-false}
 use lib.ListN.{length, take, drop, getD, length-take, length-drop}
 use lib.Seq.{drop-length, take-suc, take-all, drop-cons, getD-drop, length-take-le}
-use Rattle.primer.specs.Codes.{setOf, inside, fits}
-use Rattle.primer.specs.Search.{matches, firstFrom, firstOf}
-use Rattle.primer.specs.Bits.{bit, bit-lt, number, shifted, number-lt, step-number, top-set, top-clear}
+use Rattle.letters.specs.Letters.{setOf}
+use Rattle.letters.specs.Sets.{bit, bit-lt, inside}
+use Rattle.primer.specs.Search.{fits, matches, firstFrom, firstOf}
+use Rattle.primer.specs.Bits.{number, shifted, number-lt, step-number, top-set, top-clear}
 use Rattle.primer.specs.declared.Found.{Found}
 use Rattle.primer.specs.declared.Found.the-variants.{At, Nothing}
 
@@ -31,12 +32,12 @@ maskOf (p ∷ ps) b = maskOf ps b * 2 + bit (fits p b)
 -- the same by the byte's set
 unfoldable pub maskBy : List ℕ → ℕ → ℕ
 maskBy [] t = 0
-maskBy (p ∷ ps) t = maskBy ps t * 2 + bit (inside t p)
+maskBy (p ∷ ps) t = maskBy ps t * 2 + bit (inside t (setOf p))
 
 pub mask-by : (ps : List ℕ) (b : ℕ) → maskBy ps (setOf b) ≡ maskOf ps b
 unfolding maskBy maskOf fits
 mask-by [] b = refl
-mask-by (p ∷ ps) b = ap (λ (x : ℕ). x * 2 + bit (inside (setOf b) p)) (mask-by ps b)
+mask-by (p ∷ ps) b = ap (λ (x : ℕ). x * 2 + bit (inside (setOf b) (setOf p))) (mask-by ps b)
 
 pub mask-by-empty : (ps : List ℕ) → maskBy ps 0 ≡ 0
 unfolding maskBy inside
@@ -46,13 +47,13 @@ mask-by-empty (p ∷ ps) = rw (mask-by-empty ps)
 pub mask-by-lt : (ps : List ℕ) (t : ℕ) → maskBy ps t < 2 ^ length ps
 unfolding maskBy
 mask-by-lt [] t = omega arith
-mask-by-lt (p ∷ ps) t = rw (pow-suc 2 (length ps)) (omega (arith, mask-by-lt ps t, bit-lt (inside t p)))
+mask-by-lt (p ∷ ps) t = rw (pow-suc 2 (length ps)) (omega (arith, mask-by-lt ps t, bit-lt (inside t (setOf p))))
 
 pub mask-by-small : (ps : List ℕ) (t j : ℕ) → length ps ≤ 31 → maskBy (drop j ps) t < 2 ^ 31
 mask-by-small ps t j h = lt-of-lt-of-le (mask-by-lt (drop j ps) t) (pow-mono {i = length (drop j ps)} {j = 31} (simp length-drop (omega arith)))
 
 -- one letter more, from the back
-pub mask-by-more : (ps : List ℕ) (t j n : ℕ) → n ≡ suc j → n ≤ length ps → maskBy (drop n ps) t * 2 + bit (inside t (getD ps j 0)) ≡ maskBy (drop j ps) t
+pub mask-by-more : (ps : List ℕ) (t j n : ℕ) → n ≡ suc j → n ≤ length ps → maskBy (drop n ps) t * 2 + bit (inside t (setOf (getD ps j 0))) ≡ maskBy (drop j ps) t
 unfolding maskBy
 mask-by-more ps t j n e h = let l : j < length ps = omega arith in rw (e, drop-cons ps j 0 l)
 

@@ -12,6 +12,7 @@ use borrow.Author.Tests.{lt-ltb, le-ltb, ltb-true, ltb-false, eq-eqb, ne-eqb, eq
 use native.Mathlib.Numerals.{add-one}
 use native.Mathlib.Omega.{arith}
 use native.Mathlib.Nat.{div-add-mod', zero-add, add-assoc, add-mul, one-mul, add-zero, add-div-left, add-mod-left, div-eq-of-lt, mod-eq-of-lt, zero-mul, le-div-iff-mul-le, div-lt-iff-lt-mul}
+use Rattle.record.specs.Description.{describedAt}
 use Rattle.record.specs.Place.{placeOf, placesFrom, placeIn, offsetOf, hasPlace, addressOf}
 use Rattle.record.specs.declared.Position.{Position}
 use Rattle.record.specs.declared.Offset.{Offset}
@@ -173,3 +174,10 @@ module _ (x : Record) (p : Position) where
       go false a _ b _ w q = let z : _≡_ {A = ℕ} 0 1 = cc in absurd (omega arith)
       go true a false b _ w q = let z : _≡_ {A = ℕ} 0 1 = cc in absurd (omega arith)
       go true a true b false w q = let z : _≡_ {A = ℕ} 0 1 = cc in absurd (omega arith)
+
+-- ---- descriptions
+
+-- a description that has bytes begins at its start
+pub described-some : (start n : ℕ) → (n ≡ 0 → ⊥) → start ≡ describedAt start n
+described-some start zero h = absurd (h refl)
+described-some start (suc n) h = refl

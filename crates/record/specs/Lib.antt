@@ -1,4 +1,5 @@
 pub mod Place
+pub mod Description
 pub mod EvenLines
 pub mod Bases
 pub mod Laws

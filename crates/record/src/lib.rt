@@ -3,6 +3,7 @@
 ghost use mathlib.Core.Path.{_≡_};
 ghost use Prim.Native.Nat.{_+_, _*_, _<_};
 ghost use Rattle.record.specs.Place.{offsetOf, addressOf};
+ghost use Rattle.record.specs.Description.{describedAt};
 
 // A base position, from 1.
 pub struct Position(pub u64);
@@ -10,7 +11,7 @@ pub struct Position(pub u64);
 // A byte offset, from 0.
 pub struct Offset(pub u64);
 
-// A record: its name's span, and the four numbers of its index line.
+// A record: its name's span, the four numbers of its index line, and its description's span, which is 0 and 0 where there is none.
 pub struct Record {
     pub name_start: u64,
     pub name_length: u64,
@@ -18,6 +19,8 @@ pub struct Record {
     pub position: Offset,
     pub line_bases: u64,
     pub line_width: u64,
+    pub description_start: u64,
+    pub description_length: u64,
 }
 
 // Where a base lies; or nowhere, where no 64-bit offset is its own.
@@ -28,6 +31,16 @@ pub enum Address {
 
 // The largest offset.
 const LARGEST: u64 = 18446744073709551615;
+
+// Where a description begins; 0 where it has no bytes.
+fn described_at(start: u64, length: u64) -> u64
+    ensures { λ r. ⌜ r ≡ describedAt start length ⌝ }
+{
+    if length == 0 {
+        return 0;
+    }
+    start
+}
 
 // The offset of column `column` in line `line` of a sequence, if it fits. No sum and no product is made before it is compared.
 fn fitting(position: u64, line: u64, width: u64, column: u64) -> Address
@@ -52,9 +65,9 @@ impl Record {
     // The first base position.
     pub const FIRST: u64 = 1;
 
-    // A record without a name.
+    // A record without a name and a description.
     pub fn unnamed(length: u64, position: Offset, line_bases: u64, line_width: u64) -> Self
-        ensures { λ r. ⌜ r ≡ record { «name_start» = 0; «name_length» = 0; length = length; position = position; «line_bases» = «line_bases»; «line_width» = «line_width» } ⌝ }
+        ensures { λ r. ⌜ r ≡ record { «name_start» = 0; «name_length» = 0; length = length; position = position; «line_bases» = «line_bases»; «line_width» = «line_width»; «description_start» = 0; «description_length» = 0 } ⌝ }
     {
         Record {
             name_start: 0,
@@ -63,12 +76,14 @@ impl Record {
             position,
             line_bases,
             line_width,
+            description_start: 0,
+            description_length: 0,
         }
     }
 
     // The same record, with its name's span.
     pub fn named(self, start: u64, length: u64) -> Self
-        ensures { λ r. ⌜ r ≡ record { «name_start» = start; «name_length» = length; length = self .length; position = self .position; «line_bases» = self .«line_bases»; «line_width» = self .«line_width» } ⌝ }
+        ensures { λ r. ⌜ r ≡ record { «name_start» = start; «name_length» = length; length = self .length; position = self .position; «line_bases» = self .«line_bases»; «line_width» = self .«line_width»; «description_start» = self .«description_start»; «description_length» = self .«description_length» } ⌝ }
     {
         let position = self.position;
         Record {
@@ -78,6 +93,25 @@ impl Record {
             position,
             line_bases: self.line_bases,
             line_width: self.line_width,
+            description_start: self.description_start,
+            description_length: self.description_length,
+        }
+    }
+
+    // The same record, with its description's span; it is 0 and 0 where it has no bytes.
+    pub fn described(self, start: u64, length: u64) -> Self
+        ensures { λ r. ⌜ r ≡ record { «name_start» = self .«name_start»; «name_length» = self .«name_length»; length = self .length; position = self .position; «line_bases» = self .«line_bases»; «line_width» = self .«line_width»; «description_start» = describedAt start length; «description_length» = length } ⌝ }
+    {
+        let position = self.position;
+        Record {
+            name_start: self.name_start,
+            name_length: self.name_length,
+            length: self.length,
+            position,
+            line_bases: self.line_bases,
+            line_width: self.line_width,
+            description_start: described_at(start, length),
+            description_length: length,
         }
     }
 

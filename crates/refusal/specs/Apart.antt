@@ -52,8 +52,8 @@ caseOf n =
     ∷ (λ a b. is.UnknownEdition a)
     ∷ none
     ∷ none
-    ∷ none
-    ∷ none
+    ∷ (λ a b. is.PrimerLength)
+    ∷ (λ a b. is.PrimerLetter a)
     ∷ none
     ∷ none
     ∷ none
@@ -101,6 +101,8 @@ told is.BaseUnfit = (omega arith, refl)
 told (is.MalformedExercise a) = (omega arith, refl)
 told (is.UnknownNeededTag a) = (omega arith, refl)
 told (is.UnknownEdition a) = (omega arith, refl)
+told is.PrimerLength = (omega arith, refl)
+told (is.PrimerLetter a) = (omega arith, refl)
 told (is.NoIndexFits a b) = (omega arith, refl)
 
 -- no refusal's number is 0

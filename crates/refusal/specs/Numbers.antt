@@ -42,6 +42,8 @@ numbersOf is.BaseUnfit = told 30 0 0
 numbersOf (is.MalformedExercise offset) = told 31 offset 0
 numbersOf (is.UnknownNeededTag offset) = told 32 offset 0
 numbersOf (is.UnknownEdition offset) = told 33 offset 0
+numbersOf is.PrimerLength = told 36 0 0
+numbersOf (is.PrimerLetter place) = told 37 place 0
 numbersOf (is.NoIndexFits offset base) = told 42 offset base
 
 -- is an input of so many bytes over the limit

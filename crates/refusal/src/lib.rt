@@ -38,6 +38,8 @@ pub enum Refusal {
     MalformedExercise { offset: u64 },
     UnknownNeededTag { offset: u64 },
     UnknownEdition { offset: u64 },
+    PrimerLength,
+    PrimerLetter { place: u64 },
     NoIndexFits { offset: u64, base: u64 },
 }
 
@@ -106,6 +108,8 @@ impl Refusal {
             Refusal::MalformedExercise { offset } => told(31, offset, 0),
             Refusal::UnknownNeededTag { offset } => told(32, offset, 0),
             Refusal::UnknownEdition { offset } => told(33, offset, 0),
+            Refusal::PrimerLength => told(36, 0, 0),
+            Refusal::PrimerLetter { place } => told(37, place, 0),
             Refusal::NoIndexFits { offset, base } => told(42, offset, base),
         }
     }

@@ -53,16 +53,18 @@ module _ (bytes : ℕ) (f : Refusal) where
 
   row-refused : (r : ℕ) (x : Record) → namedIn bytes r (soundRow r x) ≡ held.Refused f → OfLookUp f
   unfolding namedIn soundRow
-  row-refused r x h = go (eqb (x .«line_bases») 0) (eqb (x .«line_width») 0) (ltb bytes (x .«name_start» + x .«name_length»)) refl h
+  row-refused r x h = go (eqb (x .«line_bases») 0) (eqb (x .«line_width») 0) (ltb bytes (x .«name_start» + x .«name_length»)) refl (ltb bytes (x .«description_start» + x .«description_length»)) refl h
     where
-      name : (l : Bool) → cond l (badRow r) (held.Row x) ≡ held.Refused f → OfLookUp f
-      name true q = bad r q
-      name false q = let z : _≡_ {A = ℕ} 0 1 = cc in absurd (omega arith)
+      spans : (l d : Bool) → cond l (badRow r) (cond d (badRow r) (held.Row x)) ≡ held.Refused f → OfLookUp f
+      spans true d q = bad r q
+      spans false true q = bad r q
+      spans false false q = let z : _≡_ {A = ℕ} 0 1 = cc in absurd (omega arith)
 
-      go : (b w l : Bool) → ltb bytes (x .«name_start» + x .«name_length») ≡ l → namedIn bytes r (cond b (badRow r) (cond w (badRow r) (held.Row x))) ≡ held.Refused f → OfLookUp f
-      go true w l m q = bad r q
-      go false true l m q = bad r q
-      go false false l m q = name l (rw m at q)
+      go : (b w l : Bool) → ltb bytes (x .«name_start» + x .«name_length») ≡ l → (d : Bool) → ltb bytes (x .«description_start» + x .«description_length») ≡ d
+          → namedIn bytes r (cond b (badRow r) (cond w (badRow r) (held.Row x))) ≡ held.Refused f → OfLookUp f
+      go true w l m d n q = bad r q
+      go false true l m d n q = bad r q
+      go false false l m d n q = spans l d (rw (m, n) at q)
 
   named-refused : (t : List ℕ) (n r : ℕ) → namedAt t n r bytes ≡ held.Refused f → OfLookUp f
   unfolding namedAt namedOf usedAt

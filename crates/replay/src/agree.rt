@@ -70,11 +70,18 @@ pub fn run(told: &[u8], a: SpanAnswer) -> bool {
     false
 }
 
-// The six numbers of a row, the first of them at a place.
+// The numbers of a row, the first of them at a place.
 fn row(told: &[u8], at: usize, a: RowAnswer) -> bool {
     if two(told, at, a.name_start, a.name_length) {
         if two(told, wrapping_add_usize(at, 16), a.length, a.position) {
-            return two(told, wrapping_add_usize(at, 32), a.line_bases, a.line_width);
+            if two(told, wrapping_add_usize(at, 32), a.line_bases, a.line_width) {
+                return two(
+                    told,
+                    wrapping_add_usize(at, 48),
+                    a.description_start,
+                    a.description_length,
+                );
+            }
         }
     }
     false
@@ -85,7 +92,7 @@ pub fn record(told: &[u8], a: RowAnswer) -> bool {
     if refusal(told, a.refusal, a.first, a.second) {
         if number(told, 24, a.found) {
             if row(told, 32, a) {
-                return number(told, 80, a.next);
+                return number(told, 96, a.next);
             }
         }
     }

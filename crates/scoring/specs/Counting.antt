@@ -9,7 +9,7 @@ use native.Mathlib.Omega.{arith}
 use lib.Dec.{ltb}
 use lib.ListN.{length, getD}
 use borrow.Author.Tests.{ltb-true, ltb-false}
-use Rattle.primer.specs.Bits.{bit, bit-lt}
+use Rattle.letters.specs.Sets.{bit, bit-lt}
 use Rattle.scoring.specs.Places.{countBelow}
 
 pub count-le : (f : ℕ → Bool) (n : ℕ) → countBelow f n ≤ n

@@ -3,7 +3,8 @@ use Prim.Native.Nat.{ℕ}
 use mathlib.Core.Path.{_≡_, refl}
 use mathlib.Core.List.{List, [], _∷_}
 use Rattle.ascii.specs.Text.{text}
-use Rattle.primer.specs.Codes.{setOf, inside}
+use Rattle.letters.specs.Letters.{setOf}
+use Rattle.letters.specs.Sets.{inside}
 use Rattle.scoring.specs.Rules.{folded, same, coded, lies}
 use Rattle.scoring.specs.Places.{countBelow, rightOf, wrongOf, missingOf, surplusOf, tenths, tenthsOf, scoreBy}
 use Rattle.scoring.specs.declared.Score.{Score}

@@ -7,7 +7,7 @@ use native.Mathlib.Omega.{arith}
 use lib.Dec.{eqb, ltb}
 use lib.ListN.{length, getD}
 use borrow.Author.Tests.{lt-ltb, le-ltb, ltb-true, ltb-false}
-use Rattle.primer.specs.Bits.{bit}
+use Rattle.letters.specs.Sets.{bit}
 use Rattle.scoring.specs.Places.{countBelow, isRight, isWrong, isMissing, isSurplus, rightOf, wrongOf, missingOf, surplusOf, tenths, tenthsOf, scoreBy}
 use Rattle.scoring.specs.Counting.{Counted, agrees, count-same, count-stops, count-three, count-past, counted-front}
 use Rattle.scoring.specs.declared.Score.{Score}

@@ -6,7 +6,7 @@ use lib.Dec.{eqb, ltb}
 use lib.ListN.{length, getD}
 use Rattle.refusal.specs.Numbers.{overLimit}
 use Rattle.refusal.specs.declared.Refusal.the-variants.{TooLong, UnknownEdition}
-use Rattle.primer.specs.Bits.{bit}
+use Rattle.letters.specs.Sets.{bit}
 use Rattle.scoring.specs.Rules.{same, lies}
 use Rattle.scoring.specs.declared.Score.{Score}
 use Rattle.scoring.specs.declared.Scored.{Scored}

@@ -8,7 +8,8 @@ use lib.ListN.{getD}
 use lib.Dec.{T, eqb, ltb, eqb→eq}
 use lib.Bits.{bitAnd, and-self, and-zero-r}
 use borrow.Author.Tests.{eq-eqb, ne-eqb, eqb-true, eqb-false, ltb-true, ltb-false, lt-ltb, le-ltb}
-use Rattle.primer.specs.Codes.{setOf, inside}
+use Rattle.letters.specs.Letters.{setOf}
+use Rattle.letters.specs.Sets.{inside}
 use Rattle.scoring.specs.Rules.{folded, same, coded, lies, ruleFor}
 use Rattle.scoring.specs.Counting.{Counted, agrees, counted-all}
 

@@ -2,7 +2,8 @@
 use Prim.Native.Nat.{ℕ, _-_}
 use mathlib.Core.Bool.{Bool, true, false, cond, not, _&&_}
 use lib.Dec.{eqb, ltb}
-use Rattle.primer.specs.Codes.{setOf, inside}
+use Rattle.letters.specs.Letters.{setOf}
+use Rattle.letters.specs.Sets.{inside}
 
 -- an ASCII letter in upper case; another byte as it is
 unfoldable pub folded : ℕ → ℕ

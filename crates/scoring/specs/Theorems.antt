@@ -8,7 +8,8 @@ use native.Mathlib.Nat.{div-le-of-le-mul, le-div-iff-mul-le, div-mul-le-self, mu
 use lib.Dec.{T, eqb, ltb}
 use lib.ListN.{length, getD, length-append, List·getD-append}
 use borrow.Author.Tests.{lt-ltb, ltb-true, eqb-true}
-use Rattle.primer.specs.Codes.{setOf, inside}
+use Rattle.letters.specs.Letters.{setOf}
+use Rattle.letters.specs.Sets.{inside}
 use Rattle.scoring.specs.Rules.{folded, same, coded, lies}
 use Rattle.scoring.specs.Places.{countBelow, isRight, rightOf, wrongOf, missingOf, surplusOf, tenths, tenthsOf}
 use Rattle.scoring.specs.Counting.{count-le, count-mono, count-same}

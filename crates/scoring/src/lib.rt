@@ -4,8 +4,9 @@ use refusal::Refusal;
 ghost use mathlib.Core.Path.{_≡_};
 ghost use Prim.Native.Nat.{ℕ, _+_, _≤_, _<_, min};
 ghost use lib.ListN.{length, getD};
-ghost use Rattle.primer.specs.Bits.{bit};
-ghost use Rattle.primer.specs.Codes.{setOf};
+ghost use Rattle.letters.specs.Letters.{setOf};
+ghost use Rattle.letters.specs.Sets.{bit};
+ghost use Rattle.letters.specs.Table.{IsTable};
 ghost use Rattle.scoring.specs.Rules.{folded, same, lies, ruleFor};
 ghost use Rattle.scoring.specs.Places.{tenths, scoredAs, scoreBy};
 ghost use Rattle.scoring.specs.Counting.{Counted, agrees};
@@ -49,7 +50,7 @@ fn same_bit(k: u8, t: u8) -> u8
 
 // The same in edition 2.
 fn lies_bit(codes: &[u8; 256], k: u8, t: u8) -> u8
-    requires { ⌜ ((b : ℕ) → b < 256 → getD (now codes) b 0 ≡ setOf b) ⌝ }
+    requires { ⌜ IsTable setOf (now codes) ⌝ }
     ensures { λ r. ⌜ r ≡ bit (lies k t) ⌝ }
 {
     let set = codes[t as usize];
@@ -82,7 +83,7 @@ fn wide(b: u8) -> usize
 
 // How many of n places are right.
 fn run(codes: &[u8; 256], key: &[u8], typed: &[u8], at: usize, n: usize, second: bool) -> usize
-    requires { ⌜ ((b : ℕ) → b < 256 → getD (now codes) b 0 ≡ setOf b) × (at + n ≤ length (now key)) × (at + n ≤ length (now typed)) ⌝ }
+    requires { ⌜ IsTable setOf (now codes) × (at + n ≤ length (now key)) × (at + n ≤ length (now typed)) ⌝ }
     ensures { λ r. ⌜ Counted (agrees (ruleFor second) (now (key .entry)) (now (typed .entry))) at n r ⌝ }
 {
     let mut right: usize = 0;
@@ -95,7 +96,7 @@ fn run(codes: &[u8; 256], key: &[u8], typed: &[u8], at: usize, n: usize, second:
 }
 
 fn right_bit(codes: &[u8; 256], k: u8, t: u8, second: bool) -> u8
-    requires { ⌜ ((b : ℕ) → b < 256 → getD (now codes) b 0 ≡ setOf b) ⌝ }
+    requires { ⌜ IsTable setOf (now codes) ⌝ }
     ensures { λ r. ⌜ r ≡ bit (ruleFor second k t) ⌝ }
 {
     if second {
@@ -106,7 +107,7 @@ fn right_bit(codes: &[u8; 256], k: u8, t: u8, second: bool) -> u8
 
 // How many of 32 places are right: what edition 1 takes, edition 2 takes too.
 fn block(codes: &[u8; 256], key: &[u8], typed: &[u8], at: usize, second: bool) -> usize
-    requires { ⌜ ((b : ℕ) → b < 256 → getD (now codes) b 0 ≡ setOf b) × (at + 32 ≤ length (now key)) × (at + 32 ≤ length (now typed)) ⌝ }
+    requires { ⌜ IsTable setOf (now codes) × (at + 32 ≤ length (now key)) × (at + 32 ≤ length (now typed)) ⌝ }
     ensures { λ r. ⌜ Counted (agrees (ruleFor second) (now (key .entry)) (now (typed .entry))) at 32 r ⌝ }
 {
     let all = same32(key, typed, at);
@@ -124,7 +125,7 @@ fn right_in(key: &[u8], typed: &[u8], n: usize, second: bool) -> usize
     requires { ⌜ (n ≤ length (now key)) × (n ≤ length (now typed)) ⌝ }
     ensures { λ r. ⌜ Counted (agrees (ruleFor second) (now (key .entry)) (now (typed .entry))) 0 n r ⌝ }
 {
-    let codes = primer::codes();
+    let codes = letters::sets();
     let mut right: usize = 0;
     let mut i = 0;
     while 32 <= n - i {

@@ -1,5 +1,5 @@
 -- Laws of the rows of a table. Callers go by these and unfold nothing.
-use Prim.Native.Nat.{ℕ, zero, suc, _+_, _*_, _/_, _≤_, _<_}
+use Prim.Native.Nat.{ℕ, zero, suc, _+_, _-_, _*_, _/_, _≤_, _<_}
 use mathlib.Core.Path.{_≡_, refl, ap, sym, _∙_}
 use mathlib.Core.Logic.{_≢_, _⊎_, inl, inr}
 use mathlib.Core.List.{List, [], _∷_, _++_, append-assoc}
@@ -79,7 +79,7 @@ pub row-like : (t u : List ℕ) (r s : ℕ) → ((j : ℕ) → j < rowWords → 
 unfolding rowAt
 row-like t u r s h =
     let z : getD t (r * rowWords) 0 ≡ getD u (s * rowWords) 0 = simp add-zero at (h 0 (lit< tt)) in
-    rw (z, h 1 (lit< tt), h 2 (lit< tt), h 3 (lit< tt), h 4 (lit< tt), h 5 (lit< tt))
+    rw (z, h 1 (lit< tt), h 2 (lit< tt), h 3 (lit< tt), h 4 (lit< tt), h 5 (lit< tt), h 6 (lit< tt), h 7 (lit< tt))
 
 -- a row is inside its table
 pub row-within : (t : List ℕ) (r : ℕ) → r < rowCount t → r * rowWords + rowWords ≤ length t
@@ -188,6 +188,20 @@ module _ (t : List ℕ) (r : ℕ) where
       go true h q = let z : _≡_ {A = ℕ} 0 1 = cc in absurd (omega arith)
       go false h q = (ltb-false _ _ h, cc)
 
+-- ---- spans
+
+-- a span ends past some bytes: by its start, and by what is left behind its start
+module _ (bytes start n : ℕ) where
+  pub past-start : bytes < start → true ≡ ltb bytes (start + n)
+  past-start h = sym (lt-ltb bytes (start + n) (omega arith))
+
+  pub past-end : start ≤ bytes → ltb (bytes - start) n ≡ ltb bytes (start + n)
+  past-end h = go (ltb (bytes - start) n) refl
+    where
+      go : (t : Bool) → ltb (bytes - start) n ≡ t → t ≡ ltb bytes (start + n)
+      go true e = sym (lt-ltb bytes (start + n) (omega (arith, ltb-true (bytes - start) n e)))
+      go false e = sym (le-ltb bytes (start + n) (omega (arith, ltb-false (bytes - start) n e)))
+
 -- ---- reading a row
 
 module _ (r : ℕ) (x : Record) where
@@ -204,14 +218,24 @@ module _ (r : ℕ) (x : Record) where
   unfolding soundRow
   sound-row b w = rw (ne-eqb _ _ b, ne-eqb _ _ w)
 
-  -- by its name
-  pub name-outside : (bytes : ℕ) → bytes < x .«name_start» + x .«name_length» → badRow r ≡ namedIn bytes r (held.Row x)
-  unfolding namedIn
-  name-outside bytes h = rw (lt-ltb _ _ h)
+  -- by its name and its description
+  module _ (bytes : ℕ) where
+    pub name-outside : ltb bytes (x .«name_start» + x .«name_length») ≡ true → badRow r ≡ namedIn bytes r (held.Row x)
+    unfolding namedIn
+    name-outside h = rw h
 
-  pub name-inside : (bytes : ℕ) → x .«name_start» + x .«name_length» ≤ bytes → held.Row x ≡ namedIn bytes r (held.Row x)
-  unfolding namedIn
-  name-inside bytes h = rw (le-ltb _ _ h)
+    pub description-outside : ltb bytes (x .«name_start» + x .«name_length») ≡ false → ltb bytes (x .«description_start» + x .«description_length») ≡ true
+        → badRow r ≡ namedIn bytes r (held.Row x)
+    unfolding namedIn
+    description-outside h k = rw (h, k)
+
+    pub spans-inside : ltb bytes (x .«name_start» + x .«name_length») ≡ false → ltb bytes (x .«description_start» + x .«description_length») ≡ false
+        → held.Row x ≡ namedIn bytes r (held.Row x)
+    unfolding namedIn
+    spans-inside h k = rw (h, k)
+
+    pub name-inside : x .«name_start» + x .«name_length» ≤ bytes → x .«description_start» + x .«description_length» ≤ bytes → held.Row x ≡ namedIn bytes r (held.Row x)
+    name-inside h k = spans-inside (le-ltb _ _ h) (le-ltb _ _ k)
 
 -- what is known of a row that holds a record
 pub record HeldRow (t : List ℕ) (n r : ℕ) (x : Record) : Type 0 where
@@ -264,15 +288,17 @@ module _ (bytes : ℕ) where
   named-of (used.Refused f) x e = let z : _≡_ {A = ℕ} 0 1 = cc in absurd (omega arith)
   named-of (used.Row r y) x e = go (soundRow r y) e
     where
-      row : (z : Record) (b : Bool) → ltb bytes (z .«name_start» + z .«name_length») ≡ b → cond b (badRow r) (held.Row z) ≡ held.Row x → (held.Row z ≡ held.Row x) × (x .«name_start» + x .«name_length» ≤ bytes)
-      row z true h q = let z : _≡_ {A = ℕ} 0 1 = cc in absurd (omega arith)
-      row z false h q =
+      row : (z : Record) (b : Bool) → ltb bytes (z .«name_start» + z .«name_length») ≡ b → (d : Bool) → cond b (badRow r) (cond d (badRow r) (held.Row z)) ≡ held.Row x
+          → (held.Row z ≡ held.Row x) × (x .«name_start» + x .«name_length» ≤ bytes)
+      row z true h d q = let z : _≡_ {A = ℕ} 0 1 = cc in absurd (omega arith)
+      row z false h true q = let z : _≡_ {A = ℕ} 0 1 = cc in absurd (omega arith)
+      row z false h false q =
           let m : z .«name_start» + z .«name_length» ≤ bytes = ltb-false _ _ h in
           let e : z ≡ x = cc in
           (q, rw e at m)
 
       go : (o : Held) → namedIn bytes r o ≡ held.Row x → (o ≡ held.Row x) × (x .«name_start» + x .«name_length» ≤ bytes)
-      go (held.Row z) q = row z (ltb bytes (z .«name_start» + z .«name_length»)) refl q
+      go (held.Row z) q = row z (ltb bytes (z .«name_start» + z .«name_length»)) refl (ltb bytes (z .«description_start» + z .«description_length»)) q
       go (held.Refused f) q = let z : _≡_ {A = ℕ} 0 1 = cc in absurd (omega arith)
 
 module _ (t : List ℕ) (n r : ℕ) where

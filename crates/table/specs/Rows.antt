@@ -21,11 +21,12 @@ use Rattle.table.specs.declared.Stored.the-variants as stored
 
 -- how many numbers a row has
 abbrev pub rowWords : ℕ
-rowWords = 6
+rowWords = 8
 
 -- a record's numbers
 unfoldable pub wordsOf : Record → List ℕ
-wordsOf x = x .«name_start» ∷ x .«name_length» ∷ x .length ∷ x .position .0 ∷ x .«line_bases» ∷ x .«line_width» ∷ []
+wordsOf x =
+    x .«name_start» ∷ x .«name_length» ∷ x .length ∷ x .position .0 ∷ x .«line_bases» ∷ x .«line_width» ∷ x .«description_start» ∷ x .«description_length» ∷ []
 
 -- the numbers of some records, one after another
 unfoldable pub words : List Record → List ℕ
@@ -41,6 +42,8 @@ numbersAt t i = record {
   position = record { 0 = getD t (i + 3) 0 };
   «line_bases» = getD t (i + 4) 0;
   «line_width» = getD t (i + 5) 0;
+  «description_start» = getD t (i + 6) 0;
+  «description_length» = getD t (i + 7) 0;
 }
 
 -- how many whole rows a table has
@@ -78,9 +81,10 @@ unfoldable pub heldOf : InUse → Held
 heldOf (used.Row r x) = soundRow r x
 heldOf (used.Refused f) = held.Refused f
 
--- row r, if it holds a record, whose name has to lie inside so many bytes
+-- row r, if it holds a record, whose name and description have to lie inside so many bytes
 unfoldable pub namedIn : ℕ → ℕ → Held → Held
-namedIn bytes r (held.Row x) = cond (ltb bytes (x .«name_start» + x .«name_length»)) (badRow r) (held.Row x)
+namedIn bytes r (held.Row x) =
+    cond (ltb bytes (x .«name_start» + x .«name_length»)) (badRow r) (cond (ltb bytes (x .«description_start» + x .«description_length»)) (badRow r) (held.Row x))
 namedIn bytes r (held.Refused f) = held.Refused f
 
 -- what a row in use holds, where its name is looked at

@@ -1,7 +1,7 @@
 // The rows of a lent table. A table is numbers, `WORDS` of them to a row, or bytes, eight to a number, low byte first (the module
 // `bytes`); what is left of a last part of a row is ignored and stays. Here alone it is known how many numbers a row has. A row is read as
 // a row in use, which is then judged: 25 refuses a row that is not in use or not in the table, one with line bases or line width 0, and,
-// where names are looked at, a name outside their bytes. A good record that finds no free row is refused (8). A table is filled from its
+// where names are looked at, a name or a description outside their bytes. A good record that finds no free row is refused (8). A table is filled from its
 // first row on: the rows before a refusal stand, and what is behind them stays as it was.
 pub mod bytes;
 mod numbers;
@@ -13,11 +13,12 @@ ghost use mathlib.Core.Path.{_≡_};
 ghost use Prim.Native.Nat.{_+_, _*_, _≤_};
 ghost use lib.ListN.{length};
 ghost use lib.Seq.{sets};
+ghost use lib.Dec.{ltb};
 ghost use Rattle.table.specs.Rows.{rowWords, wordsOf, numbersAt, rowCount, soundRow, namedIn, usedAt, heldOf, namedOf, StoredAt};
 ghost use Rattle.table.specs.Fill.{KeptAs};
 
 // The numbers of a row.
-pub const WORDS: usize = 6;
+pub const WORDS: usize = 8;
 
 // A row in use, by its number and its record; or why there is none.
 pub enum InUse {
@@ -88,6 +89,8 @@ pub(crate) fn read(table: &[u64], row: usize) -> Record
         position: Offset(table[b + 3]),
         line_bases: table[b + 4],
         line_width: table[b + 5],
+        description_start: table[b + 6],
+        description_length: table[b + 7],
     }
 }
 
@@ -103,6 +106,8 @@ pub(crate) fn write(table: &mut [u64], row: usize, x: Record)
     table[b + 3] = x.position.0;
     table[b + 4] = x.line_bases;
     table[b + 5] = x.line_width;
+    table[b + 6] = x.description_start;
+    table[b + 7] = x.description_length;
 }
 
 // Row `row` with its record, of which line bases and line width may not be 0.
@@ -118,15 +123,25 @@ fn sound(row: usize, x: Record) -> Held
     Held::Row(x)
 }
 
-// Row `row` with its record, whose name has to lie inside `bytes` bytes.
+// Does a span end past `bytes` bytes. No sum is made: it may not fit.
+fn outside(bytes: usize, start: u64, length: u64) -> bool
+    ensures { λ r. ⌜ r ≡ ltb bytes (start + length) ⌝ }
+{
+    let all = bytes as u64;
+    if all < start {
+        return true;
+    }
+    all - start < length
+}
+
+// Row `row` with its record, whose name and description have to lie inside `bytes` bytes.
 fn named_in(bytes: usize, row: usize, x: Record) -> Held
     ensures { λ r. ⌜ r ≡ namedIn bytes row (Held.Row x) ⌝ }
 {
-    let all = bytes as u64;
-    if all < x.name_start {
+    if outside(bytes, x.name_start, x.name_length) {
         return bad(row);
     }
-    if all - x.name_start < x.name_length {
+    if outside(bytes, x.description_start, x.description_length) {
         return bad(row);
     }
     Held::Row(x)
@@ -143,7 +158,7 @@ impl InUse {
         }
     }
 
-    // The same where its name is looked at, which is a span of `bytes` bytes.
+    // The same where its name is looked at: it and the description are spans of `bytes` bytes.
     pub fn named(self, bytes: usize) -> Held
         ensures { λ r. ⌜ r ≡ namedOf bytes self ⌝ }
     {

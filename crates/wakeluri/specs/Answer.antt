@@ -55,7 +55,7 @@ abbrev pub noSpan : Span
 noSpan = record { start = 0; length = 0 }
 
 abbrev pub noRecord : Record
-noRecord = record { «name_start» = 0; «name_length» = 0; length = 0; position = record { 0 = 0 }; «line_bases» = 0; «line_width» = 0 }
+noRecord = record { «name_start» = 0; «name_length» = 0; length = 0; position = record { 0 = 0 }; «line_bases» = 0; «line_width» = 0; «description_start» = 0; «description_length» = 0 }
 
 -- 1 for yes, 0 for no
 abbrev pub flagOf : Bool → ℕ
@@ -94,6 +94,8 @@ rowTold n found next plain x = record {
   position = x .position .0;
   «line_bases» = x .«line_bases»;
   «line_width» = x .«line_width»;
+  «description_start» = x .«description_start»;
+  «description_length» = x .«description_length»;
 }
 
 -- ---- a count and a place

@@ -34,7 +34,7 @@ filledTold f t = leaves (filledAnswer (length (f .rows)) (f .stop)) (withNumbers
 unfoldable pub lineTold : List ℕ → ℕ → SpanAnswer
 lineTold s at = cond (overLimit (length s)) (spanOf (numbersOf TooLong) 0 noSpan 0) (lineAnswer (readLine s (record { at = at })))
 
--- the six numbers of a row, as they are told
+-- the numbers of a row, as they are told
 abbrev pub toldRow : RowAnswer → Record
 toldRow a = record {
   «name_start» = a .«name_start»;
@@ -43,4 +43,6 @@ toldRow a = record {
   position = record { 0 = a .position };
   «line_bases» = a .«line_bases»;
   «line_width» = a .«line_width»;
+  «description_start» = a .«description_start»;
+  «description_length» = a .«description_length»;
 }

@@ -65,6 +65,8 @@ pub struct RowAnswer {
     pub position: u64,
     pub line_bases: u64,
     pub line_width: u64,
+    pub description_start: u64,
+    pub description_length: u64,
 }
 
 // No refusal.
@@ -159,6 +161,8 @@ fn row_answer(n: Numbers, found: u64, next: usize, plain: u64, x: Record) -> Row
         position: x.position.0,
         line_bases: x.line_bases,
         line_width: x.line_width,
+        description_start: x.description_start,
+        description_length: x.description_length,
     }
 }
 

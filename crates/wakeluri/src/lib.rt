@@ -4,6 +4,7 @@
 pub mod answer;
 pub mod bases;
 pub mod files;
+pub mod primers;
 pub mod rows;
 pub mod scan;
 pub mod text;

@@ -26,6 +26,11 @@ fn counted(answer: entry::Answer) -> Answer {
     told(answer.no(), answer.count)
 }
 
+/// A place, or none.
+fn placed(answer: entry::Answer) -> Answer {
+    told(answer.no(), (answer.count != 0).then_some(answer.next))
+}
+
 /// The numbers of a row, and one more.
 fn row(row: entry::Row, words: usize, more: Option<u64>) -> Vec<Value> {
     [Numbers(row.row()[..words].to_vec())].into_iter().chain(more.map(Number)).collect()
@@ -102,9 +107,13 @@ impl Speaker for Library {
             }
             ("cmp", [Bytes(bases), Output(out)]) => counted(entry::complement(bases, out)),
             ("rev", [Bytes(bases), Output(out)]) => counted(entry::reverse_complement(bases, out)),
+            ("deg", [Bytes(primer)]) => counted(entry::degeneracy(primer)),
+            ("prm", [Bytes(primer), Bytes(text)]) => placed(entry::find_primer(primer, text, 0)),
+            ("prn", [Bytes(primer), Bytes(text), Number(from)]) => placed(entry::find_primer(primer, text, *from)),
             ("wfa", [Bytes(name), MaybeBytes(description), Bytes(bases), Number(width), Output(out)]) => {
                 counted(entry::write_record(name, description.as_deref(), bases, *width, out))
             }
+            ("wsq", [Bytes(bases), Number(width), Output(out)]) => counted(entry::write_sequence(bases, *width, out)),
             ("chk", [Bytes(fasta), Bytes(index)]) => told(entry::check(fasta, index).no(), ()),
             ("prg", [Bytes(input)]) => told(None, vec![Bytes(output(self.program.as_ref()?, input)?)]),
             _ => return None,

@@ -249,6 +249,41 @@ fn complement(plan: &Plan, report: &mut Report, what: &str, goal: f64, letters: 
     }
 }
 
+/// Times the writing of a record in lines of a width. The copy beside it is of the bytes that are written.
+fn write(plan: &Plan, report: &mut Report, width: usize, bases: usize) {
+    let record = original::Record::new(Numbers::new(6).letters(b"ACGT", bases));
+    let what = format!("write, lines of {width}");
+    let expected = record.written(width, 0);
+    let [mut lent, mut copied] = [(); 2].map(|()| room(expected.len()));
+    let into = |lent: &mut [u8]| {
+        let bases = std::hint::black_box(record.bases());
+        wakeluri::write_record_into(b"s", None, bases, width as u64, lent).expect("a good record") as u64
+    };
+    same(&what, "the counts", into(&mut lent), expected.len() as u64);
+    same(&what, "the bytes", &lent, &expected);
+    let [copy, sum] = limits(&expected, &mut copied);
+    let original = || std::hint::black_box(record.written(width, expected.len())).len() as u64;
+    let fresh = || {
+        let written = wakeluri::write_record(b"s", None, std::hint::black_box(record.bases()), width as u64);
+        std::hint::black_box(written.expect("a good record")).len() as u64
+    };
+    let mut works: [Work; 5] = [Box::new(original), Box::new(|| into(&mut lent)), Box::new(fresh), copy, sum];
+    let taken = in_turns(plan.rounds(), &mut works);
+    let [by_crate, into, fresh, copy, sum] = taken[..] else { unreachable!("five works") };
+    for (how, ours) in [("a lent room", into), ("a fresh vector", fresh)] {
+        report.compared.push(Compared {
+            work: format!("{what}, into {how}"),
+            size: format!("{} bases", report::number(bases)),
+            goal: 2.0,
+            bytes: expected.len(),
+            ours,
+            by_crate,
+            by_c: None,
+            limits: Some([copy, sum]),
+        });
+    }
+}
+
 /// Times the reading and the writing of an index text.
 fn index_text(plan: &Plan, report: &mut Report, fasta: &[u8]) {
     let kept = over_crate::Kept::new(fasta);
@@ -380,6 +415,11 @@ fn run(plan: &Plan) -> Report {
             complement(plan, &mut report, "all letters", 8.0, ALL_LETTERS, bases);
         }
     }
+    if part("write") {
+        for bases in [MEGABYTE, plan.size(100 * MEGABYTE, 10 * MEGABYTE)] {
+            write(plan, &mut report, 60, bases);
+        }
+    }
     if part("text") {
         index_text(plan, &mut report, &records);
     }
@@ -391,7 +431,7 @@ fn run(plan: &Plan) -> Report {
 
 fn main() {
     let Some(plan) = Plan::of_words(std::env::args().skip(1)) else {
-        eprintln!("usage: benches [--quick] [--only lines|records|long|reads|names|complement|text|growth]");
+        eprintln!("usage: benches [--quick] [--only lines|records|long|reads|names|complement|write|text|growth]");
         std::process::exit(2);
     };
     print!("{}", run(&plan));
@@ -413,11 +453,12 @@ mod tests {
             index_text(&QUICK, &mut report, &lines.records(50));
             reads(&QUICK, &mut report, &lines.genome(4000), 100, [1.0; 2]);
             complement(&QUICK, &mut report, "all letters", 1.0, ALL_LETTERS, 5000);
+            write(&QUICK, &mut report, 7, 5000);
             look_ups(&QUICK, &mut report, &lines.records(50), 20);
             look_ups(&QUICK, &mut report, &lines.records(20), 50);
             map(&QUICK, &mut report, &lines.records(50), 20);
         }
-        assert_eq!((report.compared.len(), report.checked.len(), report.handed_out.len()), (26, 4, 2));
+        assert_eq!((report.compared.len(), report.checked.len(), report.handed_out.len()), (30, 4, 2));
         let told = report.to_string();
         assert!(told.contains("| index, records | ") && told.contains(" 50 records | 1 | "), "{told}");
     }

@@ -114,6 +114,31 @@ macro_rules! original {
 original!(over_crate, original);
 original!(over_c, original_libc);
 
+/// A record, kept to be written.
+pub struct Record(original::Record);
+
+impl Record {
+    /// Of some bases, under the name `s`.
+    pub fn new(bases: Vec<u8>) -> Self {
+        let definition = original::record::Definition::new("s", None);
+        Self(original::Record::new(definition, bases.into()))
+    }
+
+    /// The record in lines of a width, in a vector that has room for so many bytes from the start.
+    pub fn written(&self, width: usize, bytes: usize) -> Vec<u8> {
+        let width = std::num::NonZero::new(width).expect("a width");
+        let builder = original::io::writer::Builder::default().set_line_base_count(width);
+        let mut writer = builder.build_from_writer(Vec::with_capacity(bytes));
+        writer.write_record(std::hint::black_box(&self.0)).expect("written");
+        writer.into_inner()
+    }
+
+    /// The bases.
+    pub fn bases(&self) -> &[u8] {
+        self.0.sequence().as_ref()
+    }
+}
+
 /// Some bases, kept as the original's sequence.
 pub struct Sequence(original::record::Sequence);
 

@@ -12,7 +12,9 @@ Examples:
   wakeluri read ref.fa chr1:101-200         exactly those hundred bases
   wakeluri read ref.fa --regions sheet.txt  all regions of a sheet, or none
   wakeluri revcomp ref.fa chr1:101-200      their reverse complement
+  wakeluri primer GARNTYC ref.fa            where a primer matches, on both strands
   wakeluri wrap ref.fa -w 60 -o new.fa      the file in lines of 60 bases
+  wakeluri list ref.fa                      its records, with their descriptions
 
 Status: 0 answered, 1 refused, 2 the command makes no sense, 3 a file can't be read or written.
 After a refusal the last line on standard error is for a program: refused 17 (length 6)";
@@ -51,6 +53,14 @@ Examples:
 With an index (ref.fa.fai, or --index) it is first checked with the whole file; without one, one is made in memory.
 Nothing is written before all regions are known to be good.";
 
+const LIST_EXAMPLES: &str = "\
+Examples:
+  wakeluri list ref.fa                name, length and description of each record
+  wakeluri list ref.fa mitochondrion  those whose name or description holds this, in either case
+  wakeluri list ref.fa --json         a JSON object for each
+
+It needs no index. A record without a description has nothing behind its last tab.";
+
 const WRAP_EXAMPLES: &str = "\
 Examples:
   wakeluri wrap ref.fa --width 60 -o new.fa          every line has 60 bases, but the last of a record
@@ -76,6 +86,17 @@ Examples:
   echo AACG | wakeluri revcomp          of bases on standard input, here: CGTT
 
 Bases without a '>' line: one line, or --each-line, or --joined.";
+
+const PRIMER_EXAMPLES: &str = "\
+Examples:
+  wakeluri primer GARNTYC ref.fa                  every place in every record, on both strands
+  wakeluri primer GARNTYC ref.fa chr1:1-100,000   in a region
+  wakeluri primer GARNTYC ref.fa --bed            as BED, for other tools
+  wakeluri primer --count GARNTYC                 how many plain sequences it stands for, here: 8
+
+A primer has 1 to 31 letters of ACGTU and MRWSYKVHDBN, the IUPAC codes; small ones too, and U is T. It is found where the bases of each
+letter of the file lie among those of its letter: N is found by N alone. A gap, or another byte, is in no match.
+A line has the record, the first and the last base counted from 1, the strand, and the bases as that strand has them. Places may overlap.";
 
 fn file() -> Arg {
     Arg::new("file")
@@ -110,6 +131,19 @@ fn regions() -> Arg {
 }
 
 fn reading(command: Command) -> Command {
+    searching(command).arg(
+        Arg::new("width")
+            .long("width")
+            .short('w')
+            .value_name("BASES")
+            .help("bases to a line; 0 is all in one")
+            .value_parser(value_parser!(usize))
+            .default_value("60"),
+    )
+}
+
+/// What regions are looked for in.
+fn searching(command: Command) -> Command {
     command
         .arg(
             Arg::new("regions")
@@ -123,15 +157,6 @@ fn reading(command: Command) -> Command {
         .arg(index_file().long("index").short('i'))
         .arg(flag("unchecked").help("use the index as it is, without checking it with the file"))
         .arg(strict())
-        .arg(
-            Arg::new("width")
-                .long("width")
-                .short('w')
-                .value_name("BASES")
-                .help("bases to a line; 0 is all in one")
-                .value_parser(value_parser!(usize))
-                .default_value("60"),
-        )
 }
 
 fn turning(command: Command) -> Command {
@@ -191,6 +216,19 @@ pub fn command() -> Command {
                 .arg(regions().required_unless_present("regions")),
         ))
         .subcommand(
+            Command::new("list")
+                .about("List the records of a file: name, length and description")
+                .after_help(LIST_EXAMPLES)
+                .arg(file().required(true))
+                .arg(
+                    Arg::new("pattern")
+                        .value_name("TEXT")
+                        .help("only records whose name or description holds this, letters of either case alike")
+                        .value_parser(value_parser!(OsString)),
+                )
+                .arg(strict()),
+        )
+        .subcommand(
             Command::new("wrap")
                 .about("Write a file anew, in lines of one width")
                 .after_help(WRAP_EXAMPLES)
@@ -221,6 +259,26 @@ pub fn command() -> Command {
         .subcommand(turning(
             Command::new("revcomp").about("The reverse complement, of reads or of bases").after_help(REVCOMP_EXAMPLES),
         ))
+        .subcommand(
+            searching(Command::new("primer"))
+                .about("Find a primer with ambiguous letters on both strands, or count what it stands for")
+                .after_help(PRIMER_EXAMPLES)
+                .arg(
+                    Arg::new("primer")
+                        .value_name("PRIMER")
+                        .help("1 to 31 letters")
+                        .required(true)
+                        .value_parser(value_parser!(OsString)),
+                )
+                .arg(file().required_unless_present("count"))
+                .arg(regions())
+                .arg(flag("bed").help("six columns of BED: positions from 0, the end not included"))
+                .arg(
+                    flag("count")
+                        .help("say how many plain sequences the primer stands for; no file is read")
+                        .conflicts_with_all(["file", "bed"]),
+                ),
+        )
         .subcommand(Command::new("completions").hide(true).about("Write the completions of a shell").arg(
             Arg::new("shell").value_name("SHELL").required(true).value_parser(value_parser!(clap_complete::Shell)),
         ))

@@ -26,11 +26,13 @@ pub enum Failure {
 pub struct Refused {
     /// What was asked and what is there, with the file, line and byte.
     pub words: String,
+    /// The line at fault, with a caret under the byte; nothing where no line is shown.
+    pub shown: String,
     /// What to do next.
     pub next: String,
     /// The number and its two numbers.
     pub refusal: Refusal,
-    /// The file.
+    /// The file, if one is at fault.
     pub file: String,
     /// The line of the file, counted from 1, and the byte, from 0, where one is at fault.
     pub place: Option<(u64, u64)>,
@@ -67,9 +69,12 @@ impl Failure {
         match self {
             Self::Gone => String::new(),
             Self::Refused(refused) if json => {
-                let Refused { words, next, refusal, file, place, region, sheet } = &**refused;
+                let Refused { words, shown: _, next, refusal, file, place, region, sheet } = &**refused;
                 let mut object = Object::new();
-                object.number("status", status).text("file", file);
+                object.number("status", status);
+                if !file.is_empty() {
+                    object.text("file", file);
+                }
                 if let Some(region) = region {
                     object.text("region", region);
                 }
@@ -87,7 +92,8 @@ impl Failure {
                 object.line()
             }
             Self::Refused(refused) => {
-                format!("wakeluri: {}\n{}{}\n", refused.words, indented(&refused.next), refused.refusal.code())
+                let Refused { words, shown, next, refusal, .. } = &**refused;
+                format!("wakeluri: {words}\n{}{}{}\n", indented(shown), indented(next), refusal.code())
             }
             Self::Usage(words) | Self::InputOutput { words, .. } if json => {
                 let mut object = Object::new();

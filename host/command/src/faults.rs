@@ -13,7 +13,28 @@ fn refused(input: &Input, line: Option<Line>, what: &str, next: String, refusal:
         Some((line, byte)) => format!("{file}, line {} (byte {}): {what}", commas(line), commas(byte)),
         None => format!("{file}: {what}"),
     };
-    Failure::Refused(Box::new(Refused { words, next, refusal, file, place, region: None, sheet: None }))
+    let shown = String::new();
+    Failure::Refused(Box::new(Refused { words, shown, next, refusal, file, place, region: None, sheet: None }))
+}
+
+/// A definition line that does not read: where, by the proved code's own offset, and the line with a caret there.
+fn refused_definition(input: &Input, line: Line, offset: u64, refusal: Refusal) -> Failure {
+    let file = input.bytes();
+    let (what, next) = bad_definition(file, line, refusal.number);
+    let words = format!("{}, line {} (byte {}): {what}", input.shown, commas(line.number), commas(offset));
+    let shown = place::pointed(file, line, usize::try_from(offset).unwrap_or(line.start), columns());
+    let (file, place) = (input.shown.clone(), Some((line.number, offset)));
+    Failure::Refused(Box::new(Refused { words, shown, next, refusal, file, place, region: None, sheet: None }))
+}
+
+/// How wide the screen is that messages go to; 80 where nobody says.
+fn columns() -> usize {
+    let mut size = libc::winsize { ws_row: 0, ws_col: 0, ws_xpixel: 0, ws_ypixel: 0 };
+    // SAFETY: the call fills the struct, or leaves it.
+    let told = unsafe { libc::ioctl(libc::STDERR_FILENO, libc::TIOCGWINSZ, &raw mut size) };
+    let by_name = || std::env::var("COLUMNS").ok().and_then(|columns| columns.parse().ok());
+    let by_screen = (told == 0 && size.ws_col > 0).then_some(usize::from(size.ws_col));
+    by_screen.or_else(by_name).unwrap_or(80)
 }
 
 /// A refusal of the indexer, in words.
@@ -22,7 +43,7 @@ pub fn not_indexed(fasta: &Input, rows: &Table<'_>, refusal: Refusal) -> Failure
     let definition = if refusal.number == 1 { None } else { place::refused_definition(file, rows) };
     let mut at = definition;
     let (what, next) = match (refusal.number, definition) {
-        (2..=4, Some(line)) => bad_definition(file, line, refusal.number),
+        (2..=4, Some(line)) => return refused_definition(fasta, line, refusal.first, refusal),
         (5, Some(definition)) => {
             let name = name_of(file, definition);
             at = place::sequence(file, definition).next().or(definition.into());
@@ -115,14 +136,8 @@ fn no_index_fits(file: &[u8], definition: Line, record: &str, refusal: Refusal) 
     let (first, second) = (with_bases().next()?, with_bases().nth(1)?);
     let line = with_bases().find(|line| byte < line.start + line.width)?;
     let before = with_bases().take_while(|other| other.start < line.start).last()?;
-    let by_first = Record {
-        name: b"",
-        length: base,
-        position: first.start as u64,
-        line_bases: first.bases as u64,
-        line_width: (second.start - first.start) as u64,
-    };
-    let expected = place::said(&by_first, base)?;
+    let by_first = [first.start as u64, first.bases as u64, (second.start - first.start) as u64];
+    let expected = place::said(by_first, base)?;
     let why = if byte > line.start {
         let (bases, first) = (count(line.bases as u64, "base"), commas(first.bases as u64));
         format!("this line has {bases}, and the first has {first}")
@@ -150,7 +165,7 @@ pub fn not_wrapped(fasta: &Input, line: Line, refusal: Refusal) -> Failure {
     let file = fasta.bytes();
     let text = place::text(file, line);
     let (what, next) = match (refusal.number, text.iter().position(|byte| matches!(byte, b'>' | b'\r'))) {
-        (2..=4, _) => bad_definition(file, line, refusal.number),
+        (2..=4, _) => return refused_definition(fasta, line, line.start as u64 + refusal.first, refusal),
         (30, Some(place)) => (
             format!(
                 "base {} of the line is a '>' or a carriage return, which would not read back from lines of another width",
@@ -240,7 +255,8 @@ impl<'p> Pair<'p> {
 
     /// A base is not where the line says.
     fn other_place(&self, base: u64) -> String {
-        let said = match self.said.and_then(|said| place::said(&said, base)) {
+        let said = match self.said.and_then(|said| place::said([said.position, said.line_bases, said.line_width], base))
+        {
             Some(byte) => format!("at byte {}", commas(byte)),
             None => "farther than a file can be long".to_string(),
         };
@@ -280,8 +296,7 @@ pub fn not_accepted(fasta: &Input, index: &Input, refusal: Refusal) -> Failure {
     }
     let pair = Pair::of(fasta, index, refusal.first);
     if let (2..=4, Some(line)) = (refusal.number, pair.definition) {
-        let (what, next) = bad_definition(fasta.bytes(), line, refusal.number);
-        return refused(fasta, Some(line), &what, next, refusal);
+        return refused_definition(fasta, line, refusal.second, refusal);
     }
     let (line, what) = match refusal.number {
         19 => {

@@ -7,11 +7,13 @@ mod failure;
 mod faults;
 mod input;
 mod json;
+mod list;
 mod names;
 mod narrow;
 mod nearest;
 mod output;
 mod place;
+mod primer;
 mod progress;
 mod read;
 mod region;
@@ -27,6 +29,7 @@ use json::Object;
 use narrow::Narrow;
 use output::{Answers, Output};
 use place::count;
+use primer::{Primer, counted};
 use read::{Asked, Form, Source, Turn};
 use std::ffi::OsString;
 use std::io::Write;
@@ -34,6 +37,7 @@ use std::os::unix::ffi::OsStrExt;
 use std::path::{Path, PathBuf};
 use std::process::ExitCode;
 use unusual::Unusual;
+use wakeluri::Table;
 use work::Rule;
 use wrap::Wrapping;
 
@@ -70,7 +74,9 @@ fn main() -> ExitCode {
         Some(("read", words)) => read(words, Turn::AsIs, common),
         Some(("complement", words)) => complement(words, Turn::Complement, common),
         Some(("revcomp", words)) => complement(words, Turn::Reverse, common),
+        Some(("list", words)) => list(words, common),
         Some(("wrap", words)) => wrap(words, common),
+        Some(("primer", words)) => primer(words, common),
         Some(("completions", words)) => completions(words),
         _ => Err(Failure::Usage("there is no such command".to_string())),
     };
@@ -119,6 +125,7 @@ fn index(words: &ArgMatches, common: Common) -> Result<(), Failure> {
         let words = format!("{}: {}", fasta.shown, refusal.words());
         Failure::Refused(Box::new(Refused {
             words,
+            shown: String::new(),
             next: String::new(),
             refusal,
             file: fasta.shown.clone(),
@@ -145,6 +152,14 @@ fn index(words: &ArgMatches, common: Common) -> Result<(), Failure> {
     }
     let records = format!("{}{}", count(records, "record"), unusual.told());
     write(format!("{shown}: {records}, {}\n", count(bases, "base")).as_bytes())
+}
+
+fn list(words: &ArgMatches, common: Common) -> Result<(), Failure> {
+    let file = path(words, "file").unwrap_or(Path::new("-"));
+    let fasta = common.open(file, common.how)?;
+    let rows = work::index(&fasta, rule(words))?;
+    let pattern = words.get_one::<OsString>("pattern").map(|pattern| pattern.as_bytes());
+    list::list(&fasta, &rows, list::Form { pattern, json: common.json })
 }
 
 fn wrap(words: &ArgMatches, common: Common) -> Result<(), Failure> {
@@ -227,6 +242,27 @@ fn read(words: &ArgMatches, turn: Turn, common: Common) -> Result<(), Failure> {
     answer(words, file, &fasta, asked, turn, common)
 }
 
+/// The index that is named, or the one beside the file, if there is one.
+fn index_beside(words: &ArgMatches, file: &Path, common: Common) -> Result<Option<Input>, Failure> {
+    match path(words, "index") {
+        Some(index) => open_index(index, file, common).map(Some),
+        None if is_placeless(file) || !index_of(file).exists() => Ok(None),
+        None => open_index(&index_of(file), file, common).map(Some),
+    }
+}
+
+fn warn_of_unchecked(index: &Input, fasta: &Input) {
+    let (index, fasta) = (&index.shown, &fasta.shown);
+    let told = format!("{index} was not checked with {fasta}: if it is wrong, so are the bases");
+    let _ = writeln!(std::io::stderr(), "wakeluri: warning: {told}");
+}
+
+/// Every record, where none is asked for.
+fn all_records<'a>(rows: &Table<'a>) -> Vec<Asked<'a>> {
+    let whole = |(row, text)| Asked { text, sheet: None, row: Some(row) };
+    rows.rows().zip(rows.records().map(|record| record.name)).map(whole).collect()
+}
+
 /// Reads regions of a file, or all its records where none is asked for.
 fn answer(
     words: &ArgMatches,
@@ -236,22 +272,13 @@ fn answer(
     turn: Turn,
     common: Common,
 ) -> Result<(), Failure> {
-    let index = match path(words, "index") {
-        Some(index) => Some(open_index(index, file, common)?),
-        None if is_placeless(file) || !index_of(file).exists() => None,
-        None => Some(open_index(&index_of(file), file, common)?),
-    };
+    let index = index_beside(words, file, common)?;
     let width = words.get_one::<usize>("width").copied().unwrap_or(60);
     let form = Form { turn, width, json: common.json };
     let rows = match &index {
         None => work::index(fasta, rule(words))?,
         Some(index) if words.get_flag("unchecked") => {
-            let _ = writeln!(
-                std::io::stderr(),
-                "wakeluri: warning: {} was not checked with {}: if it is wrong, so are the bases",
-                index.shown,
-                fasta.shown
-            );
+            warn_of_unchecked(index, fasta);
             work::read_index(index)?
         }
         Some(index) => {
@@ -263,12 +290,7 @@ fn answer(
             work::read_index(index)?
         }
     };
-    let asked: Vec<Asked<'_>> = if asked.is_empty() {
-        let whole = |(row, text)| Asked { text, sheet: None, row: Some(row) };
-        rows.rows().zip(rows.records().map(|record| record.name)).map(whole).collect()
-    } else {
-        asked
-    };
+    let asked = if asked.is_empty() { all_records(&rows) } else { asked };
     let source = Source { fasta, rows: &rows, numbers: None };
     source.give(&source.regions(&asked)?, form)
 }
@@ -340,6 +362,7 @@ fn complement(words: &ArgMatches, turn: Turn, common: Common) -> Result<(), Fail
             let place = None;
             Failure::Refused(Box::new(Refused {
                 words,
+                shown: String::new(),
                 next,
                 refusal,
                 file: fasta.shown.clone(),
@@ -359,6 +382,39 @@ fn complement(words: &ArgMatches, turn: Turn, common: Common) -> Result<(), Fail
     }
     fasta.unchanged()?;
     write(&answer)
+}
+
+fn primer(words: &ArgMatches, common: Common) -> Result<(), Failure> {
+    let letters = words.get_one::<OsString>("primer").map(|letters| letters.as_bytes()).unwrap_or_default();
+    let primer = Primer::of(letters)?;
+    if words.get_flag("count") {
+        return write(counted(&primer, common.json).as_bytes());
+    }
+    let form = match (common.json, words.get_flag("bed")) {
+        (true, true) => return Err(Failure::Usage("--json and --bed are two forms: say which".to_string())),
+        (true, false) => primer::Form::Json,
+        (false, true) => primer::Form::Bed,
+        (false, false) => primer::Form::Text,
+    };
+    let file = path(words, "file").unwrap_or(Path::new("-"));
+    let sheet = open_sheet(words, file, common)?;
+    let asked = asked(words, sheet.as_ref())?;
+    let fasta = common.open(file, common.how)?;
+    let index = index_beside(words, file, common)?;
+    let rows = match &index {
+        None => work::index(&fasta, rule(words))?,
+        Some(index) if words.get_flag("unchecked") => {
+            warn_of_unchecked(index, &fasta);
+            work::read_index(index)?
+        }
+        Some(index) => {
+            work::check(&fasta, index)?;
+            work::read_index(index)?
+        }
+    };
+    let asked = if asked.is_empty() { all_records(&rows) } else { asked };
+    let source = Source { fasta: &fasta, rows: &rows, numbers: None };
+    source.find(&source.regions(&asked)?, &primer, form)
 }
 
 fn completions(words: &ArgMatches) -> Result<(), Failure> {

@@ -1,7 +1,7 @@
 //! Where in a file a fault lies, for messages. It judges nothing: the proved code has refused by then.
 
+use wakeluri::Table;
 use wakeluri::entry::ROW_BYTES;
-use wakeluri::{Record, Table};
 
 /// A line of a file.
 #[derive(Clone, Copy, Debug, Eq, PartialEq)]
@@ -102,11 +102,25 @@ pub fn about(file: &[u8], line: Line, byte: usize) -> String {
     format!("{}{}{}", dots(from > 0), quoted(part), dots(to < line.bases))
 }
 
+/// A line of a file, and below it a caret under a byte of it; what does not fit on a screen of so many columns is left out.
+pub fn pointed(file: &[u8], line: Line, byte: usize, columns: usize) -> String {
+    let text = text(file, line).trim_ascii_end();
+    let (at, room) = (byte.saturating_sub(line.start).min(text.len()), columns.saturating_sub(8).max(20));
+    // letters of a message, not bytes: a byte that is no letter takes four of them
+    let shown = |from: usize, to: usize| quoted(text.get(from..to).unwrap_or_default());
+    let from = (0..=at).find(|from| shown(*from, at).len() < room / 2).unwrap_or(at);
+    let most = text.len().min(from + room);
+    let to = (at..=most).rev().find(|to| shown(from, *to).len() <= room).unwrap_or(at);
+    let (front, back) = (if from > 0 { ".." } else { "" }, if to < text.len() { ".." } else { "" });
+    let before = " ".repeat(front.len() + shown(from, at).chars().count());
+    format!("{front}{}{back}\n{before}^", shown(from, to))
+}
+
 /// The offset at which an index line says that a base lies, if 64 bits hold it.
-pub fn said(record: &Record<'_>, base: u64) -> Option<u64> {
+pub fn said([position, line_bases, line_width]: [u64; 3], base: u64) -> Option<u64> {
     let before = base.checked_sub(1)?;
-    let lines = before.checked_div(record.line_bases)?.checked_mul(record.line_width)?;
-    record.position.checked_add(lines)?.checked_add(before.checked_rem(record.line_bases)?)
+    let lines = before.checked_div(line_bases)?.checked_mul(line_width)?;
+    position.checked_add(lines)?.checked_add(before.checked_rem(line_bases)?)
 }
 
 /// A name or some bytes in a message: letters as they are, all else escaped.

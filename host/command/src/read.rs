@@ -67,16 +67,17 @@ pub struct Asked<'a> {
 #[derive(Clone, Copy, Debug)]
 pub struct Region<'a> {
     asked: Asked<'a>,
-    row: Row,
+    /// The record's row.
+    pub row: Row,
     /// The first base.
-    start: u64,
+    pub start: u64,
     /// The last.
-    end: u64,
+    pub end: u64,
 }
 
 impl Region<'_> {
     /// How many bases it has: none for a record without any, where all records are meant.
-    fn bases(self) -> u64 {
+    pub fn bases(self) -> u64 {
         if self.end < self.start { 0 } else { (self.end - self.start).saturating_add(1) }
     }
 }
@@ -110,7 +111,16 @@ impl Source<'_> {
         let file = self.fasta.shown.clone();
         let region = Some(quoted(asked.text));
         let sheet = asked.sheet.map(|(sheet, line)| (sheet.to_string(), line));
-        Failure::Refused(Box::new(Refused { words, next, refusal, file, place: None, region, sheet }))
+        Failure::Refused(Box::new(Refused {
+            words,
+            shown: String::new(),
+            next,
+            refusal,
+            file,
+            place: None,
+            region,
+            sheet,
+        }))
     }
 
     /// A region's row and bounds, or why it isn't good.
@@ -257,7 +267,7 @@ impl Source<'_> {
     }
 
     /// Bases of a region, turned.
-    fn piece(self, region: Region<'_>, from: u64, to: u64, turn: Turn) -> Result<Vec<u8>, Failure> {
+    pub fn piece(self, region: Region<'_>, from: u64, to: u64, turn: Turn) -> Result<Vec<u8>, Failure> {
         let bases = self.rows.read_exact(self.fasta.bytes(), region.row, from..=to);
         bases.and_then(|bases| turn.turned(bases)).map_err(|refusal| {
             // places are told as places in the region

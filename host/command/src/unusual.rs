@@ -41,7 +41,10 @@ impl Unusual {
 fn has_blank_line(file: &[u8], rows: &Table<'_>, row: usize, record: &Record<'_>) -> Option<bool> {
     let definition = place::lines(file, place::definition_start(rows, row)?, 0).next()?;
     let end = place::definition_start(rows, row + 1).unwrap_or(file.len());
-    let offset = |base| place::said(record, base).and_then(|offset| usize::try_from(offset).ok());
+    let offset = |base| {
+        place::said([record.position, record.line_bases, record.line_width], base)
+            .and_then(|offset| usize::try_from(offset).ok())
+    };
     let (first, last) = (offset(1)?, offset(record.length)?);
 
     let before = first != definition.start + definition.width;

@@ -29,29 +29,48 @@ fn of_index() {
     for (file, code, words) in [
         (
             &b"\n>s\nAC\n"[..],
-            "refused 2",
+            "refused 2 (offset 0)",
             "f.fa, line 1 (byte 0): a record begins with a line such as '>name', and this line is empty",
         ),
         (
             b"ACGT\n",
-            "refused 3",
+            "refused 3 (offset 0)",
             "f.fa, line 1 (byte 0): a record begins with a line such as '>name', and here stands 'ACGT'",
         ),
-        (b"\x1f\x8b\x08rest", "refused 3", "this is a compressed file"),
-        (b"\xef\xbb\xbf>s\nAC\n", "refused 3", "save the file as UTF-8 without a byte order mark"),
-        (b"\xff\xfe>\0s\0\n\0", "refused 3", "UTF-16"),
+        (b"\x1f\x8b\x08rest", "refused 3 (offset 0)", "this is a compressed file"),
+        (b"\xef\xbb\xbf>s\nAC\n", "refused 3 (offset 0)", "save the file as UTF-8 without a byte order mark"),
+        (b"\xff\xfe>\0s\0\n\0", "refused 3 (offset 0)", "UTF-16"),
         (
             b">s\nAC\n> t\nAC\n",
-            "refused 4",
-            "f.fa, line 3 (byte 6): the definition line has no name right after its '>'",
+            "refused 4 (offset 7)",
+            "f.fa, line 3 (byte 7): the definition line has no name right after its '>'",
         ),
     ] {
         not_indexed(&folder, &[], file, code, &[words]);
         not_indexed(&folder, &["--strict"], file, code, &[words]);
     }
     // behind records that only the complete rule takes
-    let words = "f.fa, line 7 (byte 14): the definition line has no name right after its '>'";
-    not_indexed(&folder, &[], b">s\n\nAC\n\n>t\n>u\n>\n", "refused 4", &[words]);
+    let words = "f.fa, line 7 (byte 15): the definition line has no name right after its '>'";
+    not_indexed(&folder, &[], b">s\n\nAC\n\n>t\n>u\n>\n", "refused 4 (offset 15)", &[words]);
+}
+
+/// The line of a bad definition is shown, cut to a screen's width, with a caret under the byte.
+#[test]
+fn a_bad_definition_line_is_shown() {
+    let folder = Folder::new("caret");
+    folder.write("f.fa", ">s\nAC\n> t and more\nAC\n");
+    let words = "f.fa, line 3 (byte 7): the definition line has no name right after its '>'\n  > t and more\n   ^\n";
+    folder.run(&["index", "f.fa"]).refused("refused 4 (offset 7)", &[words]);
+    folder.write("f.fa.fai", "s\t2\t3\t2\t3\n");
+    folder.run(&["check", "f.fa"]).refused("refused 4 (record 2, offset 7)", &[words]);
+    // a long line is cut, and bytes that are no letters are shown as such
+    let long = [b"A\x01".as_slice(), &[b'C'; 1000], b"\n"].concat();
+    folder.write("f.fa", long);
+    let answer = folder.command(&["index", "f.fa"]).env("COLUMNS", "40").output().expect("it runs");
+    let said = String::from_utf8(answer.stderr).expect("text");
+    let lines: Vec<&str> = said.lines().collect();
+    assert!(lines[1].starts_with("  A\\x01CCC") && lines[1].ends_with("CC..") && lines[1].len() <= 40, "{said}");
+    assert_eq!(lines[2], "  ^");
 }
 
 /// Files that no index can fit: record, line and base are named, the line is shown, and it is said what to do.
@@ -274,17 +293,22 @@ fn of_check() {
             "refused 20 (records 2)",
             "f.fa.fai, line 3 (byte 21): it goes on here, and f.fa has 2 records",
         ),
-        (b"ACGT\n", "", "refused 3 (record 1)", "f.fa, line 1 (byte 0): a record begins with a line such as '>name'"),
+        (
+            b"ACGT\n",
+            "",
+            "refused 3 (record 1, offset 0)",
+            "f.fa, line 1 (byte 0): a record begins with a line such as '>name'",
+        ),
         (
             b">s\nAC\n>\n",
             "s\t2\t3\t2\t3\n",
-            "refused 4 (record 2)",
-            "f.fa, line 3 (byte 6): the definition line has no name",
+            "refused 4 (record 2, offset 7)",
+            "f.fa, line 3 (byte 7): the definition line has no name",
         ),
         (
             b"\n",
             "",
-            "refused 2 (record 1)",
+            "refused 2 (record 1, offset 0)",
             "f.fa, line 1 (byte 0): a record begins with a line such as '>name', and this line is empty",
         ),
     ] {

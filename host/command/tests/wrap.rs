@@ -42,7 +42,7 @@ fn a_bad_definition_line_is_told_before_a_byte_is_written() {
     let folder = Folder::new("wrap-bad");
     folder.write("f.fa", ">s\nAC\n> t\nAC\n");
     let answer = folder.run(&["wrap", "f.fa", "-o", "new.fa"]);
-    assert!(answer.status == Some(1) && answer.err.contains("f.fa, line 3 (byte 6)"), "{answer:?}");
+    assert!(answer.status == Some(1) && answer.err.contains("f.fa, line 3 (byte 7)"), "{answer:?}");
     folder.write("g.fa", "ACGT\n");
     assert!(folder.run(&["wrap", "g.fa"]).err.contains("is it a FASTA file?"));
     folder.write("empty.fa", "");

@@ -3,17 +3,17 @@
 use crate::checker::base_offsets;
 use crate::lines::{bases, definition_at, first_line, from};
 use crate::reads::offset;
-use crate::rows::sequence_lines;
+use crate::rows::{record_row, sequence_lines};
 use crate::{n, no};
 use questions::form::No;
-use questions::row::{Row, row};
+use questions::row::Row;
 
 /// The row of the record at an offset by the complete rule, and the offset behind it: the three numbers are those of the bases'
 /// offsets alone, and every base is held against them.
 pub(crate) fn fitted_record(file: &[u8], at: u64) -> Result<Option<(Row, u64)>, No> {
     let rest = from(file, at);
     let Some(line) = first_line(rest) else { return Ok(None) };
-    let [name_start, name_length, ..] = definition_at(line, at)?;
+    let said = definition_at(line, at)?;
     let lines = sequence_lines(&rest[line.len()..]);
     let behind = at + n(line.len());
     let next = behind + lines.iter().map(|line| n(line.len())).sum::<u64>();
@@ -31,7 +31,7 @@ pub(crate) fn fitted_record(file: &[u8], at: u64) -> Result<Option<(Row, u64)>, 
             [*first, n(run), width]
         }
     };
-    let row = row([at + name_start, name_length, n(offsets.len()), position, line_bases, line_width]);
+    let row = record_row(at, said, [n(offsets.len()), position, line_bases, line_width]);
     for (base, there) in (1..).zip(&offsets) {
         if offset(&row, base) != u128::from(*there) {
             return no(42, *there, base);

@@ -6,6 +6,7 @@
 mod checker;
 mod complete;
 mod lines;
+mod primers;
 mod reads;
 mod rows;
 mod writer;
@@ -13,11 +14,12 @@ mod writer;
 use checker::{check, program};
 use complete::fitted_record;
 use lines::{content, definition, first_line, from, run};
+use primers::{degeneracy, next_place};
 use questions::form::Value::{self, Bounds, Bytes, MaybeBytes, Number, Numbers, Output, Rows, Table};
 use questions::form::{Answer, No, Speaker};
 use reads::{complemented, exact, raw, sequence};
 use rows::{file_rows, find, index_content, index_rows, is_plain, record, write_line};
-use writer::write_record;
+use writer::{write_record, write_sequence};
 
 /// No byte input may be longer.
 const LIMIT: usize = 1 << 40;
@@ -88,9 +90,13 @@ impl Speaker for Model {
             }
             ("cmp", [Bytes(bases), Output(out)]) => complemented(bases, false, out).into(),
             ("rev", [Bytes(bases), Output(out)]) => complemented(bases, true, out).into(),
+            ("deg", [Bytes(primer)]) => degeneracy(primer).into(),
+            ("prm", [Bytes(primer), Bytes(text)]) => next_place(primer, text, 0).into(),
+            ("prn", [Bytes(primer), Bytes(text), Number(from)]) => next_place(primer, text, *from).into(),
             ("wfa", [Bytes(name), MaybeBytes(description), Bytes(bases), Number(width), Output(out)]) => {
                 write_record(name, description.as_deref(), bases, *width, out).into()
             }
+            ("wsq", [Bytes(bases), Number(width), Output(out)]) => write_sequence(bases, *width, out).into(),
             ("chk", [Bytes(fasta), Bytes(index)]) => check(fasta, index).into(),
             ("prg", [Bytes(input)]) => Ok(vec![Bytes(program(input))]).into(),
             _ => return None,

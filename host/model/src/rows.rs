@@ -13,11 +13,21 @@ pub(crate) fn sequence_lines(text: &[u8]) -> Vec<&[u8]> {
     text.split_inclusive(|b| *b == b'\n').take_while(|line| line[0] != b'>').collect()
 }
 
+/// The row of a record whose definition line begins at an offset, by what that says and the four columns. A description that has no bytes
+/// has no place.
+pub(crate) fn record_row(at: u64, said: [u64; 4], [length, position, line_bases, line_width]: [u64; 4]) -> Row {
+    let [name_start, name_length, start, bytes] = said;
+    let mut row = row([at + name_start, name_length, length, position, line_bases, line_width]);
+    row[6] = if bytes == 0 { 0 } else { at + start };
+    row[7] = bytes;
+    row
+}
+
 /// The row of the record at an offset, and the offset behind it.
 pub(crate) fn record(file: &[u8], at: u64) -> Result<Option<(Row, u64)>, No> {
     let rest = from(file, at);
     let Some(line) = first_line(rest) else { return Ok(None) };
-    let [name_start, name_length, ..] = definition_at(line, at)?;
+    let said = definition_at(line, at)?;
     let lines = sequence_lines(&rest[line.len()..]);
     let position = at + n(line.len());
 
@@ -38,7 +48,7 @@ pub(crate) fn record(file: &[u8], at: u64) -> Result<Option<(Row, u64)>, No> {
     }
     let length = lines.iter().map(|line| bases(line).len()).sum();
     let next = position + lines.iter().map(|line| n(line.len())).sum::<u64>();
-    Ok(Some((row([at + name_start, name_length, n(length), position, n(count), n(width)]), next)))
+    Ok(Some((record_row(at, said, [n(length), position, n(count), n(width)]), next)))
 }
 
 // ---- whole files and indexes ----
@@ -179,11 +189,15 @@ pub(crate) fn held_row(rows: &Rows, r: u64) -> Result<Row, No> {
     }
 }
 
-/// A row with its name; 25 also where the name lies outside the bytes.
+/// A row with its name; 25 also where the name or the description lies outside the bytes.
 pub(crate) fn named_row<'n>(names: &'n [u8], rows: &Rows, r: u64) -> Result<(&'n [u8], Row), No> {
     let row = held_row(rows, r)?;
-    let (start, end) = (u128::from(row[0]), u128::from(row[0]) + u128::from(row[1]));
-    if end > names.len() as u128 { no(25, r, 0) } else { Ok((&names[start as usize..end as usize], row)) }
+    let outside = |start: u64, length: u64| u128::from(start) + u128::from(length) > names.len() as u128;
+    if outside(row[0], row[1]) || outside(row[6], row[7]) {
+        no(25, r, 0)
+    } else {
+        Ok((&names[row[0] as usize..][..row[1] as usize], row))
+    }
 }
 
 pub(crate) fn find(names: &[u8], rows: &Rows, wanted: &[u8]) -> Result<u64, No> {

@@ -1,4 +1,4 @@
-//! A record written as FASTA.
+//! A record written as FASTA, and its bases alone.
 
 use crate::lines::is_space;
 use crate::no;
@@ -23,18 +23,30 @@ pub(crate) fn write_record(
     if description.is_some_and(|text| text.is_empty() || text.contains(&b'\n') || at_an_end(text)) {
         return no(29, 0, 0);
     }
-    if bases.iter().any(|b| matches!(b, b'\n' | b'\r' | b'>')) {
-        return no(30, 0, 0);
-    }
     let mut text = [b">", name].concat();
     if let Some(description) = description {
         text.push(b' ');
         text.extend(description);
     }
     text.push(b'\n');
+    text.extend(lines(bases, width)?);
+    put(&text, out)
+}
+
+/// Bases alone; how many bytes that is.
+pub(crate) fn write_sequence(bases: &[u8], width: u64, out: &mut [u8]) -> Result<u64, No> {
+    if width == 0 { no(27, 0, 0) } else { put(&lines(bases, width)?, out) }
+}
+
+/// Bases in lines of a width, which isn't 0.
+fn lines(bases: &[u8], width: u64) -> Result<Vec<u8>, No> {
+    if bases.iter().any(|b| matches!(b, b'\n' | b'\r' | b'>')) {
+        return no(30, 0, 0);
+    }
+    let mut text = vec![];
     for line in bases.chunks(usize::try_from(width).unwrap_or(usize::MAX)) {
         text.extend(line);
         text.push(b'\n');
     }
-    put(&text, out)
+    Ok(text)
 }

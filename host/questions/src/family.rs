@@ -113,8 +113,13 @@ pub const FAMILIES: &[Family] = &[
     // bases: the bytes of a complement
     asks("cmp", &[Bytes, Output], Always(&[Number]), &[14, 24], Memory),
     asks("rev", &[Bytes, Output], Always(&[Number]), &[14, 24], Memory),
-    // a record that is written: its bytes
+    // primers: how many sequences one stands for; its first place; its next place
+    asks("deg", &[Bytes], IfOk(&[Number]), &[36, 37], Lacks),
+    asks("prm", &[Bytes, Bytes], Found(&[Number]), &[36, 37], Lacks),
+    asks("prn", &[Bytes, Bytes, Number], Found(&[Number]), &[36, 37], Lacks),
+    // a record that is written, and bases alone: its bytes
     asks("wfa", &[Bytes, MaybeBytes, Bytes, Number, Output], Always(&[Number]), &[14, 27, 28, 29, 30], Refusals),
+    asks("wsq", &[Bytes, Number, Output], Always(&[Number]), &[14, 27, 30], Lacks),
     // the checker; the program's output
     asks("chk", &[Bytes, Bytes], IfOk(&[]), &[2, 3, 4, 9, 10, 11, 12, 19, 20, 21, 22, 23], Lacks),
     asks("prg", &[Bytes], Bare(&[Bytes]), &[], Refusals),
@@ -134,35 +139,45 @@ seq x41430a47 0 x2e2e2e2e => ok 3 4 x4143472e
 seq x41430a47 0 x2e2e => no 14 3 0 0 0 x2e2e
 lim x410a43 0 1 x2e => ok 1 1 x41
 lim x410a43 9 1 x2e => ok 0 9 x2e
-rec x3e730a41430a3e740a41 6 => ok t7,1,1,9,1,1 10
+rec x3e730a41430a3e740a41 6 => ok t7,1,1,9,1,1,0,0 10
+rec x3e73206f6e650a41430a 0 => ok t1,1,2,7,2,3,3,3 10
 rec x3e730a41430a 6 => ok none
 rec x3e730a0a 0 => no 5 4 0
-idx x3e730a414347540a0a t7,7,7,7,7,7 => ok 1 t1,1,4,3,4,5
-idx x3e730a414347540a0a0a t7,7,7,7,7,7 => no 6 0 4 0 t7,7,7,7,7,7
-idx x3e730a410a3e740a t700,701,702,703,704,705,706 => no 5 8 0 1 t1,1,1,3,1,2,706
+idx x3e730a414347540a0a t7,7,7,7,7,7,7,7 => ok 1 t1,1,4,3,4,5,0,0
+idx x3e730a414347540a0a0a t7,7,7,7,7,7,7,7 => no 6 0 4 0 t7,7,7,7,7,7,7,7
+idx x3e730a410a3e740a t700,701,702,703,704,705,706,707,708 => no 5 8 0 1 t1,1,1,3,1,2,0,0,708
 idx x3e730a41 t => no 8 0 0 0 t
-fit x3e730a414347540a0a0a t7,7,7,7,7,7 => ok 1 t1,1,4,3,4,5
-fit x3e730a0a410a0a430a3e740a t700,701,702,703,704,705,706,707,708,709,710,711,712 => ok 2 t1,1,2,4,1,3,10,1,0,12,1,2,712
-fit x3e730a0a3e740a410a41410a t7,7,7,7,7,7 => no 42 10 3 1 t1,1,0,3,1,2
+fit x3e730a414347540a0a0a t7,7,7,7,7,7,7,7 => ok 1 t1,1,4,3,4,5,0,0
+fit x3e730a0a410a0a430a3e740a t700,701,702,703,704,705,706,707,708,709,710,711,712,713,714,715,716 => ok 2 t1,1,2,4,1,3,0,0,10,1,0,12,1,2,0,0,716
+fit x3e730a0a3e740a410a41410a t7,7,7,7,7,7,7,7 => no 42 10 3 1 t1,1,0,3,1,2,0,0
 fit x3e730a t => no 8 0 0 0 t
 ixl x7309340933093409350a => ok t0,1,4,3,4,5 1
 ixl x730934093309340935 => ok t0,1,4,3,4,5 0
 ixl x73093409330930 => no 12 1 4
 ixc x730934093309340935 => ok t0,1,4,3,4,5
 ixc x => no 9 1 0
-ixt x73093409330934093509360a t1,1,1,1,1,1 => no 11 1 5 0 t1,1,1,1,1,1
-ixt x7309340933093409350a7309340933093409350a t1,1,1,1,1,1 => no 8 1 0 1 t0,1,4,3,4,5
-wrl x73 t0,1,4,3,4,5 1 0 x2e2e2e2e2e2e2e2e2e2e2e => ok 10 x7309340933093409350a2e
-wrl x73 t0,1,4,3,4,5 1 0 x2e2e => no 14 10 0 0 x2e2e
-wrl x73 t0,2,4,3,4,5 1 0 x2e2e => no 25 0 0 0 x2e2e
-fnd x7374 t0,1,4,3,4,5,1,1,4,3,4,5 2 x74 => ok 1
-fnd x7374 t0,1,4,3,4,5,1,1,4,3,4,5 2 x => no 15 0 0
-exr x3e730a414347540a41430a t1,1,6,3,4,5 1 0 4 5 x2e2e2e => ok 2 x54412e
-exr x3e730a414347540a41430a t1,1,6,3,4,5 1 0 5 7 x2e2e2e => no 17 6 0 0 x2e2e2e
-rar x3e730a41433e4754 t1,1,5,3,5,6 1 0 3 4 x2e2e => ok 0 x2e2e
+ixt x73093409330934093509360a t1,1,1,1,1,1,1,1 => no 11 1 5 0 t1,1,1,1,1,1,1,1
+ixt x7309340933093409350a7309340933093409350a t1,1,1,1,1,1,1,1 => no 8 1 0 1 t0,1,4,3,4,5,0,0
+wrl x73 t0,1,4,3,4,5,0,0 1 0 x2e2e2e2e2e2e2e2e2e2e2e => ok 10 x7309340933093409350a2e
+wrl x73 t0,1,4,3,4,5,0,0 1 0 x2e2e => no 14 10 0 0 x2e2e
+wrl x73 t0,2,4,3,4,5,0,0 1 0 x2e2e => no 25 0 0 0 x2e2e
+wrl x73 t0,1,4,3,4,5,2,0 1 0 x2e2e => no 25 0 0 0 x2e2e
+fnd x7374 t0,1,4,3,4,5,0,0,1,1,4,3,4,5,0,0 2 x74 => ok 1
+fnd x7374 t0,1,4,3,4,5,0,0,1,1,4,3,4,5,0,0 2 x => no 15 0 0
+exr x3e730a414347540a41430a t1,1,6,3,4,5,0,0 1 0 4 5 x2e2e2e => ok 2 x54412e
+exr x3e730a414347540a41430a t1,1,6,3,4,5,0,0 1 0 5 7 x2e2e2e => no 17 6 0 0 x2e2e2e
+rar x3e730a41433e4754 t1,1,5,3,5,6,9,9 1 0 3 4 x2e2e => ok 0 x2e2e
 cmp x41 x2e2e => ok 1 x542e
 cmp x4158 x2e2e => no 24 1 88 0 x2e2e
 rev x41434755 x2e2e2e2e => ok 4 x41434754
+deg x524e => ok 8
+deg x => no 36 0 0
+deg x412d43 => no 37 1 0
+prm x4e79 x2d2d4155 => ok 2
+prm x41 x4e => ok none
+prm x x41 => no 36 0 0
+prn x41 x414141 1 => ok 1
+prn x41 x414141 18446744073709551615 => ok none
 wfa x73 x6f6e65 x4143475441 3 x2e2e2e2e2e2e2e2e2e2e2e2e2e2e2e => ok 14 x3e73206f6e650a4143470a54410a2e
 wfa x73 - x 1 x2e2e2e => ok 3 x3e730a
 wfa x73 - x41 1 x2e2e2e2e => no 14 5 0 0 x2e2e2e2e
@@ -170,6 +185,11 @@ wfa x x x0a 0 x => no 27 0 0 0 x
 wfa x730c x x0a 1 x => no 28 0 0 0 x
 wfa x730b x x0a 1 x => no 29 0 0 0 x
 wfa x730b x0b x413e 1 x => no 30 0 0 0 x
+wsq x4143475441 3 x2e2e2e2e2e2e2e2e => ok 7 x4143470a54410a2e
+wsq x 3 x => ok 0 x
+wsq x 0 x => no 27 0 0 0 x
+wsq x410d 1 x => no 30 0 0 0 x
+wsq x41 1 x2e => no 14 2 0 0 x2e
 chk x3e730a414347540a41430a x730936093309340936 => no 23 1 5
 chk x x => ok
 prg x3e730a41 => x7309310933093109310a

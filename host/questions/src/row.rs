@@ -1,7 +1,7 @@
 //! How many numbers a row of a table has. No other place of these programs says it.
 
-/// The numbers of a row: name start, name length, length, position, line bases, line width.
-pub const WORDS: usize = 6;
+/// The numbers of a row: name start, name length, length, position, line bases, line width, description start, description length.
+pub const WORDS: usize = 8;
 
 /// The numbers of a row that an index line gives: the span of its name, and four columns.
 pub const OF_A_LINE: usize = 6;
@@ -9,10 +9,19 @@ pub const OF_A_LINE: usize = 6;
 /// A row of a table.
 pub type Row = [u64; WORDS];
 
-/// The row of what an index line gives; further numbers of a row are 0.
+/// The row of what an index line gives: it has no description.
 pub fn row(of_a_line: [u64; OF_A_LINE]) -> Row {
     let mut row = [0; WORDS];
     row[..OF_A_LINE].copy_from_slice(&of_a_line);
+    row
+}
+
+/// The same with a description, where it is not empty: its start and its length.
+pub fn described(of_a_line: [u64; OF_A_LINE], [start, length]: [u64; 2]) -> Row {
+    let mut row = row(of_a_line);
+    if length > 0 {
+        row[OF_A_LINE..].copy_from_slice(&[start, length]);
+    }
     row
 }
 

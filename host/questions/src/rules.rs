@@ -5,6 +5,7 @@
 
 use crate::family::{Original, family};
 use crate::form;
+use crate::row::WORDS;
 
 /// Whether the original doesn't have a refusal: where such a one is right, it has no answer to give. All from 26 on were added.
 fn is_added(number: &str) -> bool {
@@ -28,6 +29,8 @@ pub enum Kind {
     ProgramLimit,
     /// Listed: an absent end is no limit, where the original stops at the greatest base position.
     NoLimit,
+    /// Listed: a row whose description lies outside the names is refused, where the original writes its line.
+    Undescribed,
     /// They differ, and no list says so.
     Different,
 }
@@ -43,6 +46,7 @@ impl Kind {
             Self::NotAsked => "not asked",
             Self::ProgramLimit => "listed: program's limits",
             Self::NoLimit => "listed: no limit",
+            Self::Undescribed => "listed: description outside",
             Self::Different => "DIFFERENT",
         }
     }
@@ -94,6 +98,7 @@ fn against_original(question: &str, original: &str, ours: &str) -> Kind {
     match name {
         "prg" if is_program_limit(&arguments, original, ours) => Kind::ProgramLimit,
         "rar" if is_no_limit(&arguments, &theirs, &mine) => Kind::NoLimit,
+        "wrl" if describes_outside(&arguments) && mine.get(..2) == Some(&["no", "25"]) => Kind::Undescribed,
         _ => Kind::Different,
     }
 }
@@ -113,6 +118,16 @@ pub fn stops_at_the_greatest(arguments: &[&str], theirs: &[&str]) -> bool {
     let ([_, _, _, _, start, "-", _], ["ok", count, _]) = (arguments, theirs) else { return false };
     let (Ok(start), Ok(count)) = (start.parse::<u64>(), count.parse::<u64>()) else { return false };
     start > 0 && count == u64::MAX - start + 1
+}
+
+/// The line of a row whose description does not lie inside the names: the original knows of no description.
+pub fn describes_outside(arguments: &[&str]) -> bool {
+    let [names, table, _, row, _] = arguments else { return false };
+    let (Some(names), Some(table), Ok(row)) = (form::bytes(names), form::table(table), row.parse::<usize>()) else {
+        return false;
+    };
+    let span = table.chunks_exact(WORDS).nth(row).map(|row| u128::from(row[6]) + u128::from(row[7]));
+    span.is_some_and(|end| end > names.len() as u128)
 }
 
 /// The original stops at the greatest base position, and ours begins with its answer.

@@ -37,6 +37,7 @@ mod bounds;
 pub mod entry;
 mod list;
 mod names;
+mod primer;
 mod refusal;
 mod row;
 mod table;
@@ -45,6 +46,7 @@ mod writer;
 
 pub use bounds::Bounds;
 pub use names::Names;
+pub use primer::{Places, degeneracy, find_primer, find_primer_from, primer_places};
 pub use refusal::{Call, Refusal};
 pub use row::Row;
 pub use table::{

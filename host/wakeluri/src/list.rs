@@ -82,6 +82,14 @@ macro_rules! entry_points {
             /// 30, 14.
             fn write_sequence(bases: bytes, width: number, out: output) -> Answer;
 
+            /// How many plain sequences a primer of 1 to 31 letters stands for, as `count`. Refuses 1, 36, and 37 with the first
+            /// letter that has no code.
+            fn degeneracy(primer: bytes) -> Answer;
+
+            /// The first place of a primer in a text that is not before `from`: `count` is 1 and `next` the place, or `count` is 0
+            /// where there is none. Refuses as `degeneracy`.
+            fn find_primer(primer: bytes, text: bytes, from: number) -> Answer;
+
             /// Accepts a FASTA file and an index of any program exactly if the index leads to every base. Refuses 1, 2 to 4, 19, 9
             /// to 12, 21 to 23, 20.
             fn check(fasta: bytes, index: bytes) -> Answer;
@@ -106,7 +114,10 @@ macro_rules! answers {
 
             /// A record's row, the numbers from `name_start` on: `found` is 0 at the end of a file. `next` is the offset behind the
             /// record, `plain` is 1 for a plain index line that was given with its end.
-            struct Row { found, next, plain, name_start, name_length, length, position, line_bases, line_width }
+            struct Row {
+                found, next, plain,
+                name_start, name_length, length, position, line_bases, line_width, description_start, description_length
+            }
         }
     };
 }

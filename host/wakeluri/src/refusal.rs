@@ -29,6 +29,8 @@ pub enum Call {
     Complement,
     /// Writing a FASTA record.
     WriteRecord,
+    /// Counting a primer's sequences, or finding it.
+    Primer,
 }
 
 /// Why a call gave no answer: the refusal's number and its two numbers, 0 where none is named.
@@ -134,6 +136,8 @@ impl Refusal {
             28 => "the name is empty or has whitespace in it".to_string(),
             29 => "the description is empty, has a line feed in it, or whitespace at an end".to_string(),
             30 => "a base is a line feed, a carriage return or '>', and can't be written".to_string(),
+            36 => "a primer has 1 to 31 letters".to_string(),
+            37 => format!("the primer's letter at place {first} stands for no bases"),
             42 => format!(
                 "no index line can lead to base {second} of a record, which lies at offset {first}, and to those before it"
             ),
@@ -157,12 +161,12 @@ impl Refusal {
             2..=4 if checking => format!("refused {number} (record {first}, offset {second})"),
             2..=4 if self.call == Call::Definition => format!("refused {number} (place {first})"),
             2..=5 => format!("refused {number} (offset {first})"),
-            1 | 15 | 16 | 27..=30 => format!("refused {number}"),
+            1 | 15 | 16 | 27..=30 | 36 => format!("refused {number}"),
             6 | 7 => format!("refused {number} (found {first}, expected {second})"),
             8 => format!("refused {number} (rows {first})"),
             9 if !checking => format!("refused {number} (line {first})"),
             9..=12 => format!("refused {number} ({line} {first}, field {second})"),
-            13 => format!("refused {number} (place {first})"),
+            13 | 37 => format!("refused {number} (place {first})"),
             14 => format!("refused {number} (bytes {first})"),
             17 => format!("refused {number} (length {first})"),
             18 => format!("refused {number} (base {first})"),

@@ -21,15 +21,38 @@ pub struct Record<'n> {
     pub line_bases: u64,
     /// How many bytes are in a line, with its end.
     pub line_width: u64,
+    /// The text behind its name; empty where it has none.
+    description: &'n [u8],
 }
 
 impl<'n> Record<'n> {
-    /// The record of a row's numbers, whose name lies in `names`; none where it doesn't.
+    /// No record.
+    pub(crate) const NONE: Self =
+        Record { name: b"", length: 0, position: 0, line_bases: 0, line_width: 0, description: b"" };
+
+    /// The record of a row's numbers, whose name and description lie in `names`; none where they don't.
     pub(crate) fn of(names: &'n [u8], row: [u64; ROW_WORDS]) -> Option<Self> {
-        let [name_start, name_length, length, position, line_bases, line_width, ..] = row;
-        let start = usize::try_from(name_start).ok()?;
-        let name = names.get(start..)?.get(..usize::try_from(name_length).ok()?)?;
-        Some(Self { name, length, position, line_bases, line_width })
+        let [name_start, name_length, length, position, line_bases, line_width, start, described] = row;
+        let part =
+            |start: u64, length: u64| names.get(usize::try_from(start).ok()?..)?.get(..usize::try_from(length).ok()?);
+        let (name, description) = (part(name_start, name_length)?, part(start, described)?);
+        Some(Self { name, length, position, line_bases, line_width, description })
+    }
+
+    /// The text behind the name in the definition line, without whitespace at its ends; none where there is none, and for a record
+    /// that was read from an index, which has no descriptions.
+    ///
+    /// ```
+    /// let table = wakeluri::index(b">s a first one \nACGT\n>t\nA\n")?;
+    /// let described: Vec<_> = table.records().map(|record| record.description()).collect();
+    /// assert_eq!(described, [Some(&b"a first one"[..]), None]);
+    ///
+    /// let text = table.write_index()?;
+    /// assert_eq!(wakeluri::read_index(&text)?.records().next().and_then(|record| record.description()), None);
+    /// # Ok::<(), wakeluri::Refusal>(())
+    /// ```
+    pub fn description(&self) -> Option<&'n [u8]> {
+        (!self.description.is_empty()).then_some(self.description)
     }
 }
 

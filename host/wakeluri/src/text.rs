@@ -126,8 +126,7 @@ pub fn index_record_strict(fasta: &[u8], at: u64) -> Result<Option<(Record<'_>, 
 pub fn index_line(line: &[u8]) -> Result<(Record<'_>, bool), Refusal> {
     let row = entry::index_line(line);
     Refusal::of(Call::ReadIndex, row.refusal, row.first, row.second)?;
-    let empty = Record { name: b"", length: 0, position: 0, line_bases: 0, line_width: 0 };
-    Ok((Record::of(line, row.row()).unwrap_or(empty), row.plain != 0))
+    Ok((Record::of(line, row.row()).unwrap_or(Record::NONE), row.plain != 0))
 }
 
 /// The complement of some bases, in a room of just their size. Refuses 1, and 24 with the first bad byte.

@@ -28,7 +28,7 @@ fn refused(number: u64, first: u64, out: &str) -> Told {
 
 /// A table of one row, whose name is the byte behind '>'.
 fn row(length: u64, position: u64, line_bases: u64, line_width: u64) -> Vec<u8> {
-    [1, 1, length, position, line_bases, line_width].iter().flat_map(|n| n.to_le_bytes()).collect()
+    [1, 1, length, position, line_bases, line_width, 0, 0].iter().flat_map(|n| n.to_le_bytes()).collect()
 }
 
 #[test]

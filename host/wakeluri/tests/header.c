@@ -18,14 +18,16 @@
 
 static const char fasta[] = ">s one\nACGT\nAC\n>t\nGG\n";
 
-/* A row of a table: six numbers of eight bytes, low byte first. */
+/* A row of a table: eight numbers of eight bytes, low byte first. */
+#define ROW_BYTES 64
+
 static void put_row(uint8_t *table, const uint64_t *numbers) {
-    for (int k = 0; k < 48; k++) table[k] = (uint8_t)(numbers[k / 8] >> (8 * (k % 8)));
+    for (int k = 0; k < ROW_BYTES; k++) table[k] = (uint8_t)(numbers[k / 8] >> (8 * (k % 8)));
 }
 
 static void ordinary_calls(void) {
-    uint8_t table[3 * 48], out[64], expected[48];
-    const uint64_t first_row[6] = {1, 1, 6, 7, 4, 5};
+    uint8_t table[3 * ROW_BYTES], out[64], expected[ROW_BYTES];
+    const uint64_t first_row[8] = {1, 1, 6, 7, 4, 5, 3, 3};
 
     struct wakeluri_definition d = wakeluri_definition_line(BYTES(">s one \r\n"));
     MUST(d.refusal == 0 && d.name_start == 1 && d.name_length == 1 && d.description_start == 3 && d.description_length == 3);
@@ -50,23 +52,25 @@ static void ordinary_calls(void) {
     struct wakeluri_row r = wakeluri_index_record(BYTES(fasta), 0);
     MUST(r.refusal == 0 && r.found == 1 && r.next == 15 && r.name_start == 1 && r.name_length == 1);
     MUST(r.length == 6 && r.position == 7 && r.line_bases == 4 && r.line_width == 5);
+    MUST(r.description_start == 3 && r.description_length == 3);
     memset(table, 7, sizeof table);
     a = wakeluri_index_file(BYTES(fasta), table, sizeof table);
     put_row(expected, first_row);
-    MUST(a.refusal == 0 && a.count == 2 && memcmp(table, expected, 48) == 0 && table[96] == 7 && table[143] == 7);
+    MUST(a.refusal == 0 && a.count == 2 && memcmp(table, expected, ROW_BYTES) == 0 && table[2 * ROW_BYTES] == 7 && table[3 * ROW_BYTES - 1] == 7);
     memset(table, 7, sizeof table);
     a = wakeluri_index_complete(BYTES(">s one\nACGT\nAC\n\n>t\n"), table, sizeof table);
-    MUST(a.refusal == 0 && a.count == 2 && memcmp(table, expected, 48) == 0 && table[96] == 7 && table[143] == 7);
+    MUST(a.refusal == 0 && a.count == 2 && memcmp(table, expected, ROW_BYTES) == 0 && table[2 * ROW_BYTES] == 7 && table[3 * ROW_BYTES - 1] == 7);
     a = wakeluri_index_complete(BYTES(">s\nAC\nGTA\n"), table, sizeof table);
     MUST(a.refusal == 42 && a.first == 8 && a.second == 5 && a.count == 0);
 
     r = wakeluri_index_line(BYTES("s\t6\t7\t4\t5\n"));
     MUST(r.refusal == 0 && r.plain == 1 && r.name_length == 1 && r.length == 6 && r.line_width == 5);
+    MUST(r.description_start == 0 && r.description_length == 0);
     r = wakeluri_index_content(BYTES("s\t6\t7\t4"));
     MUST(r.refusal == 10 && r.first == 1 && r.second == 5);
     memset(table, 7, sizeof table);
     a = wakeluri_read_index(BYTES("s\t6\t7\t4\t5\nt\t2\t18\t2\t3"), table, sizeof table);
-    MUST(a.refusal == 0 && a.count == 2 && table[48] == 10);
+    MUST(a.refusal == 0 && a.count == 2 && table[ROW_BYTES] == 10);
     a = wakeluri_index_file(BYTES(fasta), table, sizeof table);
     MUST(a.refusal == 0 && a.count == 2);
 
@@ -103,6 +107,15 @@ static void ordinary_calls(void) {
     a = wakeluri_reverse_complement(BYTES("AXCX"), out, sizeof out);
     MUST(a.refusal == 24 && a.first == 3 && a.second == 'X');
 
+    a = wakeluri_degeneracy(BYTES("ARN"));
+    MUST(a.refusal == 0 && a.count == 8);
+    a = wakeluri_find_primer(BYTES("RY"), BYTES("CCACAC"), 3);
+    MUST(a.refusal == 0 && a.count == 1 && a.next == 4);
+    a = wakeluri_find_primer(BYTES("RY"), BYTES("CCACAC"), 5);
+    MUST(a.refusal == 0 && a.count == 0 && a.next == 0);
+    a = wakeluri_find_primer(BYTES("R-"), BYTES("CCACAC"), 0);
+    MUST(a.refusal == 37 && a.first == 1 && a.second == 0);
+
     a = wakeluri_check(BYTES(fasta), BYTES("s\t6\t7\t4\t5\nt\t2\t18\t9\t9\n"));
     MUST(a.refusal == 0 && a.first == 0 && a.second == 0);
     a = wakeluri_check(BYTES(fasta), BYTES("s\t6\t7\t4\t6\nt\t2\t18\t9\t9\n"));
@@ -113,8 +126,8 @@ static void ordinary_calls(void) {
  * be had. */
 static void beyond_the_limit(void) {
     const size_t limit = (size_t)1 << 40, n = limit + 1;
-    uint8_t table[48], out[8];
-    const uint64_t numbers[6] = {0, 1, 1, 0, 1, 2};
+    uint8_t table[ROW_BYTES], out[8];
+    const uint64_t numbers[8] = {0, 1, 1, 0, 1, 2, 0, 0};
     const uint8_t *big = mmap(NULL, n, PROT_READ, MAP_PRIVATE | MAP_ANONYMOUS | MAP_NORESERVE, -1, 0);
     if (big == MAP_FAILED) {
         puts("no room for addresses: refusal 1 was not tried");
@@ -146,6 +159,9 @@ static void beyond_the_limit(void) {
     REFUSED(wakeluri_write_record(out, 0, 0, big, n, out, 0, 0, out, 0));
     REFUSED(wakeluri_write_record(out, 0, 0, out, 0, big, n, 0, out, 0));
     REFUSED(wakeluri_write_sequence(big, n, 0, out, 0));
+    REFUSED(wakeluri_degeneracy(big, n));
+    REFUSED(wakeluri_find_primer(big, n, out, 0, 0));
+    REFUSED(wakeluri_find_primer(out, 0, big, n, 0));
     REFUSED(wakeluri_check(big, n, out, 0));
     REFUSED(wakeluri_check(out, 0, big, n));
     /* at the limit itself it is taken: bases 1 and 1 of a row at offset 0 are read from the first byte alone */
@@ -159,7 +175,7 @@ static void beyond_the_limit(void) {
         a = wakeluri_complement(BYTES("A"), room, n);
         MUST(a.refusal == 0 && a.count == 1 && room[0] == 'T' && room[1] == 0);
         a = wakeluri_index_file(BYTES(">s\nA\n"), room, n);
-        MUST(a.refusal == 0 && a.count == 1 && room[0] == 1 && room[48] == 0);
+        MUST(a.refusal == 0 && a.count == 1 && room[0] == 1 && room[ROW_BYTES] == 0);
         munmap(room, n);
     }
     munmap((void *)big, n);

@@ -99,6 +99,7 @@ impl Hostile {
             "file" | "fasta" | "names" | "line" | "content" => fasta(chance),
             "index" => index(chance),
             "bases" => bytes(chance, b"ACGTN"),
+            "primer" | "text" => bytes(chance, b"ACGTRYN"),
             "table" => {
                 let table = table(chance);
                 self.rows = table.len() / ROW_BYTES;

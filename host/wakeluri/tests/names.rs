@@ -128,9 +128,9 @@ fn rows_are_those_in_use() {
     assert!(table.rows().all(|row| table.row(row.number()) == Some(row)));
     assert!(table.rows().map(|row| table.record(row)).eq(table.records().map(Some)));
     // fewer rows than are said to be in use
-    let short = Table::from_bytes(b"", vec![0; 50], usize::MAX);
+    let short = Table::from_bytes(b"", vec![0; ROW_BYTES + 2], usize::MAX);
     assert_eq!((short.rows().len(), short.row(1)), (1, None));
     assert_eq!(no(short.write_index()), (25, 1));
-    let none = Table::from_bytes(b"", vec![0; 47], 1);
+    let none = Table::from_bytes(b"", vec![0; ROW_BYTES - 1], 1);
     assert_eq!((none.rows().len(), no(none.write_index())), (0, (25, 0)));
 }

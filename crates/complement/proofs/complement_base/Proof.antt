@@ -1,6 +1,6 @@
 -- `complement::complement_base`: both ways give the complement of a base of their kind.
 -- Assumes nothing.
-use Rattle.complement.specs.Table.{IsTable}
+use Rattle.letters.specs.Table.{IsTable}
 use borrow.Author.Needs.{needs}
 use Rattle.complement.proofs.complement_base.Statement.{statement}
 use Rattle.complement.proofs.complement_base.Tie as tie

@@ -8,7 +8,7 @@ use native.Mathlib.Omega.{arith}
 use native.Mathlib.Numerals.{add-one}
 use lib.ListN.{length, take, length-set}
 use lib.Seq.{take-all}
-use Rattle.complement.specs.Pairing.{partner}
+use Rattle.letters.specs.Letters.{partner}
 use Rattle.complement.specs.Kinds.{outputOf}
 use Rattle.complement.specs.Complement.{given, poured}
 use Rattle.complement.specs.Laws.{write-turn}
@@ -23,8 +23,8 @@ Inv-loop bases out₀ plain table i₀ out i =
 abbrev μ-loop : tie.MeasureT-loop
 μ-loop bases out₀ plain table i₀ out i = length bases - i
 
-table-requires : tie.Need-table-requires Inv-loop μ-loop
-table-requires c κs = search needs
+partners-requires : tie.Need-partners-requires Inv-loop μ-loop
+partners-requires c κs = search needs
 
 loop-holds : tie.Need-loop-holds Inv-loop μ-loop
 unfolding poured
@@ -36,7 +36,7 @@ shared-slice-read-complement-base c = search needs
 complement-base-requires : tie.Need-complement-base-requires Inv-loop μ-loop
 complement-base-requires c κs =
     let l = c .before .before .before in
-    (all-at _ _ _ (c .before .before .loop-test .taken) (l .before .before .before .before .pre .1), l .before .table .ensures)
+    (all-at _ _ _ (c .before .before .loop-test .taken) (l .before .before .before .before .pre .1), l .before .partners .ensures)
 
 slice-write-out : tie.Need-slice-write-out Inv-loop μ-loop
 slice-write-out c = search needs
@@ -64,7 +64,7 @@ write-spec =
     (tie.spec
     Inv-loop
     μ-loop
-    table-requires
+    partners-requires
     loop-holds
     shared-slice-read-complement-base
     complement-base-requires

@@ -7,7 +7,7 @@ use borrow.Author.Needs.{needs}
 use native.Mathlib.Omega.{arith}
 use lib.ListN.{length, drop, length-set}
 use lib.Seq.{drop-length}
-use Rattle.complement.specs.Pairing.{partner}
+use Rattle.letters.specs.Letters.{partner}
 use Rattle.complement.specs.Kinds.{outputOf}
 use Rattle.complement.specs.Complement.{given, poured}
 use Rattle.complement.specs.Laws.{write-reversed-turn}
@@ -22,8 +22,8 @@ Inv-loop bases out₀ plain table i₀ at₀ out i at =
 abbrev μ-loop : tie.MeasureT-loop
 μ-loop bases out₀ plain table i₀ at₀ out i at = i
 
-table-requires : tie.Need-table-requires Inv-loop μ-loop
-table-requires c κs = search needs
+partners-requires : tie.Need-partners-requires Inv-loop μ-loop
+partners-requires c κs = search needs
 
 loop-holds : tie.Need-loop-holds Inv-loop μ-loop
 unfolding poured
@@ -38,7 +38,7 @@ shared-slice-read-complement-base c = search needs
 complement-base-requires : tie.Need-complement-base-requires Inv-loop μ-loop
 complement-base-requires c κs =
     let l = c .before .before .before in
-    (all-at _ _ _ (omega arith) (l .before .before .before .before .pre .1), l .before .table .ensures)
+    (all-at _ _ _ (omega arith) (l .before .before .before .before .pre .1), l .before .partners .ensures)
 
 slice-write-out : tie.Need-slice-write-out Inv-loop μ-loop
 slice-write-out c = search needs
@@ -66,7 +66,7 @@ write-reversed-spec =
     (tie.spec
     Inv-loop
     μ-loop
-    table-requires
+    partners-requires
     loop-holds
     sub-i
     shared-slice-read-complement-base

@@ -7,7 +7,7 @@ use native.Mathlib.Omega.{arith}
 use lib.ListN.{length}
 use Rattle.lines.specs.Lines.{part}
 use Rattle.lines.specs.Laws.{lineEnd-le, lineEnd-gt, part-length}
-use Rattle.definition.specs.Laws.{name-within, fails-near}
+use Rattle.definition.specs.Laws.{name-within, description-within, fails-near}
 use Rattle.indexer.specs.RuleLaws.{record-end, record-here}
 use Rattle.fitting.proofs.fit_at.Statement.{statement}
 use Rattle.fitting.proofs.fit_at.Tie as tie
@@ -42,12 +42,14 @@ enum-known-d c = search needs
 
 fit-sequence-requires : tie.Need-fit-sequence-requires
 fit-sequence-requires c κs =
-    let p = c .before .before .before .before in
+    let p = c .before .before .before in
     let l = p .before .before in
     let a = l .before .before .before .args in
     let e = l .line-end .result in
-    let n = name-within (part (a .s .now) (a .at) e) _ (sym (p .parse-line .ensures) ∙ c .before .before .d .given .1) in
-    omega (arith, within l, n, part-length (a .s .now) (a .at) e (within l .1))
+    let said = sym (p .parse-line .ensures) ∙ c .before .d .given .1 in
+    let n = name-within (part (a .s .now) (a .at) e) _ said in
+    let t = description-within (part (a .s .now) (a .at) e) _ said .0 in
+    omega (arith, within l, n, t, part-length (a .s .now) (a .at) e (within l .1))
 
 enum-known-d-2 : tie.Need-enum-known-d-2
 enum-known-d-2 c = search needs
@@ -64,9 +66,9 @@ refusal-requires c κs = search needs
 
 returns-2 : tie.Need-returns-2
 returns-2 c =
-    let p = c .before .before .before .before .before in
+    let p = c .before .before .before .before in
     let l = p .before .before in
-    c .fit-sequence .ensures ∙ record-here _ _ _ _ _ _ (l .before .if1 .left) (l .line-end .ensures) (p .parse-line .ensures) (c .before .before .before .d .given .1)
+    c .fit-sequence .ensures ∙ record-here _ _ _ _ _ _ (l .before .if1 .left) (l .line-end .ensures) (p .parse-line .ensures) (c .before .before .d .given .1)
 
 returns-3 : tie.Need-returns-3
 returns-3 c =

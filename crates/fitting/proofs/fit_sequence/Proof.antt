@@ -1,6 +1,7 @@
 -- `fitting::fit_sequence` meets its contract: even lines are the record's row, and any others are judged one by one.
 -- Assumes nothing.
 use borrow.Author.Needs.{needs}
+use Prim.Native.Nat.{_<_, _+_, _^_}
 use native.Mathlib.Omega.{arith}
 use Rattle.fitting.specs.EvenLaws.{even-record}
 use Rattle.fitting.proofs.fit_sequence.Statement.{statement}
@@ -8,6 +9,10 @@ use Rattle.fitting.proofs.fit_sequence.Tie as tie
 
 sequence-line-requires : tie.Need-sequence-line-requires
 sequence-line-requires c κs = search needs
+
+-- the description begins in the file
+fits : (c : tie.After-sequence-line) → c .before .before .args .at + c .before .before .args .d .description .start < 2 ^ 64
+fits c = omega (arith, c .before .before .pre)
 
 even-lines-requires : tie.Need-even-lines-requires
 even-lines-requires c κs = (c .before .before .pre .1, c .sequence-line .ensures)
@@ -24,6 +29,12 @@ add-named c = search needs
 named-requires : tie.Need-named-requires
 named-requires c κs = search needs
 
+add-described : tie.Need-add-described
+add-described c = omega (arith, fits (c .before .before .before .before .before .before .before .before .before .before))
+
+described-requires : tie.Need-described-requires
+described-requires c κs = search needs
+
 enum-told : tie.Need-enum-told
 enum-told c = search needs
 
@@ -32,9 +43,9 @@ fit-lines-requires c κs = search needs
 
 returns : tie.Need-returns
 returns c =
-    let f = c .before .before .before .before in
+    let f = c .before .before .before .before .before .before .before .before in
     let n = f .before .before in
-    rw (c .named .ensures, c .before .before .unnamed .ensures)
+    rw (c .described .ensures, c .before .before .named .ensures, c .before .before .before .before .unnamed .ensures)
     (even-record _ _ _ _ (omega arith) _ (n .before .sequence-line .ensures) _ _ (rw (f .found .given .1) at (n .even-lines .ensures)))
 
 returns-2 : tie.Need-returns-2
@@ -50,6 +61,8 @@ fit-sequence-spec =
     unnamed-requires
     add-named
     named-requires
+    add-described
+    described-requires
     enum-told
     fit-lines-requires
     returns

@@ -1,7 +1,7 @@
 -- `indexer::index_sequence` meets its contract: the first line is judged, and what the others say is told of the whole record.
 -- Assumes nothing.
 use borrow.Author.Needs.{needs}
-use Prim.Native.Nat.{_≤_, _+_}
+use Prim.Native.Nat.{_≤_, _<_, _+_, _^_}
 use mathlib.Core.Path.{ap, _∙_}
 use native.Mathlib.Omega.{arith}
 use lib.ListN.{length}
@@ -21,6 +21,10 @@ within c =
     let s = c .before .before .args .s .now in
     let e = c .before .before .args .e in
     rw (c .sequence-line .ensures) (first-within s e (c .before .before .pre .1), bases-le (seqAt s e))
+
+-- the description begins in the file
+fits : (c : tie.After-sequence-line) → c .before .before .args .at + c .before .before .args .d .description .start < 2 ^ 64
+fits c = omega (arith, c .before .before .pre)
 
 add-next : tie.Need-add-next
 add-next c = omega (arith, within (c .before))
@@ -43,14 +47,20 @@ add-named c = search needs
 named-requires : tie.Need-named-requires
 named-requires c κs = search needs
 
+add-described : tie.Need-add-described
+add-described c = omega (arith, fits (c .before .before .before .before .before .before .before .before .before .before .before .before .before))
+
+described-requires : tie.Need-described-requires
+described-requires c κs = search needs
+
 enum-known-r-2 : tie.Need-enum-known-r-2
 enum-known-r-2 c = search needs
 
 returns-2 : tie.Need-returns-2
 returns-2 c =
-    let i = c .before .before .before .before .before .before in
-    rw (c .named .ensures, c .before .before .unnamed .ensures)
-    (record-some _ _ _ _ (omega arith) (omega arith) _ (i .before .before .before .before .sequence-line .ensures) (i .before .if1 .left) _ _ (i .index-rest .ensures) (c .before .before .before .before .r .given .1))
+    let i = c .before .before .before .before .before .before .before .before .before .before in
+    rw (c .described .ensures, c .before .before .named .ensures, c .before .before .before .before .unnamed .ensures)
+    (record-some _ _ _ _ (omega arith) (omega arith) _ (i .before .before .before .before .sequence-line .ensures) (i .before .if1 .left) _ _ (i .index-rest .ensures) (c .before .before .before .before .before .before .before .before .r .given .1))
 
 returns-3 : tie.Need-returns-3
 returns-3 c =
@@ -69,6 +79,8 @@ index-sequence-spec =
     unnamed-requires
     add-named
     named-requires
+    add-described
+    described-requires
     enum-known-r-2
     returns-2
     returns-3)

@@ -1,7 +1,7 @@
 -- `primer::inside_bit`: its two tests are those of the definition.
 -- Assumes nothing.
 use borrow.Author.Tests.{eq-eqb, ne-eqb}
-use Rattle.primer.specs.Codes.{inside}
+use Rattle.letters.specs.Sets.{inside}
 use Rattle.primer.proofs.inside_bit.Statement.{statement}
 use Rattle.primer.proofs.inside_bit.Tie as tie
 

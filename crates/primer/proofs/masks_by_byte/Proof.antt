@@ -5,20 +5,21 @@ use mathlib.Core.Path.{_≡_, ap, _∙_}
 use native.Mathlib.Omega.{arith}
 use borrow.Author.Needs.{needs}
 use lib.ListN.{length, getD, length-set}
-use Rattle.primer.specs.Codes.{set-lt}
+use Rattle.letters.specs.Laws.{set-lt}
+use Rattle.letters.specs.Table.{entry}
 use Rattle.primer.specs.Live.{maskBy, maskOf, mask-by}
-use Rattle.primer.specs.Table.{filled}
+use Rattle.primer.specs.Filled.{filled}
 use Rattle.primer.proofs.masks_by_byte.Statement.{statement}
 use Rattle.primer.proofs.masks_by_byte.Tie as tie
 
 abbrev Inv-loop : tie.InvT-loop
-Inv-loop primer codes by-set masks₀ b₀ masks b = (b ≤ 256) × (length masks ≡ 256) × ((k : ℕ) → k < b → getD masks k 0 ≡ maskOf primer k)
+Inv-loop primer sets by-set masks₀ b₀ masks b = (b ≤ 256) × (length masks ≡ 256) × ((k : ℕ) → k < b → getD masks k 0 ≡ maskOf primer k)
 
 abbrev μ-loop : tie.MeasureT-loop
-μ-loop primer codes by-set masks₀ b₀ masks b = 256 - b
+μ-loop primer sets by-set masks₀ b₀ masks b = 256 - b
 
-codes-requires : tie.Need-codes-requires Inv-loop μ-loop
-codes-requires c κs = search needs
+sets-requires : tie.Need-sets-requires Inv-loop μ-loop
+sets-requires c κs = search needs
 
 masks-by-set-requires : tie.Need-masks-by-set-requires Inv-loop μ-loop
 masks-by-set-requires c κs = search needs
@@ -30,8 +31,8 @@ array-read-masks : tie.Need-array-read-masks Inv-loop μ-loop
 array-read-masks c = search needs
 
 -- a byte's set is below 16
-code-lt : (c : tie.In-loop Inv-loop μ-loop) → getD (c .before .before .before .codes .result) (c .before .loop .b) 0 < 16
-code-lt c = omega (arith, c .before .before .before .codes .ensures (c .before .loop .b) (omega arith), set-lt (c .before .loop .b))
+code-lt : (c : tie.In-loop Inv-loop μ-loop) → getD (c .before .before .before .before .sets .result) (c .before .loop .b) 0 < 16
+code-lt c = omega (arith, entry _ _ (c .before .before .before .before .sets .ensures) (c .before .loop .b) (omega arith), set-lt (c .before .loop .b))
 
 cast-masks : tie.Need-cast-masks Inv-loop μ-loop
 cast-masks c = omega (arith, code-lt c)
@@ -58,9 +59,9 @@ loop-again : tie.Need-loop-again Inv-loop μ-loop
 loop-again c =
     let l = c .before in
     let s = l .before in
-    let ps = s .before .before .before .args .primer .now in
+    let ps = s .before .before .before .before .args .primer .now in
     let b = l .loop .b in
-    (search needs, simp length-set (omega arith), filled (maskOf ps) (l .loop .masks) b _ (omega arith) (l .loop .inv .2) (s .masks-by-set .ensures _ (code-lt c) ∙ ap (maskBy ps) (s .before .codes .ensures b (omega arith)) ∙ mask-by ps b))
+    (search needs, simp length-set (omega arith), filled (maskOf ps) (l .loop .masks) b _ (omega arith) (l .loop .inv .2) (s .masks-by-set .ensures _ (code-lt c) ∙ ap (maskBy ps) (entry _ _ (s .before .before .sets .ensures) b (omega arith)) ∙ mask-by ps b))
 
 returns : tie.Need-returns Inv-loop μ-loop
 returns c = λ t h. c .before .loop .inv .2 t (omega arith)
@@ -71,7 +72,7 @@ masks-by-byte-spec =
     (tie.spec
     Inv-loop
     μ-loop
-    codes-requires
+    sets-requires
     masks-by-set-requires
     loop-holds
     array-read-masks

@@ -6,15 +6,15 @@ use native.Mathlib.Omega.{arith}
 use borrow.Author.Needs.{needs}
 use lib.ListN.{length, getD, length-set}
 use Rattle.primer.specs.Live.{maskBy}
-use Rattle.primer.specs.Table.{filled}
+use Rattle.primer.specs.Filled.{filled}
 use Rattle.primer.proofs.masks_by_set.Statement.{statement}
 use Rattle.primer.proofs.masks_by_set.Tie as tie
 
 abbrev Inv-loop : tie.InvT-loop
-Inv-loop primer masks₀ t₀ masks t = (t ≤ 16) × (length masks ≡ 16) × ((k : ℕ) → k < t → getD masks k 0 ≡ maskBy primer k)
+Inv-loop sets primer masks₀ t₀ masks t = (t ≤ 16) × (length masks ≡ 16) × ((k : ℕ) → k < t → getD masks k 0 ≡ maskBy primer k)
 
 abbrev μ-loop : tie.MeasureT-loop
-μ-loop primer masks₀ t₀ masks t = 16 - t
+μ-loop sets primer masks₀ t₀ masks t = 16 - t
 
 loop-holds : tie.Need-loop-holds Inv-loop μ-loop
 loop-holds c = (search needs, search needs, λ k h. absurd (omega arith))

@@ -4,8 +4,9 @@ use mathlib.Core.Path.{_≡_, refl, sym, ap, _∙_}
 use native.Mathlib.Omega.{arith}
 use Prim.Native.Nat.{_<_}
 use lib.ListN.{getD}
-use Rattle.primer.specs.Bits.{bit}
-use Rattle.primer.specs.Codes.{setOf}
+use Rattle.letters.specs.Sets.{bit}
+use Rattle.letters.specs.Letters.{setOf}
+use Rattle.letters.specs.Table.{entry}
 use Rattle.scoring.specs.RuleLaws.{lies-none, lies-in, lies-out}
 use borrow.Author.Needs.{needs}
 use Rattle.scoring.proofs.lies_bit.Statement.{statement}
@@ -15,10 +16,10 @@ use Rattle.scoring.proofs.lies_bit.Lts as lts
 use Rattle.scoring.proofs.same_bit.Reads as same-bit-reads
 
 typed-set : (c : tie.Start) → getD (c .args .codes .now) (c .args .t) 0 ≡ setOf (c .args .t)
-typed-set c = c .pre (c .args .t) (search needs)
+typed-set c = entry _ _ (c .pre) (c .args .t) (search needs)
 
 key-set : (c : tie.Start) → getD (c .args .codes .now) (c .args .k) 0 ≡ setOf (c .args .k)
-key-set c = c .pre (c .args .k) (search needs)
+key-set c = entry _ _ (c .pre) (c .args .k) (search needs)
 
 element-copy-out-set : tie.Need-element-copy-out-set
 element-copy-out-set c = search needs

@@ -10,7 +10,6 @@ use Rattle.scoring.proofs.right_in.Statement.{statement}
 use Rattle.scoring.proofs.right_in.Tie as tie
 use Rattle.scoring.proofs.right_in.Reads as reads
 use Rattle.scoring.proofs.right_in.Lts as lts
-use Rattle.primer.proofs.codes.Reads as codes-reads
 use Rattle.scoring.proofs.block.Reads as block-reads
 use Rattle.scoring.proofs.run.Reads as run-reads
 
@@ -20,8 +19,8 @@ Inv-loop key typed n second codes right₀ i₀ right i = (i ≤ n) × Counted (
 abbrev μ-loop : tie.MeasureT-loop
 μ-loop key typed n second codes right₀ i₀ right i = n - i
 
-codes-requires : tie.Need-codes-requires Inv-loop μ-loop
-codes-requires c κs = search needs
+sets-requires : tie.Need-sets-requires Inv-loop μ-loop
+sets-requires c κs = search needs
 
 loop-holds : tie.Need-loop-holds Inv-loop μ-loop
 loop-holds c = (search needs, counted-none _ _)
@@ -65,7 +64,7 @@ right-in-spec =
     (tie.spec
     Inv-loop
     μ-loop
-    codes-requires
+    sets-requires
     loop-holds
     sub-loop
     block-requires

@@ -1,4 +1,4 @@
--- `table::write` meets its contract: a store keeps the table's length, and the six stores, one after another, are `sets`.
+-- `table::write` meets its contract: a store keeps the table's length, and the eight stores, one after another, are `sets`.
 -- Assumes nothing.
 use borrow.Author.Needs.{needs}
 use lib.ListN.{length-set}
@@ -62,6 +62,24 @@ mul-table-6 c = search needs
 slice-write-table-6 : tie.Need-slice-write-table-6
 slice-write-table-6 c = simp length-set (omega arith)
 
+add-table-6 : tie.Need-add-table-6
+add-table-6 c = search needs
+
+mul-table-7 : tie.Need-mul-table-7
+mul-table-7 c = search needs
+
+slice-write-table-7 : tie.Need-slice-write-table-7
+slice-write-table-7 c = simp length-set (omega arith)
+
+add-table-7 : tie.Need-add-table-7
+add-table-7 c = search needs
+
+mul-table-8 : tie.Need-mul-table-8
+mul-table-8 c = search needs
+
+slice-write-table-8 : tie.Need-slice-write-table-8
+slice-write-table-8 c = simp length-set (omega arith)
+
 same-length : tie.Need-same-length
 same-length c = search needs
 
@@ -91,5 +109,11 @@ write-spec =
     add-table-5
     mul-table-6
     slice-write-table-6
+    add-table-6
+    mul-table-7
+    slice-write-table-7
+    add-table-7
+    mul-table-8
+    slice-write-table-8
     same-length
     returns)

@@ -1,8 +1,9 @@
 //! replay-list ANSWERED OUT: the fixed list of the original's answers that the program `replay` holds against this library's.
 //!
 //! Reads lines `family argument .. => answer ..` of the original (- is standard input) and writes the list to OUT; tells the count of
-//! each family. Left out are: questions that the original doesn't answer (`skip`), families that are not replayed, and a listed
-//! difference (docs/DIFFERENCES.md): a raw read with no end that reaches the greatest base position. Of what is left, no question
+//! each family. Left out are: questions that the original doesn't answer (`skip`), families that are not replayed, and two listed
+//! differences (docs/DIFFERENCES.md): a raw read with no end that reaches the greatest base position, and the line of a row whose
+//! description lies outside the names. Of what is left, no question
 //! twice and no record over LONGEST bytes, each family gives EACH answers: half without a refusal, and equal shares of the rest for
 //! each refusal, as far as there are so many; of these the shortest half, and an even choice of the others.
 //!
@@ -19,7 +20,7 @@
 
 use questions::family::{Family, Original, Shape};
 use questions::form::{self, Value};
-use questions::rules::stops_at_the_greatest;
+use questions::rules::{describes_outside, stops_at_the_greatest};
 use std::collections::HashSet;
 use std::io::{self, BufRead};
 use std::process::ExitCode;
@@ -59,12 +60,15 @@ fn answer(family: &Family, lends: bool, told: &[&str]) -> Option<(Vec<u8>, Vec<u
             &told[1..]
         }
     };
-    for word in words.iter().take_while(|word| **word != "?") {
-        if let Some(table) = form::table(word) {
+    let mut all_told = true;
+    for word in words {
+        if *word == "?" {
+            all_told = false;
+        } else if let Some(table) = form::table(word) {
             put(if lends { &mut memory } else { &mut numbers }, &table);
         } else if let Some(bytes) = form::bytes(word) {
             memory = bytes;
-        } else {
+        } else if all_told {
             put(&mut numbers, &[word.parse().ok()?]);
         }
     }
@@ -152,7 +156,11 @@ fn run(answered: &str, out: &str) -> io::Result<()> {
         let Some((question, told)) = line.split_once(" => ") else { continue };
         let (words, told): (Vec<&str>, Vec<&str>) = (question.split(' ').collect(), told.split(' ').collect());
         let Some(place) = REPLAYED.iter().position(|family| *family == words[0]) else { continue };
-        let listed = words[0] == "rar" && stops_at_the_greatest(&words[1..], &told);
+        let listed = match words[0] {
+            "rar" => stops_at_the_greatest(&words[1..], &told),
+            "wrl" => describes_outside(&words[1..]),
+            _ => false,
+        };
         if told[0] == "skip" || listed || found[place].asked.contains(question) {
             continue;
         }

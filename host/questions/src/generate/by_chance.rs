@@ -2,7 +2,7 @@
 
 use super::chance::{AWKWARD, Chance, NUMERALS};
 use crate::form::Bounds;
-use crate::row::{OF_A_LINE, Row, Rows, WORDS, row};
+use crate::row::{OF_A_LINE, Row, Rows, WORDS, described, row};
 
 /// An output as it is lent: each of its bytes tells its place.
 pub(super) fn room(length: usize) -> Vec<u8> {
@@ -62,8 +62,14 @@ fn add_record(chance: &mut Chance, sample: &mut Sample, end: &[u8]) {
     let name_start = sample.text.len() + 1;
     sample.text.push(b'>');
     sample.text.extend(&name);
+    // what stands behind the name, and where its description begins and how long it is
+    const BEHIND: [(&[u8], [usize; 2]); 5] =
+        [(b" about it", [1, 8]), (b"\tx y ", [1, 3]), (b" ", [1, 0]), (b" \x0b", [1, 1]), (b"\x0cz", [1, 1])];
+    let mut description = [0, 0];
     if chance.once_in(3) {
-        sample.text.extend(chance.one_of(&[&b" about it"[..], b"\tx y ", b" ", b" \x0b", b"\x0cz"]));
+        let (text, [start, length]) = chance.one_of(&BEHIND);
+        description = [sample.text.len() + start, length];
+        sample.text.extend(text);
     }
     sample.text.extend(end);
     let position = sample.text.len();
@@ -77,7 +83,7 @@ fn add_record(chance: &mut Chance, sample: &mut Sample, end: &[u8]) {
         sample.text.extend(end);
     }
     let numbers = [name_start, name.len(), length, position, line_bases, line_bases + end.len()];
-    sample.rows.push(row(numbers.map(|n| n as u64)));
+    sample.rows.push(described(numbers.map(|n| n as u64), description.map(|n| n as u64)));
 }
 
 /// Damages some bytes in one of the ways that files are damaged.

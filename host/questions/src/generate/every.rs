@@ -94,6 +94,28 @@ pub(super) fn index() -> Source {
     }))
 }
 
+/// Letters of each kind: plain, of two bases, of all, and a byte that is none.
+const CODES: &[u8] = b"ACGTRYN-";
+
+pub(super) fn primer() -> Source {
+    Box::new(strings(b"ATUrYNv-", 5).map(|primer| vec![Bytes(primer)]))
+}
+
+pub(super) fn primer_and_text() -> Source {
+    let primers = strings(CODES, 2).chain(strings(b"ANR-", 3));
+    Box::new(primers.flat_map(|primer| strings(CODES, 3).map(move |text| vec![Bytes(primer.clone()), Bytes(text)])))
+}
+
+pub(super) fn primer_text_and_place() -> Source {
+    let primers = strings(b"ARN-", 2);
+    Box::new(primers.flat_map(|primer| {
+        strings(b"ARN-", 4).flat_map(move |text| {
+            let (primer, places) = (primer.clone(), [0, 1, 2, 3, 4, 5, u64::MAX]);
+            places.map(|from| vec![Bytes(primer.clone()), Bytes(text.clone()), Number(from)])
+        })
+    }))
+}
+
 pub(super) fn check() -> Source {
     let few = strings(b">s\n\t", 3)
         .flat_map(|fasta| strings(b"s\n\t0", 3).map(move |index| vec![Bytes(fasta.clone()), Bytes(index)]));
@@ -141,6 +163,28 @@ pub(super) fn far_read() -> Source {
             vec![Bytes(file), Rows(rows(&[row], 1)), Number(0), Bounds(bounds), Output(room(9))]
         })
     }))
+}
+
+/// Descriptions at the ends of the bytes and past them, of a row whose name is good.
+fn descriptions() -> impl Iterator<Item = row::Rows> {
+    const FAR: [u64; 8] = [0, 1, 2, 3, 4, u64::MAX / 2 + 1, u64::MAX - 1, u64::MAX];
+    let spans = FAR.into_iter().flat_map(|start| FAR.into_iter().map(move |length| [start, length]));
+    spans.map(|[start, length]| {
+        let mut rows = rows(&[[0, 1, 2, 3, 4, 5]], 1);
+        let last = rows.numbers.len() - 2;
+        rows.numbers[last..].copy_from_slice(&[start, length]);
+        rows
+    })
+}
+
+/// Names looked up among rows with descriptions everywhere.
+pub(super) fn described_look_up() -> Source {
+    Box::new(descriptions().map(|rows| vec![Bytes(b"abc".to_vec()), Rows(rows), Bytes(b"a".to_vec())]))
+}
+
+/// Lines written of rows with descriptions everywhere.
+pub(super) fn described_line() -> Source {
+    Box::new(descriptions().map(|rows| vec![Bytes(b"abc".to_vec()), Rows(rows), Number(0), Output(room(20))]))
 }
 
 pub(super) fn look_up() -> Source {
@@ -194,6 +238,19 @@ pub(super) fn written_bases() -> Source {
     const WIDTHS: [u64; 10] = [0, 1, 2, 3, 4, 5, 6, 7, u64::MAX / 2 + 1, u64::MAX];
     let bases = strings(b"AC\n\r>", 5).chain((0..=255).map(|b: u8| vec![b]));
     Box::new(bases.flat_map(|bases| WIDTHS.map(|width| written(b"s", None, &bases, width)).into_iter().flatten()))
+}
+
+pub(super) fn written_sequence() -> Source {
+    Box::new(written_bases().map(without_definition))
+}
+
+/// The bases, the width and the room of a record that is to be written; the room is shorter by a definition line `>s`.
+pub(super) fn without_definition(mut record: Vec<Value>) -> Vec<Value> {
+    let mut sequence = record.split_off(2);
+    if let Some(Output(out)) = sequence.last_mut() {
+        out.truncate(out.len().saturating_sub(3));
+    }
+    sequence
 }
 
 /// The program at its limits: bytes and rows, one below, at, and above.

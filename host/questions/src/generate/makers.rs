@@ -5,6 +5,7 @@ use super::by_chance::{
     some_room, some_rows, some_table, spaced_file, wanted, written_length,
 };
 use super::chance::Chance;
+use super::every::without_definition;
 use super::{Source, every};
 use crate::family::Kind;
 use crate::form::Value::{self, Bounds, Bytes, Number, Output, Rows, Table};
@@ -43,13 +44,17 @@ pub(super) const MAKERS: &[Maker] = &[
     maker("ixl", 16, index_line, &[every::index_line]),
     maker("ixc", 16, index_line, &[every::index_line]),
     maker("ixt", 32, index, &[every::index]),
-    maker("wrl", 16, written_line, &[every::written_line]),
-    maker("fnd", 32, look_up, &[every::look_up]),
+    maker("wrl", 16, written_line, &[every::written_line, every::described_line]),
+    maker("fnd", 32, look_up, &[every::look_up, every::described_look_up]),
     maker("exr", 48, read, &[every::read, every::far_read]),
     maker("rar", 32, read, &[every::read, every::far_read]),
     maker("cmp", 16, bases, &[every::complement]),
     maker("rev", 16, bases, &[every::complement]),
+    maker("deg", 16, primer, &[every::primer]),
+    maker("prm", 32, primer_and_text, &[every::primer_and_text]),
+    maker("prn", 16, primer_text_and_place, &[every::primer_text_and_place]),
     maker("wfa", 32, written_record, &[every::written_name, every::written_description, every::written_bases]),
+    maker("wsq", 16, written_sequence, &[every::written_sequence]),
     maker("chk", 32, pair, &[every::check]),
     maker("prg", 1, program, &[every::program_limits]),
 ];
@@ -226,6 +231,46 @@ fn bases(chance: &mut Chance) -> Vec<Value> {
     vec![Bytes(bases), Output(room)]
 }
 
+/// A primer: 1 to 31 letters, or about as many, with a byte that is no letter at times.
+fn some_primer(chance: &mut Chance) -> Vec<u8> {
+    let length = match chance.below(8) {
+        0 => chance.one_of(&[0, 1, 30, 31, 32, 33]),
+        1 => 1 + chance.below(31),
+        _ => 1 + chance.below(6),
+    };
+    let mut primer: Vec<u8> = (0..length).map(|_| chance.one_of(LETTERS)).collect();
+    if chance.once_in(8) {
+        damage(chance, &mut primer);
+    }
+    primer
+}
+
+fn primer(chance: &mut Chance) -> Vec<Value> {
+    vec![Bytes(some_primer(chance))]
+}
+
+/// A primer and a text, in which it often stands: near the front, across the end of a block, or at the text's end.
+fn primer_and_text(chance: &mut Chance) -> Vec<Value> {
+    let primer = some_primer(chance);
+    let mut text = some_bases(chance);
+    if !chance.once_in(3) {
+        let at = chance.below(text.len() + 1);
+        // what a plain letter's set holds lies inside it; another letter lies inside itself
+        let there: Vec<u8> =
+            primer.iter().map(|letter| if chance.once_in(20) { chance.one_of(LETTERS) } else { *letter }).collect();
+        text.splice(at..at, there);
+    }
+    vec![Bytes(primer), Bytes(text)]
+}
+
+fn primer_text_and_place(chance: &mut Chance) -> Vec<Value> {
+    let mut arguments = primer_and_text(chance);
+    let Some(Bytes(text)) = arguments.last() else { return arguments };
+    let from = place(chance, text);
+    arguments.push(Number(from));
+    arguments
+}
+
 /// Mostly a record that can be written; at times each of its parts is damaged.
 fn written_record(chance: &mut Chance) -> Vec<Value> {
     const TEXTS: [&[u8]; 6] = [b"one", b"about it", b"a\tb\rc", b"\x0bv", b">", b"\xff"];
@@ -244,6 +289,11 @@ fn written_record(chance: &mut Chance) -> Vec<Value> {
     let width = about(chance, near as u64);
     let room = some_room(chance, written_length(&name, description.as_deref(), &bases, width));
     vec![Bytes(name), Value::MaybeBytes(description), Bytes(bases), Number(width), Output(room)]
+}
+
+/// The bases and the width of a record that is written, alone.
+fn written_sequence(chance: &mut Chance) -> Vec<Value> {
+    without_definition(written_record(chance))
 }
 
 fn pair(chance: &mut Chance) -> Vec<Value> {

@@ -200,11 +200,23 @@ enum-known-self-25 c = search needs
 told-requires-32 : tie.Need-told-requires-32
 told-requires-32 c κs = search needs
 
-enum-known-self-26 : tie.Need-enum-known-self-26
-enum-known-self-26 c = search needs
+enum-told-8 : tie.Need-enum-told-8
+enum-told-8 c = search needs
 
 told-requires-33 : tie.Need-told-requires-33
 told-requires-33 c κs = search needs
+
+enum-known-self-26 : tie.Need-enum-known-self-26
+enum-known-self-26 c = search needs
+
+told-requires-34 : tie.Need-told-requires-34
+told-requires-34 c κs = search needs
+
+enum-known-self-27 : tie.Need-enum-known-self-27
+enum-known-self-27 c = search needs
+
+told-requires-35 : tie.Need-told-requires-35
+told-requires-35 c κs = search needs
 
 returns : tie.Need-returns
 unfolding numbersOf
@@ -336,7 +348,15 @@ returns-32 c = rw (c .before .before .self25 .given .1) (c .told32 .ensures)
 
 returns-33 : tie.Need-returns-33
 unfolding numbersOf
-returns-33 c = rw (c .before .before .self26 .given .1) (c .told33 .ensures)
+returns-33 c = rw (c .before .enum-told8 .given .1) (c .told33 .ensures)
+
+returns-34 : tie.Need-returns-34
+unfolding numbersOf
+returns-34 c = rw (c .before .before .self26 .given .1) (c .told34 .ensures)
+
+returns-35 : tie.Need-returns-35
+unfolding numbersOf
+returns-35 c = rw (c .before .before .self27 .given .1) (c .told35 .ensures)
 
 pub numbers-spec : {M : Type 1} → statement M
 numbers-spec =
@@ -406,8 +426,12 @@ numbers-spec =
     told-requires-31
     enum-known-self-25
     told-requires-32
-    enum-known-self-26
+    enum-told-8
     told-requires-33
+    enum-known-self-26
+    told-requires-34
+    enum-known-self-27
+    told-requires-35
     returns
     returns-2
     returns-3
@@ -440,4 +464,6 @@ numbers-spec =
     returns-30
     returns-31
     returns-32
-    returns-33)
+    returns-33
+    returns-34
+    returns-35)

@@ -1,0 +1,5 @@
+pub mod Letters
+pub mod Sets
+pub mod Laws
+pub mod Table
+pub mod Complements

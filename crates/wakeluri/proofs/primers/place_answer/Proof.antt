@@ -1,0 +1,62 @@
+-- `wakeluri::primers::place_answer` meets its contract: case by case.
+-- Assumes nothing.
+use Rattle.wakeluri.specs.Primers.{placeAnswer}
+use borrow.Author.Needs.{needs}
+use Rattle.wakeluri.proofs.primers.place_answer.Statement.{statement}
+use Rattle.wakeluri.proofs.primers.place_answer.Tie as tie
+
+enum-known-r : tie.Need-enum-known-r
+enum-known-r c = search needs
+
+fine-requires : tie.Need-fine-requires
+fine-requires c κs = search needs
+
+count-answer-requires : tie.Need-count-answer-requires
+count-answer-requires c κs = search needs
+
+enum-told : tie.Need-enum-told
+enum-told c = search needs
+
+fine-requires-2 : tie.Need-fine-requires-2
+fine-requires-2 c κs = search needs
+
+count-answer-requires-2 : tie.Need-count-answer-requires-2
+count-answer-requires-2 c κs = search needs
+
+enum-known-r-2 : tie.Need-enum-known-r-2
+enum-known-r-2 c = search needs
+
+numbers-requires : tie.Need-numbers-requires
+numbers-requires c κs = search needs
+
+count-answer-requires-3 : tie.Need-count-answer-requires-3
+count-answer-requires-3 c κs = search needs
+
+returns : tie.Need-returns
+unfolding placeAnswer
+returns c = rw (c .before .before .before .r .given .1) (rw (c .before .fine .ensures) at (c .count-answer .ensures))
+
+returns-2 : tie.Need-returns-2
+unfolding placeAnswer
+returns-2 c = rw (c .before .before .enum-told .given .1) (rw (c .before .fine2 .ensures) at (c .count-answer2 .ensures))
+
+returns-3 : tie.Need-returns-3
+unfolding placeAnswer
+returns-3 c = rw (c .before .before .before .r2 .given .1) (rw (c .before .numbers .ensures) at (c .count-answer3 .ensures))
+
+pub place-answer-spec : {M : Type 1} → statement M
+place-answer-spec =
+    tie.close
+    (tie.spec
+    enum-known-r
+    fine-requires
+    count-answer-requires
+    enum-told
+    fine-requires-2
+    count-answer-requires-2
+    enum-known-r-2
+    numbers-requires
+    count-answer-requires-3
+    returns
+    returns-2
+    returns-3)
