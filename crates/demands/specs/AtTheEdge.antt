@@ -20,7 +20,7 @@ use Rattle.fitting.specs.declared.Rule.{Rule}
 use Rattle.checker.specs.Accepts.{limit}
 use Rattle.checker.specs.Check.{checkOf}
 use Rattle.checker.specs.Exactly.{accepted-if, accepted-only-if}
-use Rattle.byte_table.specs.Numbers.{numbersIn}
+use Rattle.table.specs.Numbers.{numbersIn}
 use Rattle.wakeluri.specs.declared.answer.Answer.{Answer}
 use Rattle.wakeluri.specs.Answer.{boundOf}
 use Rattle.mission.specs.TableOf.{recordCount}

@@ -18,7 +18,7 @@ use Rattle.lines.specs.Groups.{groups}
 use Rattle.definition.specs.Definition.{failsAt}
 use Rattle.definition.specs.Failing.{numberOf}
 use Rattle.definition.specs.declared.Fault.{Fault}
-use Rattle.record.specs.Row.{rowCount}
+use Rattle.table.specs.Rows.{rowCount}
 use Rattle.table.specs.declared.Stop.{Stop}
 use Rattle.table.specs.declared.Stop.the-variants as stop
 use Rattle.fitting.specs.declared.Rule.{Rule}
@@ -31,10 +31,10 @@ use Rattle.checker.specs.BadDefinition.{FirstBad, TellsBad}
 use Rattle.checker.specs.BadDefinition as checker
 use Rattle.mission.specs.BadDefinition.{BadAt}
 use Rattle.mission.specs.BadDefinition as mission
-use Rattle.byte_table.specs.Numbers.{numbersIn}
+use Rattle.table.specs.Numbers.{numbersIn}
 use Rattle.wakeluri.specs.declared.answer.Answer.{Answer}
 use Rattle.wakeluri.specs.Answer.{filledAnswer, verdictAnswer}
-use Rattle.output.specs.Outcome.{Outcome}
+use Rattle.output.specs.Outcome.{Outcome, leaves}
 use Rattle.wakeluri.specs.Told.{filledTold}
 use Rattle.demands.specs.Calls.{Check, IndexFile}
 

@@ -3,7 +3,7 @@
 use Prim.Native.Nat.{ℕ}
 use mathlib.Core.Path.{_≡_}
 use mathlib.Core.List.{List}
-use Rattle.record.specs.Row.{rowCount}
+use Rattle.table.specs.Rows.{rowCount}
 use Rattle.definition.specs.Definition.{lineRead}
 use Rattle.sequence.specs.Read.{readWhole}
 use Rattle.index_line.specs.IndexLine.{writtenAs}
@@ -16,7 +16,7 @@ use Rattle.fitting.specs.Rules.{rowsIn}
 use Rattle.region.specs.Exact.{exactRead}
 use Rattle.region.specs.Raw.{rawRead}
 use Rattle.checker.specs.Check.{checkOf}
-use Rattle.byte_table.specs.Numbers.{numbersIn}
+use Rattle.table.specs.Numbers.{numbersIn}
 use Rattle.wakeluri.specs.declared.answer.Answer.{Answer}
 use Rattle.wakeluri.specs.declared.answer.DefinitionAnswer.{DefinitionAnswer}
 use Rattle.wakeluri.specs.declared.answer.RowAnswer.{RowAnswer}

@@ -7,14 +7,14 @@ use native.Mathlib.Omega.{arith}
 use native.Mathlib.Nat.{zero-add}
 use Rattle.lines.specs.Lines.{lines}
 use Rattle.lines.specs.Groups.{groups}
-use Rattle.record.specs.Row.{rowCount}
+use Rattle.table.specs.Rows.{rowCount}
 use Rattle.table.specs.Fill.{Found}
 use Rattle.output.specs.Outcome.{leaves, pours}
 use Rattle.index.specs.Index.{indexIn}
 use Rattle.fitting.specs.declared.Rule.{Rule}
 use Rattle.fitting.specs.Rules.{ruleOf, rowsIn}
 use Rattle.checker.specs.Accepts.{limit, Accepts}
-use Rattle.byte_table.specs.Numbers.{numbersIn}
+use Rattle.table.specs.Numbers.{numbersIn}
 use Rattle.wakeluri.specs.declared.answer.Answer.{Answer}
 use Rattle.wakeluri.specs.Told.{writtenTold}
 use Rattle.mission.specs.IndexedLaws.{Along, taken}

@@ -3,13 +3,13 @@ use Prim.Native.Nat.{ℕ, zero, suc, _*_, _≤_, _<_}
 use mathlib.Core.Path.{_≡_}
 use mathlib.Core.List.{List, [], _++_}
 use lib.ListN.{length, getD, take, drop}
-use Rattle.record.specs.Row.{rowWords}
 use Rattle.region.specs.declared.Bound.{Bound}
 use Rattle.checker.specs.Accepts.{Accepts}
 use Rattle.wakeluri.specs.declared.answer.Answer.{Answer}
 use Rattle.mission.specs.TableOf.{recordCount}
 use Rattle.mission.specs.Asked.{askedCount, askedBases}
 use Rattle.demands.specs.Calls.{WriteIndexLine}
+use Rattle.table.specs.Rows.{rowWords}
 
 -- what is lent are bytes
 abbrev pub AreBytes : List ℕ → Type 0

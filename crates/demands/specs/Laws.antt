@@ -13,19 +13,19 @@ use Rattle.refusal.specs.Numbers.{numbersOf, overLimit}
 use Rattle.lines.specs.Lines.{lines}
 use Rattle.lines.specs.Groups.{groups}
 use Rattle.record.specs.declared.Record.{Record}
-use Rattle.record.specs.Row.{rowCount, withRows}
+use Rattle.table.specs.Rows.{rowCount, withRows}
 use Rattle.table.specs.declared.Filled.{Filled}
 use Rattle.table.specs.declared.Stop.{Stop}
 use Rattle.table.specs.declared.Stop.the-variants as stop
 use Rattle.table.specs.Fill.{Found, FilledAs}
 use Rattle.output.specs.Outcome.{Outcome, leaves, pours}
-use Rattle.index_line.specs.IndexLine.{columnsOf, nameIn, lineOf, writtenAs}
+use Rattle.index_line.specs.IndexLine.{columnsOf, nameIn, lineOf, lineWritten, writtenAs}
 use Rattle.checker.specs.Accepts.{limit}
 use Rattle.checker.specs.declared.Verdict.{Verdict}
 use Rattle.checker.specs.declared.Verdict.the-variants as verdict
 use Rattle.region.specs.declared.Bound.{Bound}
 use Rattle.region.specs.Exact.{exactRead}
-use Rattle.byte_table.specs.Numbers.{numbersIn, withNumbers}
+use Rattle.table.specs.Numbers.{numbersIn, withNumbers}
 use Rattle.wakeluri.specs.declared.answer.Answer.{Answer}
 use Rattle.wakeluri.specs.Answer.{fine, answerOf, writtenAnswer, filledAnswer, verdictAnswer}
 use Rattle.wakeluri.specs.Told.{filledTold, writtenTold}
@@ -132,7 +132,7 @@ module _ (a : Answer) (text out out′ : List ℕ) (told : leaves a out′ ≡ w
 -- so the index line of row k of a table of rows that lead to their bases
 pub row-fronted : (f t : List ℕ) (xs : List Record) (s : Stop) (h : Along (LeadsTo f) 0 (groups (lines f)) xs s) → length f ≤ limit → length xs ≤ rowCount t
     → (k : ℕ) → k < length xs → (out : List ℕ) → writtenAs f (withRows t 0 xs) (length xs) k out ≡ pours (lineIn f (rowIn xs k)) out
-unfolding writtenAs overLimit lineOf
+unfolding writtenAs lineWritten overLimit lineOf
 row-fronted f t xs s h small room k m out =
     let d = leading-at f xs s h k m in
     rw (le-ltb 1099511627776 (length f) small, row-held t xs noRow k (length f) room m (d .lined (omega arith)) (d .named) (d .described))

@@ -7,7 +7,7 @@ use Prim.Native.Nat.{ℕ}
 use mathlib.Core.List.{List}
 use Rattle.region.specs.ByName.{exactNamed, rawNamed, Small}
 use Rattle.region.specs.Split as calls
-use Rattle.byte_table.specs.Numbers.{numbersIn}
+use Rattle.table.specs.Numbers.{numbersIn}
 use Rattle.wakeluri.specs.declared.answer.Answer.{Answer}
 use Rattle.wakeluri.specs.Answer.{boundOf}
 use Rattle.wakeluri.specs.Told.{writtenTold}

@@ -15,25 +15,25 @@ use Rattle.complement.specs.Complement.{firstOr, faults, reverseComplementOf, s
 use Rattle.definition.specs.Definition.{isSpace, run, keep, refusalOf}
 use Rattle.definition.specs.Definition as definition
 use Rattle.record.specs.Place.{placeOf, placesFrom, offsetOf, hasPlace, addressOf}
-use Rattle.record.specs.Row.{wordsOf, words, rowCount, rowAt, soundRow, heldAt, namedIn, namedAt}
+use Rattle.table.specs.Rows.{wordsOf, words, rowCount, rowAt, usedAt, soundRow, heldOf, heldAt, namedIn, namedOf, namedAt}
 use Rattle.sequence.specs.Scan.{endsLine, skipped, scanFrom, scanAt, scanAll}
 use Rattle.table.specs.Fill.{heldIn}
 use Rattle.index_line.specs.Bytes.{firstWhere}
 use Rattle.index_line.specs.Decimal.{allDigits, valueFrom, numberFrom, digitsOf, numberOf, plainNumber, digits, widthFrom, width, decimalOf}
 use Rattle.output.specs.Outcome.{Outcome, leaves, pours}
 use Rattle.index_line.specs.Fields.{cutAt, fieldSays, numbersFrom, tabbed, textOf, textWritten}
-use Rattle.index_line.specs.IndexLine.{fieldsOf, plainEnd, nameOf, nameIn, writtenAs}
+use Rattle.index_line.specs.IndexLine.{fieldsOf, plainEnd, nameOf, nameIn, lineWritten, writtenAs}
 use Rattle.index_line.specs.IndexLine as index
 use Rattle.indexer.specs.Rule.{sequenceBy, groupsBy, fileBy, callBy}
 use Rattle.indexer.specs.Index.{fitsLast, restOf, judge}
 use Rattle.indexer.specs.File.{fileIn}
 use Rattle.region.specs.Region.{isZero, crossed, badBounds, boundedRow, startOf, endOf}
-use Rattle.region.specs.Exact.{inFile, pastLength, bytesAt, basesFrom, regionOf, exactIn, exactOf, exactRead}
-use Rattle.region.specs.Raw.{scanTo, rawAt, rawIn, rawOf, rawRead}
+use Rattle.region.specs.Exact.{inFile, pastLength, bytesAt, basesFrom, regionOf, exactIn, exactOf, exactHeld, exactRead}
+use Rattle.region.specs.Raw.{scanTo, rawAt, rawIn, rawOf, rawHeld, rawRead}
 use Rattle.walking.specs.Places.{firstElsewhere}
 use Rattle.checker.specs.Check as checker
 use Rattle.checker.specs.Check.{entrySays, againstLines, recordSays, recordsSay, checkOf}
-use Rattle.byte_table.specs.Numbers.{fromBytes, toBytes, firstNumbers, numbersIn, restOf as rest, bytesOf, withNumbers}
+use Rattle.table.specs.Numbers.{fromBytes, toBytes, firstNumbers, numbersIn, restOf as rest, bytesOf, withNumbers}
 use Rattle.wakeluri.specs.declared.answer.Answer.{Answer}
 use Rattle.wakeluri.specs.Answer.{fine, answerOf, boundOf, writtenAnswer, filledAnswer, verdictAnswer}
 use Rattle.wakeluri.specs.Told.{writtenTold, filledTold}
@@ -132,5 +132,5 @@ answers =
     ∷ []
 
 pub marked : asked ≡ answers
-unfolding asked answers joined numbersOf overLimit lines chop ends contentOf seqOf sumBases sumWidths upFrom basesAt groups sameBytes partner firstOr faults reverseComplementOf sized poured complementWritten isSpace run keep refusalOf definition.contentSays definition.definitionSays placeOf placesFrom offsetOf hasPlace addressOf wordsOf words rowCount rowAt soundRow heldAt namedIn namedAt endsLine skipped scanFrom scanAt scanAll heldIn firstWhere allDigits valueFrom numberFrom digitsOf numberOf plainNumber digits widthFrom width decimalOf cutAt fieldSays numbersFrom tabbed textOf pours textWritten fieldsOf plainEnd nameOf nameIn writtenAs index.contentSays index.indexLineSays fitsLast restOf judge sequenceBy groupsBy fileBy callBy isZero crossed badBounds boundedRow startOf endOf inFile pastLength bytesAt basesFrom regionOf exactIn exactOf exactRead scanTo rawAt rawIn rawOf rawRead firstElsewhere checker.sequenceSays entrySays againstLines recordSays recordsSay checkOf fromBytes toBytes firstNumbers numbersIn rest bytesOf withNumbers boundOf writtenAnswer filledAnswer verdictAnswer writtenTold filledTold
+unfolding asked answers joined numbersOf overLimit lines chop ends contentOf seqOf sumBases sumWidths upFrom basesAt groups sameBytes partner firstOr faults reverseComplementOf sized poured complementWritten isSpace run keep refusalOf definition.contentSays definition.definitionSays placeOf placesFrom offsetOf hasPlace addressOf wordsOf words rowCount rowAt usedAt soundRow heldOf heldAt namedIn namedOf namedAt endsLine skipped scanFrom scanAt scanAll heldIn firstWhere allDigits valueFrom numberFrom digitsOf numberOf plainNumber digits widthFrom width decimalOf cutAt fieldSays numbersFrom tabbed textOf pours textWritten fieldsOf plainEnd nameOf nameIn writtenAs lineWritten index.contentSays index.indexLineSays fitsLast restOf judge sequenceBy groupsBy fileBy callBy isZero crossed badBounds boundedRow startOf endOf inFile pastLength bytesAt basesFrom regionOf exactIn exactOf exactRead exactHeld scanTo rawAt rawIn rawOf rawRead rawHeld firstElsewhere checker.sequenceSays entrySays againstLines recordSays recordsSay checkOf fromBytes toBytes firstNumbers numbersIn rest bytesOf withNumbers boundOf writtenAnswer filledAnswer verdictAnswer writtenTold filledTold
 marked = refl

@@ -6,9 +6,9 @@ use native.Mathlib.Omega.{arith}
 use lib.ListN.{length, getD, take, drop, set, length-append, length-take, length-drop}
 use lib.Seq.{sets, length-sets, take-at, drop-at, getD-drop}
 use Rattle.record.specs.declared.Record.{Record}
-use Rattle.record.specs.Row.{rowWords, wordsOf, words, rowCount, withRows}
-use Rattle.byte_table.specs.Numbers.{fromBytes, toBytes, firstNumbers, numbersIn, restOf, bytesOf, withNumbers}
-use Rattle.byte_table.specs.Laws.{length-toBytes, from-to, from-fits, length-numbers}
+use Rattle.table.specs.Rows.{rowWords, wordsOf, words, rowCount, withRows}
+use Rattle.table.specs.Numbers.{fromBytes, toBytes, firstNumbers, numbersIn, restOf, bytesOf, withNumbers}
+use Rattle.table.specs.NumberLaws.{length-toBytes, from-to, from-fits, length-numbers}
 use Rattle.mission.specs.Leading.{rowIn}
 use Rattle.mission.specs.TableOf.{Fits}
 use Rattle.demands.specs.Host.{AreBytes, rowBytes}

@@ -16,7 +16,7 @@ use native.Mathlib.Omega.{arith}
 use Rattle.refusal.specs.Numbers.{overLimit}
 use Rattle.output.specs.Outcome.{leaves}
 use Rattle.definition.specs.declared.DefinitionRead.the-variants as definition
-use Rattle.sequence.specs.Read.{readWhole, poured}
+use Rattle.sequence.specs.Read.{readWhole, poured, written as poured-all}
 use Rattle.checker.specs.Accepts.{limit}
 use Rattle.writer.specs.Text.{definitionText, recordText}
 use Rattle.writer.specs.Reads.{definitionOf, call-put}
@@ -52,7 +52,7 @@ module _ (name : List ℕ) (has-description : ℕ) (description bases : List ℕ
   pub written-sequence : (room room′ : List ℕ) (a : Answer) → length bases ≤ length room
       → ReadSequence (take (written .count) out′) (length (definitionText name (givenBy has-description) description)) room a room′
       → leaves a room′ ≡ leaves (answerOf fine (length bases) (written .count)) (bases ++ drop (length bases) room)
-  unfolding readWhole overLimit poured sequenceTold sequenceAnswer
+  unfolding readWhole overLimit poured poured-all sequenceTold sequenceAnswer
   written-sequence room room′ a fits told =
       let p = call-put name (givenBy has-description) description bases width out (written .count) out′ (zero-wrote _ written out′ write zero) in
       let text : List ℕ = recordText name (givenBy has-description) description bases width in

@@ -33,7 +33,7 @@ fn say(text: &[u8], n: usize) {
 
 // Writes the index line of a row, which is made in `line`.
 fn say_row(names: &[u8], table: &[u64], rows: usize, row: usize, line: &mut [u8]) {
-    let written = index_line::write_line(names, table, rows, row, line);
+    let written = index_line::write_line(names, table::row(table, rows, row), line);
     match written {
         Written::Bytes(n) => say(line, n),
         Written::Refused(why) => say_refused(why),
@@ -70,7 +70,7 @@ fn list_input(input: &[u8], n: usize, table: &mut [u64], line: &mut [u8]) {
 // Reads some FASTA from a descriptor, and writes its index. A line is at most all of the input for its name, and 85 bytes more.
 fn list(fd: i32) {
     let mut input = [0u8; 65537];
-    let mut table = [0u64; 8192];
+    let mut table = [0u64; 1024 * table::WORDS];
     let mut line = [0u8; 65664];
     let n = io::read_full(fd, &mut input);
     list_input(&input, n, &mut table, &mut line);

@@ -2,6 +2,8 @@
 // The row's position is the first base's offset, its line bases are how many bases lie side by side from there, and its line width is how
 // far the first base behind those is from the first of all. Refuses a file over the size limit (1), a bad definition line (2 to 4), a
 // base that no numbers can lead to (42), and a table without a free row (8).
+pub mod bytes;
+
 use definition::Definition;
 use definition::Parsed;
 use indexer::Indexed;
@@ -10,17 +12,18 @@ use indexer::Step;
 use lines::Line;
 use record::Offset;
 use record::Record;
-use record::Stored;
 use refusal::Refusal;
 use table::Filled;
+use table::Kept;
+use table::Next;
 use table::Stop;
 use walking::Placed;
 ghost use mathlib.Core.Path.{_≡_};
 ghost use Prim.Native.Nat.{_+_, _-_, _≤_, _<_};
 ghost use lib.ListN.{length};
 ghost use Rattle.lines.specs.Lines.{firstLine, seqAt};
-ghost use Rattle.record.specs.Row.{rowCount};
-ghost use Rattle.table.specs.Fill.{FilledAs, heldIn};
+ghost use Rattle.table.specs.Rows.{rowCount};
+ghost use Rattle.table.specs.Fill.{FilledAs, heldIn, NextOf};
 ghost use Rattle.indexer.specs.Rule.{sequenceBy, recordBy};
 ghost use Rattle.fitting.specs.Complete.{complete};
 ghost use Rattle.fitting.specs.Rules.{stepBy, rowsBy, rowsIn};
@@ -222,6 +225,19 @@ pub fn index_at(s: &[u8], at: usize, rule: Rule) -> Step
     }
 }
 
+// The next row of the file from `at` on, by a rule.
+pub(crate) fn next_row(s: &[u8], at: usize, rule: Rule) -> Next
+    ensures { λ r. ⌜ NextOf (rowsBy rule (now (s .entry)) at) (rowsBy rule (now (s .entry))) at (length (now (s .entry))) r ⌝ }
+{
+    let step = index_at(s, at, rule);
+    let answer = step.answer;
+    match answer {
+        Indexed::Row(x) => Next::Row(x, step.next.at),
+        Indexed::End => Next::Stop(Stop::Ended),
+        Indexed::Refused(f) => Next::Stop(Stop::Refused(f)),
+    }
+}
+
 // A row for each record of the file, from the table's first row on.
 fn index_rows(s: &[u8], table: &mut [u64], rule: Rule) -> Filled
     ensures { λ r. ⌜ FilledAs (heldIn (rowCount (now (table .entry))) (rowCount (now (table .entry))) (rowsBy rule (now (s .entry)) 0)) (now (table .entry)) (now (table .exit)) r ⌝ }
@@ -229,35 +245,13 @@ fn index_rows(s: &[u8], table: &mut [u64], rule: Rule) -> Filled
     let mut at = 0;
     let mut n = 0;
     loop {
-        let step = index_at(s, at, rule);
-        let answer = step.answer;
-        match answer {
-            Indexed::Row(x) => {
-                let stored = x.store(table, n);
-                match stored {
-                    Stored::Kept => {
-                        n += 1;
-                        at = step.next.at;
-                    }
-                    Stored::Refused(f) => {
-                        return Filled {
-                            rows: n,
-                            stop: Stop::Refused(f),
-                        };
-                    }
-                }
+        match table::keep(table, n, next_row(s, at, rule)) {
+            Kept::On(behind) => {
+                n += 1;
+                at = behind;
             }
-            Indexed::End => {
-                return Filled {
-                    rows: n,
-                    stop: Stop::Ended,
-                };
-            }
-            Indexed::Refused(f) => {
-                return Filled {
-                    rows: n,
-                    stop: Stop::Refused(f),
-                };
+            Kept::Stop(stop) => {
+                return Filled { rows: n, stop };
             }
         }
     }

@@ -7,16 +7,23 @@ use Rattle.refusal.specs.Numbers.{overLimit}
 use Rattle.refusal.specs.declared.Refusal.the-variants.{TooLong, NameUnknown}
 use Rattle.lines.specs.Same.{sameBytes}
 use Rattle.record.specs.declared.Record.{Record}
-use Rattle.record.specs.declared.Held.{Held}
-use Rattle.record.specs.declared.Held.the-variants as held
-use Rattle.record.specs.Row.{namedAt}
+use Rattle.table.specs.declared.Held.{Held}
+use Rattle.table.specs.declared.Held.the-variants as held
+use Rattle.table.specs.Rows.{namedAt}
 use Rattle.index_line.specs.IndexLine.{nameIn}
+use Rattle.index.specs.declared.Compared.{Compared}
+use Rattle.index.specs.declared.Compared.the-variants as compared
 use Rattle.index.specs.declared.Found.{Found}
 use Rattle.index.specs.declared.Found.the-variants.{Row, Refused}
 
 -- is a record's name, a span of some bytes, the one looked for
 unfoldable pub named : List ℕ → Record → List ℕ → Bool
 named names x name = sameBytes (nameIn names x) name
+
+-- does a row have the name: it is refused, or its name is compared
+unfoldable pub comparedOf : List ℕ → List ℕ → Held → Compared
+comparedOf names name (held.Refused f) = compared.Refused f
+comparedOf names name (held.Row x) = cond (named names x name) compared.Same compared.Other
 
 -- row r, with what the rows behind it say
 abbrev pub judged : List ℕ → List ℕ → ℕ → Held → Found → Found

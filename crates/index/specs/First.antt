@@ -6,8 +6,8 @@ use mathlib.Core.Bool.{false}
 use lib.ListN.{length}
 use Rattle.refusal.specs.Numbers.{overLimit}
 use Rattle.record.specs.declared.Record.{Record}
-use Rattle.record.specs.declared.Held.the-variants as held
-use Rattle.record.specs.Row.{namedAt}
+use Rattle.table.specs.declared.Held.the-variants as held
+use Rattle.table.specs.Rows.{namedAt}
 use Rattle.index_line.specs.IndexLine.{nameIn}
 use Rattle.index.specs.declared.Found.the-variants.{Row}
 

@@ -9,9 +9,9 @@ use lib.Dec.{ltb}
 use borrow.Author.Tests.{ltb-true, ltb-false}
 use Rattle.lines.specs.Same.{sameBytes, same-refl, same-true}
 use Rattle.record.specs.declared.Record.{Record}
-use Rattle.record.specs.declared.Held.{Held}
-use Rattle.record.specs.declared.Held.the-variants as held
-use Rattle.record.specs.Row.{namedAt}
+use Rattle.table.specs.declared.Held.{Held}
+use Rattle.table.specs.declared.Held.the-variants as held
+use Rattle.table.specs.Rows.{namedAt}
 use Rattle.index_line.specs.IndexLine.{nameIn}
 use Rattle.index.specs.declared.Found.the-variants.{Row, Refused}
 use Rattle.index.specs.Find.{named, judged, rowFrom}

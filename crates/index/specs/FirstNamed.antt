@@ -8,7 +8,7 @@ use native.Mathlib.Omega.{arith}
 use lib.ListN.{length}
 use Rattle.refusal.specs.Numbers.{overLimit}
 use Rattle.refusal.specs.declared.Refusal.the-variants.{TooLong}
-use Rattle.record.specs.Laws.{held-known, named-known}
+use Rattle.table.specs.RowLaws.{held-known, named-known}
 use Rattle.index.specs.declared.Found.the-variants.{Row, Refused}
 use Rattle.index.specs.Find.{rowNamed, rowRead}
 use Rattle.index.specs.First.{IsFirst, Wins}

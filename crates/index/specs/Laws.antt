@@ -14,19 +14,22 @@ use Rattle.lines.specs.declared.Cursor.{Cursor}
 use Rattle.lines.specs.Lines.{part, lineEnd, lines}
 use Rattle.lines.specs.Laws.{linesAt-cut, lineEnd-le, lineEnd-gt, part-length}
 use Rattle.record.specs.declared.Record.{Record}
-use Rattle.record.specs.declared.Held.{Held}
-use Rattle.record.specs.declared.Held.the-variants as held
-use Rattle.record.specs.Row.{namedAt}
-use Rattle.table.specs.Fill.{Found, nothing, withFirst}
+use Rattle.table.specs.declared.Held.{Held}
+use Rattle.table.specs.declared.Held.the-variants as held
+use Rattle.table.specs.Rows.{usedAt, namedOf, namedAt}
+use Rattle.table.specs.Fill.{nothing, withFirst}
 use Rattle.table.specs.declared.Stop.the-variants.{Ended, Refused}
 use Rattle.index_line.specs.IndexLine.{indexLineSays}
 use Rattle.index_line.specs.declared.LineRead.{LineRead}
 use Rattle.index_line.specs.declared.LineRead.the-variants as read
 use Rattle.index.specs.declared.LineRow.{LineRow}
 use Rattle.index.specs.declared.LineRow.the-variants as row
+use Rattle.index.specs.declared.Found.{Found}
 use Rattle.index.specs.declared.Found.the-variants as found
+use Rattle.index.specs.declared.Compared.{Compared}
+use Rattle.index.specs.declared.Compared.the-variants as compared
 use Rattle.index.specs.Index.{rowAs, rowAt, onwards, linesSay, indexAt}
-use Rattle.index.specs.Find.{named, judged, rowFrom, rowNamed}
+use Rattle.index.specs.Find.{named, comparedOf, judged, rowFrom, rowNamed}
 
 -- ---- line by line
 
@@ -84,6 +87,12 @@ module _ (text : List ℕ) (line at : ℕ) where
 
 -- ---- row by row
 
+-- what the rows from r on say, by how row r compares, and what those behind it say
+abbrev pub stepped : ℕ → Compared → Found → Found
+stepped r compared.Same f = found.Row r
+stepped r (compared.Refused y) f = found.Refused y
+stepped r compared.Other f = f
+
 module _ (names t : List ℕ) (n : ℕ) (name : List ℕ) (r : ℕ) where
   pub from-end : n ≤ r → rowFrom names t n name (n - r) r ≡ found.Refused NameUnknown
   unfolding rowFrom
@@ -93,13 +102,16 @@ module _ (names t : List ℕ) (n : ℕ) (name : List ℕ) (r : ℕ) where
   unfolding rowFrom
   from-step h = let z : n - r ≡ suc (n - (r + 1)) = omega arith in rw z
 
-  module _ (h : r < n) (d : Held) (hd : d ≡ namedAt t n r (length names)) where
-    pub from-refused : (y : Refusal) → d ≡ held.Refused y → rowFrom names t n name (n - r) r ≡ found.Refused y
-    from-refused y q = from-step h ∙ rw (← hd, q)
+  -- what the rows from r on say, by how row r compares
+  pub find-step : r < n → (v w : Compared) → v ≡ comparedOf names name (namedOf (length names) (usedAt t n r)) → v ≡ w
+      → rowFrom names t n name (n - r) r ≡ stepped r w (rowFrom names t n name (n - (r + 1)) (r + 1))
+  unfolding namedAt comparedOf
+  find-step h v w e q = from-step h ∙ go (namedOf (length names) (usedAt t n r)) ∙ rw (← q, e, add-one r)
+    where
+      pick : (x : Record) (b : Bool) (f : Found) → cond b (found.Row r) f ≡ stepped r (cond b compared.Same compared.Other) f
+      pick x true f = refl
+      pick x false f = refl
 
-    pub from-found : (x : Record) → d ≡ held.Row x → named names x name ≡ true → rowFrom names t n name (n - r) r ≡ found.Row r
-    from-found x q e = from-step h ∙ rw (← hd, q, e)
-
-    pub from-next : (x : Record) → d ≡ held.Row x → named names x name ≡ false
-        → rowFrom names t n name (n - r) r ≡ rowFrom names t n name (n - (r + 1)) (r + 1)
-    from-next x q e = from-step h ∙ rw (← hd, q, e, add-one r)
+      go : (d : Held) → judged names name r d (rowFrom names t n name (n - (r + 1)) (suc r)) ≡ stepped r (comparedOf names name d) (rowFrom names t n name (n - (r + 1)) (suc r))
+      go (held.Row x) = pick x (named names x name) _
+      go (held.Refused f) = refl

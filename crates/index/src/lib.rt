@@ -1,19 +1,23 @@
 // A whole index: its lines as rows of a lent table, and names looked up in the rows. Refuses bytes over the size limit (1), a bad
 // line (9 to 12, lines counted from 1) and a table without a free row (8); looking up, a bad row (25) and a name that no row has (15).
+pub mod bytes;
+
 ghost use mathlib.Core.Path.{_≡_};
 ghost use Prim.Native.Nat.{_+_, _≤_, _<_};
 ghost use lib.ListN.{length};
-ghost use Rattle.record.specs.Row.{rowCount};
-ghost use Rattle.table.specs.Fill.{FilledAs, heldIn};
+ghost use Rattle.table.specs.Rows.{rowCount, namedOf};
+ghost use Rattle.table.specs.Fill.{FilledAs, heldIn, NextOf};
 ghost use Rattle.index.specs.Index.{rowAt, indexAt, indexIn};
-ghost use Rattle.index.specs.Find.{named, rowNamed, rowRead};
+ghost use Rattle.index.specs.Find.{named, comparedOf, rowNamed, rowRead};
 use index_line::LineRead;
 use lines::Cursor;
-use record::Held;
 use record::Record;
-use record::Stored;
 use refusal::Refusal;
 use table::Filled;
+use table::Held;
+use table::InUse;
+use table::Kept;
+use table::Next;
 use table::Stop;
 
 // The first row that has a name, or why there is none.
@@ -48,6 +52,17 @@ pub fn read_row(text: &[u8], at: Cursor, line: u64) -> LineRow
     }
 }
 
+// The next row of the text from `at` on, where line number `line` begins.
+pub(crate) fn next_row(text: &[u8], at: usize, line: u64) -> Next
+    ensures { λ r. ⌜ NextOf (indexAt (now (text .entry)) line at) (indexAt (now (text .entry)) (line + 1)) at (length (now (text .entry))) r ⌝ }
+{
+    match read_row(text, Cursor { at }, line) {
+        LineRow::Row(x, next) => Next::Row(x, next.at),
+        LineRow::End => Next::Stop(Stop::Ended),
+        LineRow::Refused(f) => Next::Stop(Stop::Refused(f)),
+    }
+}
+
 // A row for each line of the text, from the table's first row on.
 fn read_rows(text: &[u8], table: &mut [u64]) -> Filled
     ensures { λ r. ⌜ FilledAs (heldIn (rowCount (now (table .entry))) (rowCount (now (table .entry))) (indexAt (now (text .entry)) 1 0)) (now (table .entry)) (now (table .exit)) r ⌝ }
@@ -55,34 +70,13 @@ fn read_rows(text: &[u8], table: &mut [u64]) -> Filled
     let mut at = 0;
     let mut n = 0;
     loop {
-        let row = read_row(text, Cursor { at }, n as u64 + 1);
-        match row {
-            LineRow::Row(x, next) => {
-                let stored = x.store(table, n);
-                match stored {
-                    Stored::Kept => {
-                        n += 1;
-                        at = next.at;
-                    }
-                    Stored::Refused(f) => {
-                        return Filled {
-                            rows: n,
-                            stop: Stop::Refused(f),
-                        };
-                    }
-                }
+        match table::keep(table, n, next_row(text, at, n as u64 + 1)) {
+            Kept::On(behind) => {
+                n += 1;
+                at = behind;
             }
-            LineRow::End => {
-                return Filled {
-                    rows: n,
-                    stop: Stop::Ended,
-                };
-            }
-            LineRow::Refused(f) => {
-                return Filled {
-                    rows: n,
-                    stop: Stop::Refused(f),
-                };
+            Kept::Stop(stop) => {
+                return Filled { rows: n, stop };
             }
         }
     }
@@ -111,24 +105,45 @@ fn is_named(names: &[u8], x: Record, name: &[u8]) -> bool
     check::same(&names[a..e], name)
 }
 
+// Does a row have the name; or why it is refused.
+pub enum Compared {
+    Same,
+    Other,
+    Refused(Refusal),
+}
+
+// Compares the name of a row, which is a span of `names`, with the one looked for.
+pub(crate) fn compare(names: &[u8], row: InUse, name: &[u8]) -> Compared
+    ensures { λ r. ⌜ r ≡ comparedOf (now (names .entry)) (now (name .entry)) (namedOf (length (now (names .entry))) row) ⌝ }
+{
+    match row.named(names.len()) {
+        Held::Refused(f) => Compared::Refused(f),
+        Held::Row(x) => {
+            if is_named(names, x, name) {
+                return Compared::Same;
+            }
+            Compared::Other
+        }
+    }
+}
+
 // The first of the rows in use that has the name. Names are spans of `names`; no size limit is judged.
-pub fn find_row(names: &[u8], table: &[u64], in_use: usize, name: &[u8]) -> Found
+fn find_row(names: &[u8], table: &[u64], in_use: usize, name: &[u8]) -> Found
     ensures { λ r. ⌜ r ≡ rowNamed (now (names .entry)) (now (table .entry)) in_use (now (name .entry)) ⌝ }
 {
     let mut r = 0;
     while r < in_use {
-        let held = Record::named_row(table, in_use, r, names.len());
-        match held {
-            Held::Row(x) => {
-                if is_named(names, x, name) {
-                    return Found::Row(r);
-                }
+        match compare(names, table::row(table, in_use, r), name) {
+            Compared::Same => {
+                return Found::Row(r);
             }
-            Held::Refused(f) => {
+            Compared::Refused(f) => {
                 return Found::Refused(f);
             }
+            Compared::Other => {
+                r += 1;
+            }
         }
-        r += 1;
     }
     Found::Refused(Refusal::NameUnknown)
 }

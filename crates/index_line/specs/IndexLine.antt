@@ -8,9 +8,9 @@ use Rattle.refusal.specs.declared.Refusal.the-variants.{TooLong, EmptyIndexLine
 use Rattle.refusal.specs.Numbers.{overLimit}
 use Rattle.lines.specs.Lines.{lineLen, chop, ends, contentOf}
 use Rattle.record.specs.declared.Record.{Record}
-use Rattle.record.specs.declared.Held.{Held}
-use Rattle.record.specs.declared.Held.the-variants as held
-use Rattle.record.specs.Row.{namedAt}
+use Rattle.table.specs.declared.Held.{Held}
+use Rattle.table.specs.declared.Held.the-variants as held
+use Rattle.table.specs.Rows.{namedAt}
 use Rattle.output.specs.Outcome.{Outcome, refuses}
 use Rattle.index_line.specs.Fields.{cutAt, Numbers, numbersFrom, textOf, textWritten}
 use Rattle.index_line.specs.Fields.Numbers.{Are, Not}
@@ -109,6 +109,10 @@ abbrev pub rowWritten : List ℕ → List ℕ → Held → Outcome Written
 rowWritten names out (held.Refused r) = refuses r out
 rowWritten names out (held.Row x) = textWritten (nameIn names x) (columnsOf x) out
 
+-- the call: 1 first
+unfoldable pub lineWritten : List ℕ → Held → List ℕ → Outcome Written
+lineWritten names h out = cond (overLimit (length names)) (refuses TooLong out) (rowWritten names out h)
+
 -- writing the line of row r of a table with n rows in use, whose names are spans of `names`: 1, 25, 13, 14
 unfoldable pub writtenAs : List ℕ → List ℕ → ℕ → ℕ → List ℕ → Outcome Written
-writtenAs names t n r out = cond (overLimit (length names)) (refuses TooLong out) (rowWritten names out (namedAt t n r (length names)))
+writtenAs names t n r out = lineWritten names (namedAt t n r (length names)) out

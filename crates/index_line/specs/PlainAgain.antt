@@ -6,15 +6,15 @@ use mathlib.Core.Bool.{true}
 use native.Mathlib.Omega.{arith}
 use lib.ListN.{length, take, drop}
 use borrow.Author.Tests.{le-ltb}
-use Rattle.record.specs.declared.Held.the-variants as held
-use Rattle.record.specs.Row.{namedAt, rowCount, rowAt, withRow}
-use Rattle.record.specs.Laws.{length-withRow, row-stored}
+use Rattle.table.specs.declared.Held.the-variants as held
+use Rattle.table.specs.Rows.{namedAt, rowCount, rowAt, withRow}
+use Rattle.table.specs.RowLaws.{length-withRow, row-stored}
 use Rattle.index_line.specs.Bytes.{firstWhere}
 use Rattle.output.specs.Outcome.{gives, pours}
 use Rattle.index_line.specs.Fields.{splits, textWritten}
 use Rattle.index_line.specs.Lacks.{Lacks}
 use Rattle.index_line.specs.Numbers.{both}
-use Rattle.index_line.specs.IndexLine.{oneLine, readLine, lineOf, nameIn, writtenAs}
+use Rattle.index_line.specs.IndexLine.{oneLine, readLine, lineOf, nameIn, lineWritten, writtenAs}
 use Rattle.index_line.specs.Laws.{line-sound}
 use Rattle.index_line.specs.RoundTrip.{plain-writes}
 use Rattle.index_line.specs.declared.Entry.{Entry}
@@ -24,7 +24,7 @@ use Rattle.index_line.specs.PlainAgainLaws.{read-alone, unsplit, row-nam
 -- a table that has the record in row r, one of n rows in use
 pub plain-row : (l : List ℕ) (e : Entry) (t : List ℕ) (n r : ℕ) (out : List ℕ) → readLine l ≡ read.Row e → e .plain ≡ true
     → n ≤ rowCount t → r < n → rowAt t r ≡ e .«record» → length l ≤ length out → writtenAs l t n r out ≡ gives l out
-unfolding writtenAs nameIn textWritten pours lineOf
+unfolding writtenAs lineWritten nameIn textWritten pours lineOf
 plain-row l e t n r out h p some used row room =
     let w = read-alone l e h in
     let x = w .entry .«record» in

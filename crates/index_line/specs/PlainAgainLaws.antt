@@ -9,9 +9,9 @@ use Rattle.refusal.specs.Numbers.{overLimit}
 use Rattle.refusal.specs.declared.Refusal.the-variants.{TooLong}
 use Rattle.lines.specs.Lines.{contentOf}
 use Rattle.record.specs.declared.Record.{Record}
-use Rattle.record.specs.declared.Held.the-variants as held
-use Rattle.record.specs.Row.{namedAt, rowCount, rowAt}
-use Rattle.record.specs.Laws.{held-row, named-row, name-inside}
+use Rattle.table.specs.declared.Held.the-variants as held
+use Rattle.table.specs.Rows.{namedAt, rowCount, rowAt}
+use Rattle.table.specs.RowLaws.{held-row, named-row, name-inside}
 use Rattle.index_line.specs.Bytes.{is, firstWhere}
 use Rattle.index_line.specs.Fields.{splits}
 use Rattle.index_line.specs.Reading.{fieldLen, cut-first}

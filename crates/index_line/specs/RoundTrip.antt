@@ -11,9 +11,9 @@ use borrow.Author.Tests.{le-ltb}
 use Rattle.refusal.specs.Numbers.{overLimit}
 use Rattle.lines.specs.Lines.{contentOf}
 use Rattle.record.specs.declared.Record.{Record}
-use Rattle.record.specs.declared.Held.the-variants as held
-use Rattle.record.specs.Row.{namedAt}
-use Rattle.record.specs.Laws.{held-known, named-known}
+use Rattle.table.specs.declared.Held.the-variants as held
+use Rattle.table.specs.Rows.{namedAt}
+use Rattle.table.specs.RowLaws.{held-known, named-known}
 use Rattle.index_line.specs.Bytes.{is}
 use Rattle.index_line.specs.Decimal.{decimalOf}
 use Rattle.output.specs.Outcome.{leaves}

@@ -12,10 +12,10 @@ use Rattle.refusal.specs.Numbers.{overLimit}
 use Rattle.refusal.specs.declared.Refusal.the-variants.{TooLong}
 use Rattle.lines.specs.Lines.{ends}
 use Rattle.record.specs.declared.Record.{Record}
-use Rattle.record.specs.declared.Held.{Held}
-use Rattle.record.specs.declared.Held.the-variants as held
-use Rattle.record.specs.Row.{namedAt, rowAt}
-use Rattle.record.specs.Laws.{HeldRow, named-known}
+use Rattle.table.specs.declared.Held.{Held}
+use Rattle.table.specs.declared.Held.the-variants as held
+use Rattle.table.specs.Rows.{namedAt, rowAt}
+use Rattle.table.specs.RowLaws.{HeldRow, named-known}
 use Rattle.index_line.specs.Bytes.{is}
 use Rattle.index_line.specs.Decimal.{decimalOf}
 use Rattle.output.specs.Outcome.{leaves, refuses}
@@ -26,7 +26,7 @@ use Rattle.index_line.specs.Lacks.{Lacks, lacks-ends, text-lacks}
 use Rattle.index_line.specs.Numbers.{Allowed, text-reads, reads-say}
 use Rattle.index_line.specs.Cut.{text-cut}
 use Rattle.index_line.specs.Ends.{ends-behind}
-use Rattle.index_line.specs.IndexLine.{entryOf, fieldsOf, recordOf, contentSays, columnsOf, lineOf, nameIn, rowWritten, writtenAs}
+use Rattle.index_line.specs.IndexLine.{entryOf, fieldsOf, recordOf, contentSays, columnsOf, lineOf, nameIn, rowWritten, lineWritten, writtenAs}
 use Rattle.index_line.specs.Laws.{Lined}
 use Rattle.index_line.specs.declared.LineRead.the-variants as read
 use Rattle.output.specs.declared.Written.the-variants as written
@@ -69,7 +69,7 @@ pub record LineWritten (names t : List ℕ) (n r : ℕ) (out : List ℕ) (k : �
 
 pub line-written : (names t : List ℕ) (n r : ℕ) (out : List ℕ) (k : ℕ) (after : List ℕ) → writtenAs names t n r out ≡ leaves (written.Bytes k) after
     → LineWritten names t n r out k after
-unfolding writtenAs
+unfolding writtenAs lineWritten
 line-written names t n r out k after h = go (overLimit (length names)) (namedAt t n r (length names)) refl h
   where
     go : (u : Bool) (o : Held) → namedAt t n r (length names) ≡ o → cond u (refuses TooLong out) (rowWritten names out o) ≡ leaves (written.Bytes k) after

@@ -7,13 +7,16 @@ mod fields;
 
 use fields::NumbersRead;
 use output::Written;
-use record::Held;
 use record::Offset;
 use record::Record;
 use refusal::Refusal;
+use table::Held;
+use table::InUse;
 ghost use mathlib.Core.Path.{_≡_};
-ghost use Rattle.index_line.specs.IndexLine.{contentSays, onlyIf, indexLineSays, readContent, readLine, writtenAs};
+ghost use Rattle.index_line.specs.IndexLine.{contentSays, onlyIf, indexLineSays, readContent, readLine, lineWritten};
+ghost use lib.ListN.{length};
 ghost use Rattle.output.specs.Outcome.{leaves};
+ghost use Rattle.table.specs.Rows.{namedOf};
 
 // A number read: its value, or that it is none.
 pub enum Number {
@@ -103,14 +106,14 @@ pub fn read_line(l: &[u8]) -> LineRead
     plain_if(one, parse_line(l, 1))
 }
 
-// Writes the line of row `row` to the front of the output. The table has `in_use` rows in use, and its names are spans of `names`.
-pub fn write_line(names: &[u8], table: &[u64], in_use: usize, row: usize, out: &mut [u8]) -> Written
-    ensures { λ r. ⌜ leaves r (now (out .exit)) ≡ writtenAs (now (names .entry)) (now (table .entry)) in_use row (now (out .entry)) ⌝ }
+// Writes the line of a row in use to the front of the output. Its name is a span of `names`.
+pub fn write_line(names: &[u8], row: InUse, out: &mut [u8]) -> Written
+    ensures { λ r. ⌜ leaves r (now (out .exit)) ≡ lineWritten (now (names .entry)) (namedOf (length (now (names .entry))) row) (now (out .entry)) ⌝ }
 {
     if refusal::over_limit(names.len()) {
         return Written::Refused(Refusal::TooLong);
     }
-    match Record::named_row(table, in_use, row, names.len()) {
+    match row.named(names.len()) {
         Held::Refused(r) => Written::Refused(r),
         Held::Row(x) => {
             let start = x.name_start as usize;

@@ -9,7 +9,7 @@ use Rattle.refusal.specs.declared.Refusal.the-variants.{NoBases, TableFull}
 use Rattle.lines.specs.Lines.{lines, chop, ends}
 use Rattle.lines.specs.Feeding.{FedSum, absorbSum, absorbSums, feedSum, feedSums, finishSum}
 use Rattle.definition.specs.Definition.{isSpace, run, keep}
-use Rattle.record.specs.Row.{wordsOf, words}
+use Rattle.table.specs.Rows.{wordsOf, words}
 use Rattle.table.specs.declared.Stop.{Stop}
 use Rattle.table.specs.declared.Stop.the-variants.{Ended, Refused}
 use Rattle.indexer.specs.Index.{fitsLast}

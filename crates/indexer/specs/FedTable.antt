@@ -8,8 +8,8 @@ use native.Mathlib.Omega.{arith}
 use native.Mathlib.Nat.{add-zero, sub-zero}
 use Rattle.lines.specs.Feeding.{joined, FedSum, feedSum, feedSums, finishSum}
 use Rattle.record.specs.declared.Record.{Record}
-use Rattle.record.specs.Row.{withRows}
-use Rattle.record.specs.Laws.{rows-append, rows-none}
+use Rattle.table.specs.Rows.{withRows}
+use Rattle.table.specs.RowLaws.{rows-append, rows-none}
 use Rattle.table.specs.declared.Filled.{Filled}
 use Rattle.table.specs.Fill.{heldIn, FilledAs}
 use Rattle.indexer.specs.File.{fileAt}

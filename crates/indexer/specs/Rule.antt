@@ -14,7 +14,7 @@ use Rattle.definition.specs.declared.Parsed.{Parsed}
 use Rattle.definition.specs.declared.Parsed.the-variants.{Named, Bad}
 use Rattle.definition.specs.Definition.{definitionSays, refusalAt}
 use Rattle.record.specs.declared.Record.{Record}
-use Rattle.record.specs.Row.{describedAt}
+use Rattle.record.specs.Description.{describedAt}
 use Rattle.table.specs.Fill.{Found, nothing, withFirst, heldIn}
 use Rattle.table.specs.declared.Stop.the-variants.{Ended, Refused}
 use Rattle.indexer.specs.declared.Indexed.{Indexed}

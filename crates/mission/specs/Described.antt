@@ -11,7 +11,7 @@ use Rattle.definition.specs.Definition.{definitionSays}
 use Rattle.definition.specs.Laws.{description-within}
 use Rattle.definition.specs.declared.Definition.{Definition}
 use Rattle.definition.specs.declared.Parsed.the-variants.{Named}
-use Rattle.record.specs.Row.{describedAt}
+use Rattle.record.specs.Description.{describedAt}
 use Rattle.record.specs.declared.Record.{Record}
 use Rattle.indexer.specs.Rule.{rowFor, good}
 use Rattle.fitting.specs.declared.Rule.{Rule}

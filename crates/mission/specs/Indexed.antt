@@ -11,7 +11,7 @@ use mathlib.Core.List.{List, _++_}
 use lib.ListN.{length, drop}
 use native.Mathlib.Omega.{arith}
 use native.Mathlib.Nat.{zero-add}
-use Rattle.record.specs.Row.{rowCount, withRows}
+use Rattle.table.specs.Rows.{rowCount, withRows}
 use Rattle.record.specs.declared.Record.{Record}
 use Rattle.table.specs.declared.Stop.the-variants.{Ended}
 use Rattle.output.specs.Outcome.{gives}

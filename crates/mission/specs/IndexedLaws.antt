@@ -25,12 +25,13 @@ use Rattle.definition.specs.declared.Fault.the-variants.{NoPrefix}
 use Rattle.definition.specs.declared.Parsed.{Parsed}
 use Rattle.definition.specs.declared.Parsed.the-variants.{Named, Bad}
 use Rattle.record.specs.Place.{placeIn}
-use Rattle.record.specs.Row.{describedAt, rowCount, withRows, namedAt}
-use Rattle.record.specs.Laws.{sound-row, named-row, name-inside, held-stored}
+use Rattle.record.specs.Description.{describedAt}
+use Rattle.table.specs.Rows.{rowCount, withRows, namedAt}
+use Rattle.table.specs.RowLaws.{sound-row, named-row, name-inside, held-stored}
 use Rattle.record.specs.EvenLines.{EvenLines, even-place, length-basesAt}
 use Rattle.record.specs.EvenLines.EvenLines.{none as no-more, last as last-line, more as line-more}
 use Rattle.record.specs.declared.Record.{Record}
-use Rattle.record.specs.declared.Held.the-variants as held
+use Rattle.table.specs.declared.Held.the-variants as held
 use Rattle.table.specs.Fill.{Found, nothing, withFirst, heldIn}
 use Rattle.table.specs.Laws.{held-all}
 use Rattle.table.specs.declared.Stop.{Stop}

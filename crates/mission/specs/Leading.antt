@@ -16,7 +16,7 @@ use Rattle.definition.specs.Definition as definition
 use Rattle.definition.specs.declared.Definition.{Definition}
 use Rattle.definition.specs.declared.Parsed.the-variants.{Named}
 use Rattle.record.specs.Place.{placeIn}
-use Rattle.record.specs.Row.{rowCount, withRows}
+use Rattle.table.specs.Rows.{rowCount, withRows}
 use Rattle.record.specs.declared.Record.{Record}
 use Rattle.table.specs.Fill.{Found, withFirst}
 use Rattle.table.specs.declared.Stop.{Stop}
@@ -24,7 +24,7 @@ use Rattle.table.specs.declared.Stop.the-variants.{Ended}
 use Rattle.index_line.specs.Bytes.{is}
 use Rattle.index_line.specs.Lacks.{Lacks}
 use Rattle.output.specs.Outcome.{gives}
-use Rattle.index_line.specs.IndexLine.{entryOf, columnsOf, lineOf, nameIn, writtenAs}
+use Rattle.index_line.specs.IndexLine.{entryOf, columnsOf, lineOf, nameIn, lineWritten, writtenAs}
 use Rattle.index_line.specs.IndexLine as index
 use Rattle.index_line.specs.declared.LineRead.the-variants.{Row}
 use Rattle.index_line.specs.Laws.{Lined}
@@ -153,7 +153,7 @@ module _ (f : List ℕ) (xs : List Record) (s : Stop) (h : Along (LeadsTo f) 0 (
   -- each index line is what the call writes of its row, if the table has all the rows and the output has room; the bytes behind it stay
   pub leading-written : (t out : List ℕ) (k : ℕ) → length f ≤ limit → length xs ≤ rowCount t → k < length xs → length (lineIn f (rowIn xs k)) ≤ length out
       → writtenAs f (withRows t 0 xs) (length xs) k out ≡ gives (lineIn f (rowIn xs k)) out
-  unfolding writtenAs overLimit lineOf
+  unfolding writtenAs lineWritten overLimit lineOf
   leading-written t out k m e q r =
       let d = leading-at k q in
       rw (le-ltb _ _ m, row-held t xs noRow k (length f) e q (d .lined (omega arith)) (d .named) (d .described))

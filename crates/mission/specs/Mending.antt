@@ -8,7 +8,7 @@ use Prim.Native.Nat.{ℕ, suc, _-_, _≤_}
 use mathlib.Core.Path.{_≡_}
 use mathlib.Core.List.{List}
 use lib.ListN.{set}
-use Rattle.record.specs.Row.{rowCount}
+use Rattle.table.specs.Rows.{rowCount}
 use Rattle.table.specs.declared.Filled.{Filled}
 use Rattle.table.specs.Fill.{FilledAs}
 use Rattle.index.specs.Index.{indexIn}

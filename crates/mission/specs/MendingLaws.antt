@@ -10,15 +10,15 @@ use native.Mathlib.Omega.{arith}
 use Rattle.refusal.specs.Numbers.{overLimit}
 use Rattle.refusal.specs.declared.Refusal.the-variants.{TooLong}
 use Rattle.record.specs.declared.Record.{Record}
-use Rattle.record.specs.declared.Held.the-variants as held
+use Rattle.table.specs.declared.Held.the-variants as held
 use Rattle.record.specs.Bases.{byteAt}
 use Rattle.record.specs.Place.{placeIn}
-use Rattle.record.specs.Row.{heldAt}
+use Rattle.table.specs.Rows.{heldAt}
 use Rattle.region.specs.declared.Bound.{Bound}
 use Rattle.output.specs.declared.Written.{Written}
 use Rattle.output.specs.Outcome.{Outcome, refuses}
 use Rattle.region.specs.Region.{startOf, endOf}
-use Rattle.region.specs.Exact.{exactOf, exactRead}
+use Rattle.region.specs.Exact.{exactOf, exactHeld, exactRead}
 use Rattle.region.specs.Dependence.{InRegion, exact-same}
 use Rattle.region.specs.Changed.{changedAt, changed-refused, exact-changed}
 use Rattle.checker.specs.Mend.{BaseAt, Plain}
@@ -67,7 +67,7 @@ module _ (f : List ℕ) (k j o b : ℕ) (base : BaseAt f k j o) (plain : Plain b
         rw (y .1 .places (p - 1) q) (byte-other f k j o b base plain r (p - 1) (omega (arith, y .0, table .rows)) q (λ u v. m u (omega (arith, i .from-one))))
 
     pub read-elsewhere : (Covers f k j r a e → ⊥) → exactRead (set f o b) t n r a e out ≡ exactRead f t n r a e out
-    unfolding exactRead
+    unfolding exactRead exactHeld
     read-elsewhere m =
         rw (length-set f o b)
         (ap (λ (y : Outcome Written). cond (overLimit (length f)) (refuses TooLong out) y)
@@ -80,7 +80,7 @@ module _ (f : List ℕ) (k j o b : ℕ) (base : BaseAt f k j o) (plain : Plain b
             record { row = u; from = rw v at (i .from); to = rw (v, c) at (i .to) }
 
     pub read-here : Covers f k j r a e → exactRead (set f o b) t n r a e out ≡ changedAt (suc j - startOf a) b (exactRead f t n r a e out)
-    unfolding exactRead
+    unfolding exactRead exactHeld
     read-here c = rw (length-set f o b) (go (overLimit (length f)))
       where
         moved : (y : Record) → RowOf f r y → RowOf f k y

@@ -11,7 +11,7 @@ use lib.ListN.{length}
 use borrow.Author.Tests.{le-ltb}
 use native.Mathlib.Omega.{arith}
 use Rattle.refusal.specs.Numbers.{overLimit}
-use Rattle.record.specs.Row.{rowCount}
+use Rattle.table.specs.Rows.{rowCount}
 use Rattle.table.specs.declared.Filled.{Filled}
 use Rattle.table.specs.declared.Stop.the-variants.{Ended}
 use Rattle.table.specs.Fill.{FilledAs}
@@ -19,7 +19,7 @@ use Rattle.index.specs.Index.{indexIn}
 use Rattle.fitting.specs.declared.Rule.{Rule}
 use Rattle.fitting.specs.Rules.{rowsIn}
 use Rattle.region.specs.declared.Bound.{Bound}
-use Rattle.region.specs.Exact.{exactRead}
+use Rattle.region.specs.Exact.{exactHeld, exactRead}
 use Rattle.checker.specs.Accepts.{limit, Accepts}
 use Rattle.checker.specs.Check.{checkOf}
 use Rattle.checker.specs.Exactly.{accepted-only-if}
@@ -31,7 +31,7 @@ use Rattle.mission.specs.ReadsLaws.{row-reads}
 
 -- of any table of the file's records
 pub table-reads : (f t : List ℕ) (n r : ℕ) (a e : Bound) (out : List ℕ) → TableOf f t n → length f ≤ limit → Asked f r a e out → exactRead f t n r a e out ≡ givesAsked f r a e out
-unfolding exactRead overLimit
+unfolding exactRead exactHeld overLimit
 table-reads f t n r a e out table small q =
     let h = table .each r (omega (arith, table .rows, q .record′)) in
     rw (le-ltb 1099511627776 (length f) small, h .held) (row-reads f r (q .record′) (h .row) (h .about) a e out q)

@@ -12,7 +12,7 @@ use Rattle.lines.specs.Lines.{chop, basesOf, seqAt, allBases, sumBases, sumWidt
 use Rattle.lines.specs.Laws.{chop-le}
 use Rattle.lines.specs.Sums.{widths-within}
 use Rattle.record.specs.declared.Record.{Record}
-use Rattle.record.specs.declared.Held.the-variants as held
+use Rattle.table.specs.declared.Held.the-variants as held
 use Rattle.record.specs.Place.{placeIn}
 use Rattle.record.specs.Bases.{byteAt, bases-bytes}
 use Rattle.record.specs.EvenLines.{length-upFrom, getD-upFrom, length-basesAt}

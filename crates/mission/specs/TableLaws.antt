@@ -13,8 +13,8 @@ use Rattle.lines.specs.Groups.{groups}
 use Rattle.lines.specs.GroupLaws.{lines-behind}
 use Rattle.lines.specs.Sums.{widths-lines}
 use Rattle.record.specs.declared.Record.{Record}
-use Rattle.record.specs.Row.{rowCount, withRows}
-use Rattle.record.specs.Laws.{held-stored, held-unused, rowCount-rows, sound-row}
+use Rattle.table.specs.Rows.{rowCount, withRows}
+use Rattle.table.specs.RowLaws.{held-stored, held-unused, rowCount-rows, sound-row}
 use Rattle.table.specs.declared.Filled.{Filled}
 use Rattle.table.specs.declared.Stop.{Stop}
 use Rattle.table.specs.declared.Stop.the-variants.{Ended}

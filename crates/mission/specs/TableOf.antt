@@ -6,9 +6,9 @@ use lib.ListN.{length, getD}
 use Rattle.lines.specs.Lines.{lines, sumBases, basesAt}
 use Rattle.lines.specs.Groups.{groups}
 use Rattle.record.specs.declared.Record.{Record}
-use Rattle.record.specs.declared.Held.the-variants as held
+use Rattle.table.specs.declared.Held.the-variants as held
 use Rattle.record.specs.Place.{placeIn}
-use Rattle.record.specs.Row.{badRow, heldAt}
+use Rattle.table.specs.Rows.{badRow, heldAt}
 use Rattle.table.specs.Fill.{Found}
 use Rattle.table.specs.declared.Stop.the-variants.{Ended}
 use Rattle.index_line.specs.Laws.{Lined}

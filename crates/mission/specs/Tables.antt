@@ -16,7 +16,7 @@ use Rattle.refusal.specs.declared.Refusal.the-variants.{TooLong}
 use Rattle.lines.specs.Lines.{lines}
 use Rattle.lines.specs.Groups.{groups}
 use Rattle.record.specs.Bases.{byteAt}
-use Rattle.record.specs.Row.{rowCount, heldAt}
+use Rattle.table.specs.Rows.{rowCount, heldAt}
 use Rattle.table.specs.declared.Filled.{Filled}
 use Rattle.table.specs.declared.Stop.the-variants.{Ended}
 use Rattle.table.specs.Fill.{FilledAs}
@@ -28,7 +28,7 @@ use Rattle.fitting.specs.Rules.{ruleOf, rowsBy, rowsIn}
 use Rattle.region.specs.declared.Bound.{Bound}
 use Rattle.output.specs.declared.Written.{Written}
 use Rattle.output.specs.Outcome.{Outcome, refuses}
-use Rattle.region.specs.Exact.{exactOf, exactRead}
+use Rattle.region.specs.Exact.{exactOf, exactHeld, exactRead}
 use Rattle.region.specs.Dependence.{exact-alike}
 use Rattle.checker.specs.Accepts.{recordAt, Accepts}
 use Rattle.checker.specs.Check.{spanOf, checkOf}
@@ -84,7 +84,7 @@ held-alike f t u n x y r a e out = go (ltb r n) refl
     go false h = rw (x .beyond r (ltb-false _ _ h), y .beyond r (ltb-false _ _ h))
 
 pub tables-agree : (f t u : List ℕ) (n m : ℕ) → TableOf f t n → TableOf f u m → (r : ℕ) (a e : Bound) (out : List ℕ) → exactRead f t n r a e out ≡ exactRead f u m r a e out
-unfolding exactRead
+unfolding exactRead exactHeld
 tables-agree f t u n m x y r a e out =
     let q : m ≡ n = y .rows ∙ sym (x .rows) in
     rw q (ap (λ (o : Outcome Written). cond (overLimit (length f)) (refuses TooLong out) o) (held-alike f t u n x (rw q at y) r a e out))

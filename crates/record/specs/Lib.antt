@@ -1,5 +1,5 @@
 pub mod Place
-pub mod Row
+pub mod Description
 pub mod EvenLines
 pub mod Bases
 pub mod Laws

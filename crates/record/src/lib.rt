@@ -1,16 +1,9 @@
-// A record of an index, its row in a lent table of 64-bit numbers, and the addressing rule: where each of its bases lies in the
-// file. How many numbers a row has stands here alone, and nothing else turns a base position into a byte offset.
-// Refused: 8, a record for which the table has no row; 25, a row that is not in use or not in the table, a row with line bases or
-// line width 0, and, where names are looked at, a name or a description outside their bytes. An offset over 64 bits is no refusal: it is
-// `Nowhere`.
-use refusal::Refusal;
+// A record of an index, and the addressing rule: where each of its bases lies in the file. Nothing else turns a base position into a byte
+// offset. An offset over 64 bits is no refusal: it is `Nowhere`.
 ghost use mathlib.Core.Path.{_≡_};
-ghost use Prim.Native.Nat.{_+_, _*_, _≤_, _<_};
-ghost use lib.ListN.{length};
-ghost use lib.Seq.{sets};
-ghost use lib.Dec.{ltb};
+ghost use Prim.Native.Nat.{_+_, _*_, _<_};
 ghost use Rattle.record.specs.Place.{offsetOf, addressOf};
-ghost use Rattle.record.specs.Row.{rowWords, describedAt, wordsOf, numbersAt, rowCount, soundRow, heldAt, namedIn, namedAt, StoredAt};
+ghost use Rattle.record.specs.Description.{describedAt};
 
 // A base position, from 1.
 pub struct Position(pub u64);
@@ -36,98 +29,8 @@ pub enum Address {
     Nowhere,
 }
 
-// The record that a row holds, or why there is none.
-pub enum Held {
-    Row(Record),
-    Refused(Refusal),
-}
-
-// Is a record in its row, or why not.
-pub enum Stored {
-    Kept,
-    Refused(Refusal),
-}
-
 // The largest offset.
 const LARGEST: u64 = 18446744073709551615;
-
-// Row `row` is refused.
-fn bad(row: usize) -> Held
-    ensures { λ r. ⌜ r ≡ Held.Refused (Refusal.BadRow row) ⌝ }
-{
-    Held::Refused(Refusal::BadRow { row: row as u64 })
-}
-
-// The numbers of a row that the table has.
-fn read(table: &[u64], row: usize) -> Record
-    requires { ⌜ row * rowWords + rowWords ≤ length (now table) ⌝ }
-    ensures { λ r. ⌜ r ≡ numbersAt (now (table .entry)) (row * rowWords) ⌝ }
-{
-    let b = row * Record::WORDS;
-    Record {
-        name_start: table[b],
-        name_length: table[b + 1],
-        length: table[b + 2],
-        position: Offset(table[b + 3]),
-        line_bases: table[b + 4],
-        line_width: table[b + 5],
-        description_start: table[b + 6],
-        description_length: table[b + 7],
-    }
-}
-
-// Puts a record's numbers in a row that the table has.
-fn write(table: &mut [u64], row: usize, x: Record)
-    requires { ⌜ row * rowWords + rowWords ≤ length (now table) ⌝ }
-    ensures { λ _. ⌜ now (table .exit) ≡ sets (now (table .entry)) (row * rowWords) (wordsOf x) ⌝ }
-{
-    let b = row * Record::WORDS;
-    table[b] = x.name_start;
-    table[b + 1] = x.name_length;
-    table[b + 2] = x.length;
-    table[b + 3] = x.position.0;
-    table[b + 4] = x.line_bases;
-    table[b + 5] = x.line_width;
-    table[b + 6] = x.description_start;
-    table[b + 7] = x.description_length;
-}
-
-// Row `row` with its numbers, of which line bases and line width may not be 0.
-fn sound(row: usize, x: Record) -> Held
-    ensures { λ r. ⌜ r ≡ soundRow row x ⌝ }
-{
-    if x.line_bases == 0 {
-        return bad(row);
-    }
-    if x.line_width == 0 {
-        return bad(row);
-    }
-    Held::Row(x)
-}
-
-// Does a span end past `bytes` bytes. No sum is made: it may not fit.
-fn outside(bytes: usize, start: u64, length: u64) -> bool
-    ensures { λ r. ⌜ r ≡ ltb bytes (start + length) ⌝ }
-{
-    let all = bytes as u64;
-    if all < start {
-        return true;
-    }
-    all - start < length
-}
-
-// Row `row` with its record, whose name and description have to lie inside `bytes` bytes.
-fn named_in(bytes: usize, row: usize, x: Record) -> Held
-    ensures { λ r. ⌜ r ≡ namedIn bytes row (Held.Row x) ⌝ }
-{
-    if outside(bytes, x.name_start, x.name_length) {
-        return bad(row);
-    }
-    if outside(bytes, x.description_start, x.description_length) {
-        return bad(row);
-    }
-    Held::Row(x)
-}
 
 // Where a description begins; 0 where it has no bytes.
 fn described_at(start: u64, length: u64) -> u64
@@ -159,9 +62,6 @@ fn fitting(position: u64, line: u64, width: u64, column: u64) -> Address
 }
 
 impl Record {
-    // The numbers of a row.
-    pub const WORDS: usize = 8;
-
     // The first base position.
     pub const FIRST: u64 = 1;
 
@@ -220,50 +120,6 @@ impl Record {
         ensures { λ r. ⌜ r ≡ record { 0 = 1 } ⌝ }
     {
         Position(Record::FIRST)
-    }
-
-    // How many whole rows a table has.
-    pub fn rows(table: &[u64]) -> usize
-        ensures { λ r. ⌜ r ≡ rowCount (now (table .entry)) ⌝ }
-    {
-        table.len() / Record::WORDS
-    }
-
-    // The record in row `row` of a table that has `in_use` rows in use.
-    pub fn from_row(table: &[u64], in_use: usize, row: usize) -> Held
-        ensures { λ r. ⌜ r ≡ heldAt (now (table .entry)) in_use row ⌝ }
-    {
-        let rows = Record::rows(table);
-        if rows < in_use {
-            return bad(rows);
-        }
-        if in_use <= row {
-            return bad(row);
-        }
-        sound(row, read(table, row))
-    }
-
-    // The same where its name is looked at: it and the description are spans of `bytes` bytes.
-    pub fn named_row(table: &[u64], in_use: usize, row: usize, bytes: usize) -> Held
-        ensures { λ r. ⌜ r ≡ namedAt (now (table .entry)) in_use row bytes ⌝ }
-    {
-        let held = Record::from_row(table, in_use, row);
-        match held {
-            Held::Refused(f) => Held::Refused(f),
-            Held::Row(x) => named_in(bytes, row, x),
-        }
-    }
-
-    // Puts the record in row `row` of a table, and leaves every other number there as it was.
-    pub fn store(self, table: &mut [u64], row: usize) -> Stored
-        ensures { λ r. ⌜ StoredAt (now (table .entry)) row self r (now (table .exit)) ⌝ }
-    {
-        let rows = Record::rows(table);
-        if rows <= row {
-            return Stored::Refused(Refusal::TableFull { rows: rows as u64 });
-        }
-        write(table, row, self);
-        Stored::Kept
     }
 
     // Where base `p` lies.

@@ -8,8 +8,8 @@ use lib.Seq.{set-append-left, getD-set-other}
 use native.Mathlib.Omega.{arith}
 use Rattle.refusal.specs.declared.Refusal.{Refusal}
 use Rattle.record.specs.declared.Record.{Record}
-use Rattle.record.specs.declared.Held.{Held}
-use Rattle.record.specs.declared.Held.the-variants as held
+use Rattle.table.specs.declared.Held.{Held}
+use Rattle.table.specs.declared.Held.the-variants as held
 use Rattle.record.specs.Place.{placeIn}
 use Rattle.region.specs.declared.Bound.{Bound}
 use Rattle.output.specs.declared.Written.{Written}

@@ -13,8 +13,8 @@ use native.Mathlib.Omega.{arith}
 use Rattle.refusal.specs.declared.Refusal.{Refusal}
 use Rattle.refusal.specs.declared.Refusal.the-variants.{NoRoom, BadBounds, PastLength, NotInFile}
 use Rattle.record.specs.declared.Record.{Record}
-use Rattle.record.specs.declared.Held.{Held}
-use Rattle.record.specs.declared.Held.the-variants as held
+use Rattle.table.specs.declared.Held.{Held}
+use Rattle.table.specs.declared.Held.the-variants as held
 use Rattle.record.specs.Place.{placeIn}
 use Rattle.record.specs.Laws.{getD-places}
 use Rattle.region.specs.declared.Bound.{Bound}

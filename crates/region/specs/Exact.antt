@@ -8,11 +8,11 @@ use lib.Dec.{ltb}
 use Rattle.refusal.specs.Numbers.{overLimit}
 use Rattle.refusal.specs.declared.Refusal.the-variants.{TooLong, NoRoom, PastLength, NotInFile}
 use Rattle.record.specs.declared.Record.{Record}
-use Rattle.record.specs.declared.Held.{Held}
-use Rattle.record.specs.declared.Held.the-variants as held
+use Rattle.table.specs.declared.Held.{Held}
+use Rattle.table.specs.declared.Held.the-variants as held
 use Rattle.record.specs.Place.{placesFrom}
 use Rattle.record.specs.Bases.{byteAt}
-use Rattle.record.specs.Row.{heldAt}
+use Rattle.table.specs.Rows.{heldAt}
 use Rattle.region.specs.declared.Bound.{Bound}
 use Rattle.output.specs.declared.Written.{Written}
 use Rattle.output.specs.Outcome.{Outcome, refuses, gives}
@@ -50,10 +50,14 @@ unfoldable pub exactIn : ℕ → (ℕ → ℕ) → Held → Bound → Bound → 
 exactIn bytes byte (held.Refused f) a e out = refuses f out
 exactIn bytes byte (held.Row x) a e out = regionOf bytes byte x (startOf a) (endOf (x .length) e) out
 
--- the exact read of a file of so many bytes, by the byte at an offset: 16, then 25, then the rest
+-- of a file of so many bytes, by the byte at an offset: 16, then 25, then the rest
 unfoldable pub exactOf : ℕ → (ℕ → ℕ) → Held → Bound → Bound → List ℕ → Outcome Written
 exactOf bytes byte h a e out = exactIn bytes byte (boundedRow a e h) a e out
 
--- the exact read of row r of a table with u rows in use: 1 first
+-- the exact read: 1 first
+unfoldable pub exactHeld : List ℕ → Held → Bound → Bound → List ℕ → Outcome Written
+exactHeld s h a e out = cond (overLimit (length s)) (refuses TooLong out) (exactOf (length s) (byteAt s) h a e out)
+
+-- the exact read of row r of a table with u rows in use
 unfoldable pub exactRead : List ℕ → List ℕ → ℕ → ℕ → Bound → Bound → List ℕ → Outcome Written
-exactRead s t u r a e out = cond (overLimit (length s)) (refuses TooLong out) (exactOf (length s) (byteAt s) (heldAt t u r) a e out)
+exactRead s t u r a e out = exactHeld s (heldAt t u r) a e out

@@ -11,13 +11,12 @@ use Rattle.refusal.specs.Numbers.{overLimit}
 use Rattle.refusal.specs.declared.Refusal.{Refusal}
 use Rattle.refusal.specs.declared.Refusal.the-variants.{TooLong, NoRoom, BadBounds, PastLength, NotInFile}
 use Rattle.record.specs.declared.Record.{Record}
-use Rattle.record.specs.declared.Held.{Held}
-use Rattle.record.specs.declared.Held.the-variants as held
+use Rattle.table.specs.declared.Held.{Held}
+use Rattle.table.specs.declared.Held.the-variants as held
 use Rattle.record.specs.declared.Address.the-variants.{At, Nowhere}
 use Rattle.record.specs.declared.Offset.{Offset}
 use Rattle.record.specs.Place.{addressOf}
 use Rattle.record.specs.Bases.{byteAt}
-use Rattle.record.specs.Row.{heldAt}
 use Rattle.sequence.specs.declared.SequenceRead.{SequenceRead}
 use Rattle.sequence.specs.declared.SequenceRead.the-variants as scanned
 use Rattle.sequence.specs.Scan.{Scan, scanAt, scanAll}
@@ -28,8 +27,8 @@ use Rattle.region.specs.declared.Bound.the-variants.{Given, Absent}
 use Rattle.output.specs.declared.Written.{Written}
 use Rattle.output.specs.declared.Written.the-variants.{Bytes, Refused}
 use Rattle.region.specs.Region.{isZero, crossed, badBounds, boundedRow, startOf, endOf, basesTo}
-use Rattle.region.specs.Exact.{offsetsOf, inFile, pastLength, bytesAt, basesFrom, regionOf, exactIn, exactOf, exactRead}
-use Rattle.region.specs.Raw.{scanTo, rawAt, rawOf, rawIn, rawRead}
+use Rattle.region.specs.Exact.{offsetsOf, inFile, pastLength, bytesAt, basesFrom, regionOf, exactIn, exactOf, exactHeld}
+use Rattle.region.specs.Raw.{scanTo, rawAt, rawOf, rawIn, rawHeld}
 use Rattle.region.specs.Inside.{length-offsets}
 
 -- ---- bounds
@@ -106,24 +105,19 @@ module _ (bytes : ℕ) (byte : ℕ → ℕ) where
     unfolding regionOf
     region-within h = rw h
 
-module _ (s t : List ℕ) (u r : ℕ) (a e : Bound) (out : List ℕ) where
-  pub exact-long : overLimit (length s) ≡ true → leaves (Refused TooLong) out ≡ exactRead s t u r a e out
-  unfolding exactRead
-  exact-long h = rw h
+module _ (s : List ℕ) (h : Held) (a e : Bound) (out : List ℕ) where
+  pub exact-long : overLimit (length s) ≡ true → leaves (Refused TooLong) out ≡ exactHeld s h a e out
+  unfolding exactHeld
+  exact-long l = rw l
 
-  module _ (h : overLimit (length s) ≡ false) where
-    -- of a file within the limit it is the function of the record, the bounds, the output and the bytes
-    pub exact-within : exactRead s t u r a e out ≡ exactOf (length s) (byteAt s) (heldAt t u r) a e out
-    unfolding exactRead
-    exact-within = rw h
+  module _ (l : overLimit (length s) ≡ false) where
+    pub exact-refused : (f : Refusal) → boundedRow a e h ≡ held.Refused f → leaves (Refused f) out ≡ exactHeld s h a e out
+    unfolding exactHeld exactOf exactIn
+    exact-refused f q = rw (l, q)
 
-    pub exact-refused : (f : Refusal) → boundedRow a e (heldAt t u r) ≡ held.Refused f → leaves (Refused f) out ≡ exactRead s t u r a e out
-    unfolding exactRead exactOf exactIn
-    exact-refused f q = rw (h, q)
-
-    pub exact-row : (x : Record) → boundedRow a e (heldAt t u r) ≡ held.Row x → regionOf (length s) (byteAt s) x (startOf a) (endOf (x .length) e) out ≡ exactRead s t u r a e out
-    unfolding exactRead exactOf exactIn
-    exact-row x q = rw (h, q)
+    pub exact-row : (x : Record) → boundedRow a e h ≡ held.Row x → regionOf (length s) (byteAt s) x (startOf a) (endOf (x .length) e) out ≡ exactHeld s h a e out
+    unfolding exactHeld exactOf exactIn
+    exact-row x q = rw (l, q)
 
 -- ---- and of the raw read
 
@@ -169,16 +163,16 @@ module _ (s : List ℕ) (x : Record) (a : ℕ) (e : Bound) (out : List ℕ) wher
   unfolding rawAt
   raw-at o h = rw h
 
-module _ (s t : List ℕ) (u r : ℕ) (a e : Bound) (out : List ℕ) where
-  pub raw-long : overLimit (length s) ≡ true → leaves (Refused TooLong) out ≡ rawRead s t u r a e out
-  unfolding rawRead
-  raw-long h = rw h
+module _ (s : List ℕ) (h : Held) (a e : Bound) (out : List ℕ) where
+  pub raw-long : overLimit (length s) ≡ true → leaves (Refused TooLong) out ≡ rawHeld s h a e out
+  unfolding rawHeld
+  raw-long l = rw l
 
-  module _ (h : overLimit (length s) ≡ false) where
-    pub raw-refused : (f : Refusal) → boundedRow a e (heldAt t u r) ≡ held.Refused f → leaves (Refused f) out ≡ rawRead s t u r a e out
-    unfolding rawRead rawOf rawIn
-    raw-refused f q = rw (h, q)
+  module _ (l : overLimit (length s) ≡ false) where
+    pub raw-refused : (f : Refusal) → boundedRow a e h ≡ held.Refused f → leaves (Refused f) out ≡ rawHeld s h a e out
+    unfolding rawHeld rawOf rawIn
+    raw-refused f q = rw (l, q)
 
-    pub raw-row : (x : Record) → boundedRow a e (heldAt t u r) ≡ held.Row x → rawAt s (addressOf x (record { 0 = startOf a })) (startOf a) e out ≡ rawRead s t u r a e out
-    unfolding rawRead rawOf rawIn
-    raw-row x q = rw (h, q)
+    pub raw-row : (x : Record) → boundedRow a e h ≡ held.Row x → rawAt s (addressOf x (record { 0 = startOf a })) (startOf a) e out ≡ rawHeld s h a e out
+    unfolding rawHeld rawOf rawIn
+    raw-row x q = rw (l, q)

@@ -8,10 +8,10 @@ use Rattle.refusal.specs.Numbers.{overLimit}
 use Rattle.refusal.specs.declared.Refusal.the-variants.{TooLong, NotInFile}
 use Rattle.record.specs.declared.Address.{Address}
 use Rattle.record.specs.declared.Address.the-variants.{At, Nowhere}
-use Rattle.record.specs.declared.Held.{Held}
-use Rattle.record.specs.declared.Held.the-variants as held
+use Rattle.table.specs.declared.Held.{Held}
+use Rattle.table.specs.declared.Held.the-variants as held
 use Rattle.record.specs.Place.{addressOf}
-use Rattle.record.specs.Row.{heldAt}
+use Rattle.table.specs.Rows.{heldAt}
 use Rattle.sequence.specs.Scan.{Scan, scanAt, scanAll}
 use Rattle.region.specs.declared.Bound.{Bound}
 use Rattle.region.specs.declared.Bound.the-variants.{Given, Absent}
@@ -38,6 +38,10 @@ rawIn s (held.Row x) a e out = rawAt s (addressOf x (record { 0 = startOf a })) 
 unfoldable pub rawOf : List ℕ → Held → Bound → Bound → List ℕ → Outcome Written
 rawOf s h a e out = rawIn s (boundedRow a e h) a e out
 
--- the raw read of row r of a table with u rows in use: 1 first
+-- the call: 1 first
+unfoldable pub rawHeld : List ℕ → Held → Bound → Bound → List ℕ → Outcome Written
+rawHeld s h a e out = cond (overLimit (length s)) (refuses TooLong out) (rawOf s h a e out)
+
+-- the raw read of row r of a table with u rows in use
 unfoldable pub rawRead : List ℕ → List ℕ → ℕ → ℕ → Bound → Bound → List ℕ → Outcome Written
-rawRead s t u r a e out = cond (overLimit (length s)) (refuses TooLong out) (rawOf s (heldAt t u r) a e out)
+rawRead s t u r a e out = rawHeld s (heldAt t u r) a e out

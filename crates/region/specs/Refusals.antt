@@ -11,13 +11,14 @@ use Rattle.refusal.specs.Numbers.{overLimit}
 use Rattle.refusal.specs.declared.Refusal.{Refusal}
 use Rattle.refusal.specs.declared.Refusal.the-variants.{NoRoom, NameUnknown, BadBounds, PastLength, NotInFile, BadRow}
 use Rattle.record.specs.declared.Record.{Record}
-use Rattle.record.specs.declared.Held.{Held}
-use Rattle.record.specs.declared.Held.the-variants as held
+use Rattle.table.specs.declared.Held.{Held}
+use Rattle.table.specs.declared.Held.the-variants as held
 use Rattle.record.specs.declared.Address.{Address}
 use Rattle.record.specs.declared.Address.the-variants.{At, Nowhere}
 use Rattle.record.specs.Place.{addressOf}
 use Rattle.record.specs.Bases.{byteAt}
-use Rattle.record.specs.Row.{rowCount, rowAt, badRow, soundRow, heldAt, namedIn, namedAt}
+use Rattle.table.specs.declared.InUse.the-variants as used
+use Rattle.table.specs.Rows.{rowCount, rowAt, noRow, badRow, usedAt, soundRow, heldAt, namedIn, namedOf, namedAt}
 use Rattle.index.specs.declared.Found.the-variants as found
 use Rattle.index.specs.Find.{named, judged, rowFrom, rowNamed, rowRead}
 use Rattle.region.specs.declared.Bound.{Bound}
@@ -25,8 +26,8 @@ use Rattle.output.specs.declared.Written.the-variants.{Refused}
 use Rattle.output.specs.declared.Written.{Written}
 use Rattle.output.specs.Outcome.{Outcome, refuses, gives, pours}
 use Rattle.region.specs.Region.{badBounds, boundedRow, startOf, endOf, basesTo}
-use Rattle.region.specs.Exact.{offsetsOf, inFile, pastLength, bytesAt, basesFrom, regionOf, exactIn, exactOf, exactRead}
-use Rattle.region.specs.Raw.{scanTo, rawAt, rawIn, rawOf, rawRead}
+use Rattle.region.specs.Exact.{offsetsOf, inFile, pastLength, bytesAt, basesFrom, regionOf, exactIn, exactOf, exactHeld, exactRead}
+use Rattle.region.specs.Raw.{scanTo, rawAt, rawIn, rawOf, rawHeld, rawRead}
 
 -- the refusals of looking up: 25, 15
 pub data OfLookUp : Refusal → Type 0 where
@@ -46,33 +47,33 @@ ReadRefuses o = (f : Refusal) → o .answer ≡ Refused f → OfRead f
 
 -- ---- looking up
 
-module _ (t : List ℕ) (n r : ℕ) where
-  held-refused : (f : Refusal) → heldAt t n r ≡ held.Refused f → OfLookUp f
-  unfolding heldAt soundRow
-  held-refused f h = go (ltb (rowCount t) n) (ltb r n) (eqb (rowAt t r .«line_bases») 0) (eqb (rowAt t r .«line_width») 0) h
+module _ (bytes : ℕ) (f : Refusal) where
+  bad : (k : ℕ) → badRow k ≡ held.Refused f → OfLookUp f
+  bad k q = let e : BadRow k ≡ f = cc in rw (← e) (bad-row k)
+
+  row-refused : (r : ℕ) (x : Record) → namedIn bytes r (soundRow r x) ≡ held.Refused f → OfLookUp f
+  unfolding namedIn soundRow
+  row-refused r x h = go (eqb (x .«line_bases») 0) (eqb (x .«line_width») 0) (ltb bytes (x .«name_start» + x .«name_length»)) refl (ltb bytes (x .«description_start» + x .«description_length»)) refl h
     where
-      bad : (k : ℕ) → badRow k ≡ held.Refused f → OfLookUp f
-      bad k q = let e : BadRow k ≡ f = cc in rw (← e) (bad-row k)
+      spans : (l d : Bool) → cond l (badRow r) (cond d (badRow r) (held.Row x)) ≡ held.Refused f → OfLookUp f
+      spans true d q = bad r q
+      spans false true q = bad r q
+      spans false false q = let z : _≡_ {A = ℕ} 0 1 = cc in absurd (omega arith)
 
-      go : (l u b w : Bool) → cond l (badRow (rowCount t)) (cond u (cond b (badRow r) (cond w (badRow r) (held.Row (rowAt t r)))) (badRow r)) ≡ held.Refused f → OfLookUp f
-      go true _ _ _ q = bad (rowCount t) q
-      go false false _ _ q = bad r q
-      go false true true _ q = bad r q
-      go false true false true q = bad r q
-      go false true false false q = let z : _≡_ {A = ℕ} 0 1 = cc in absurd (omega arith)
+      go : (b w l : Bool) → ltb bytes (x .«name_start» + x .«name_length») ≡ l → (d : Bool) → ltb bytes (x .«description_start» + x .«description_length») ≡ d
+          → namedIn bytes r (cond b (badRow r) (cond w (badRow r) (held.Row x))) ≡ held.Refused f → OfLookUp f
+      go true w l m d n q = bad r q
+      go false true l m d n q = bad r q
+      go false false l m d n q = spans l d (rw (m, n) at q)
 
-  named-refused : (bytes : ℕ) (f : Refusal) → namedAt t n r bytes ≡ held.Refused f → OfLookUp f
-  unfolding namedAt namedIn
-  named-refused bytes f h = go (heldAt t n r) refl h
+  named-refused : (t : List ℕ) (n r : ℕ) → namedAt t n r bytes ≡ held.Refused f → OfLookUp f
+  unfolding namedAt namedOf usedAt
+  named-refused t n r h = go (ltb (rowCount t) n) (ltb r n) h
     where
-      row : (b d : Bool) (x : Record) → cond b (badRow r) (cond d (badRow r) (held.Row x)) ≡ held.Refused f → OfLookUp f
-      row true d x q = let e : BadRow r ≡ f = cc in rw (← e) (bad-row r)
-      row false true x q = let e : BadRow r ≡ f = cc in rw (← e) (bad-row r)
-      row false false x q = let z : _≡_ {A = ℕ} 0 1 = cc in absurd (omega arith)
-
-      go : (o : Held) → heldAt t n r ≡ o → namedIn bytes r o ≡ held.Refused f → OfLookUp f
-      go (held.Row x) k q = row (ltb bytes (x .«name_start» + x .«name_length»)) (ltb bytes (x .«description_start» + x .«description_length»)) x q
-      go (held.Refused g) k q = let e : g ≡ f = cc in held-refused f (rw e at k)
+      go : (l u : Bool) → namedOf bytes (cond l (noRow (rowCount t)) (cond u (used.Row r (rowAt t r)) (noRow r))) ≡ held.Refused f → OfLookUp f
+      go true u q = bad (rowCount t) q
+      go false false q = bad r q
+      go false true q = row-refused r (rowAt t r) q
 
 module _ (names t : List ℕ) (n : ℕ) (name : List ℕ) (f : Refusal) where
   from-refused : (k r : ℕ) → rowFrom names t n name k r ≡ found.Refused f → OfLookUp f
@@ -87,7 +88,7 @@ module _ (names t : List ℕ) (n : ℕ) (name : List ℕ) (f : Refusal) where
       go : (d : Held) → namedAt t n r (length names) ≡ d → judged names name r d (rowFrom names t n name k (suc r)) ≡ found.Refused f
           → (rowFrom names t n name k (suc r) ≡ found.Refused f → OfLookUp f) → OfLookUp f
       go (held.Row x) s q ih = pick (named names x name) q ih
-      go (held.Refused g) s q ih = let e : g ≡ f = cc in named-refused t n r (length names) f (rw e at s)
+      go (held.Refused g) s q ih = let e : g ≡ f = cc in named-refused (length names) f t n r (rw e at s)
 
   pub look-up-refuses : overLimit (length names) ≡ false → overLimit (length name) ≡ false → rowRead names t n name ≡ found.Refused f → OfLookUp f
   unfolding rowRead rowNamed
@@ -123,7 +124,7 @@ scan-refuses s (At o) a e out =
 
 module _ (s t : List ℕ) (u r : ℕ) (a e : Bound) (out : List ℕ) (small : overLimit (length s) ≡ false) (x : Record) (sound : heldAt t u r ≡ held.Row x) where
   pub exact-refuses : ReadRefuses (exactRead s t u r a e out)
-  unfolding exactRead exactOf exactIn boundedRow
+  unfolding exactRead exactHeld exactOf exactIn boundedRow
   exact-refuses = rw (small, sound) (go (badBounds a e))
     where
       go : (b : Bool) → ReadRefuses (exactIn (length s) (byteAt s) (cond b (held.Refused BadBounds) (held.Row x)) a e out)
@@ -131,7 +132,7 @@ module _ (s t : List ℕ) (u r : ℕ) (a e : Bound) (out : List ℕ) (small : ov
       go false = region-refuses (length s) (byteAt s) x (startOf a) (endOf (x .length) e) out
 
   pub raw-refuses : ReadRefuses (rawRead s t u r a e out)
-  unfolding rawRead rawOf rawIn boundedRow
+  unfolding rawRead rawHeld rawOf rawIn boundedRow
   raw-refuses = rw (small, sound) (go (badBounds a e))
     where
       go : (b : Bool) → ReadRefuses (rawIn s (cond b (held.Refused BadBounds) (held.Row x)) a e out)

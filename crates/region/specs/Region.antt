@@ -3,8 +3,8 @@ use Prim.Native.Nat.{ℕ, _+_, _-_}
 use mathlib.Core.Bool.{Bool, false, cond, _||_}
 use lib.Dec.{eqb, ltb}
 use Rattle.refusal.specs.declared.Refusal.the-variants.{BadBounds}
-use Rattle.record.specs.declared.Held.{Held}
-use Rattle.record.specs.declared.Held.the-variants as held
+use Rattle.table.specs.declared.Held.{Held}
+use Rattle.table.specs.declared.Held.the-variants as held
 use Rattle.region.specs.declared.Bound.{Bound}
 use Rattle.region.specs.declared.Bound.the-variants.{Given, Absent}
 

@@ -17,8 +17,8 @@ use Rattle.index.specs.declared.Found.the-variants as found
 use Rattle.index.specs.Find.{rowFrom, rowNamed, rowRead}
 use Rattle.region.specs.declared.Bound.{Bound}
 use Rattle.output.specs.Outcome.{refuses}
-use Rattle.region.specs.Exact.{exactRead}
-use Rattle.region.specs.Raw.{rawRead}
+use Rattle.region.specs.Exact.{exactHeld, exactRead}
+use Rattle.region.specs.Raw.{rawHeld, rawRead}
 use Rattle.region.specs.Refusals.{exact-refuses, raw-refuses}
 use Rattle.region.specs.ByName.{rowFor, readFound, exactNamed, rawNamed, Split, Small}
 use Rattle.region.specs.SplitLaws.{split}
@@ -38,11 +38,11 @@ module _ (s names t : List ℕ) (u : ℕ) (name : List ℕ) (a e : Bound) (out :
   -- of a file that is too long the one call told 1, whatever the name. Now the second call tells it, for any row
   module _ (long : overLimit (length s) ≡ true) where
     pub long-file-exact : (exactNamed s names t u name a e out ≡ refuses TooLong out) × ((r : ℕ) → exactRead s t u r a e out ≡ refuses TooLong out)
-    unfolding exactNamed readFound rowFor exactRead
+    unfolding exactNamed readFound rowFor exactRead exactHeld
     long-file-exact = (rw long, λ r. rw long)
 
     pub long-file-raw : (rawNamed s names t u name a e out ≡ refuses TooLong out) × ((r : ℕ) → rawRead s t u r a e out ≡ refuses TooLong out)
-    unfolding rawNamed readFound rowFor rawRead
+    unfolding rawNamed readFound rowFor rawRead rawHeld
     long-file-raw = (rw long, λ r. rw long)
 
   -- and the first tells of the name before, since no file is lent to it: here of a name that no row has, for no row is in use

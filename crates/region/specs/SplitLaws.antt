@@ -7,9 +7,9 @@ use lib.ListN.{length}
 use Rattle.refusal.specs.Numbers.{overLimit}
 use Rattle.refusal.specs.declared.Refusal.{Refusal}
 use Rattle.record.specs.declared.Record.{Record}
-use Rattle.record.specs.declared.Held.the-variants as held
-use Rattle.record.specs.Row.{heldAt}
-use Rattle.record.specs.Laws.{named-known}
+use Rattle.table.specs.declared.Held.the-variants as held
+use Rattle.table.specs.Rows.{heldAt}
+use Rattle.table.specs.RowLaws.{named-known}
 use Rattle.index.specs.declared.Found.{Found}
 use Rattle.index.specs.declared.Found.the-variants as found
 use Rattle.index.specs.Find.{rowRead}

@@ -1,4 +1,4 @@
-// Reads of a region of a sequence, into a lent output: some bases from a start to an end, of a row of a table.
+// Reads of a region of a sequence, into a lent output: some bases from a start to an end, of a row in use.
 // The exact read gives the bytes at the offsets of the region's bases. In this order it refuses: 1, a file that is too long; 16, a
 // given bound that is 0, or a start past the end; 25, a bad row; 17, a bound past the record's length; 14, an output that is too
 // short; 18, a base that is not in the file, the first of them.
@@ -12,16 +12,16 @@ mod exact;
 mod raw;
 
 use output::Written;
-use record::Held;
 use record::Position;
-use record::Record;
 use refusal::Refusal;
+use table::Held;
+use table::InUse;
 ghost use mathlib.Core.Path.{_≡_};
-ghost use Rattle.record.specs.Row.{heldAt};
+ghost use Rattle.table.specs.Rows.{heldOf};
 ghost use Rattle.output.specs.Outcome.{leaves};
 ghost use Rattle.region.specs.Region.{boundedRow};
-ghost use Rattle.region.specs.Exact.{exactRead};
-ghost use Rattle.region.specs.Raw.{rawRead};
+ghost use Rattle.region.specs.Exact.{exactHeld};
+ghost use Rattle.region.specs.Raw.{rawHeld};
 
 // A bound of a region: a base position, or none.
 pub enum Bound {
@@ -30,54 +30,38 @@ pub enum Bound {
 }
 
 // The row that a region is read from, if its bounds are not bad.
-fn bounded_row(table: &[u64], in_use: usize, row: usize, start: Bound, end: Bound) -> Held
-    ensures { λ r. ⌜ r ≡ boundedRow start end (heldAt (now (table .entry)) «in_use» row) ⌝ }
+fn bounded_row(row: InUse, start: Bound, end: Bound) -> Held
+    ensures { λ r. ⌜ r ≡ boundedRow start end (heldOf row) ⌝ }
 {
     if bounds::bad_bounds(start, end) {
         return Held::Refused(Refusal::BadBounds);
     }
-    Record::from_row(table, in_use, row)
+    row.held()
 }
 
-// The exact read by row: copies the bases of a region of row `row` to the front of the output.
-pub fn read_exact(
-    file: &[u8],
-    table: &[u64],
-    in_use: usize,
-    row: usize,
-    start: Bound,
-    end: Bound,
-    out: &mut [u8],
-) -> Written
-    ensures { λ r. ⌜ leaves r (now (out .exit)) ≡ exactRead (now (file .entry)) (now (table .entry)) «in_use» row start end (now (out .entry)) ⌝ }
+// The exact read: copies the bases of a region of a row to the front of the output.
+pub fn read_exact(file: &[u8], row: InUse, start: Bound, end: Bound, out: &mut [u8]) -> Written
+    ensures { λ r. ⌜ leaves r (now (out .exit)) ≡ exactHeld (now (file .entry)) (heldOf row) start end (now (out .entry)) ⌝ }
 {
     if refusal::over_limit(file.len()) {
         return Written::Refused(Refusal::TooLong);
     }
-    let held = bounded_row(table, in_use, row, start, end);
+    let held = bounded_row(row, start, end);
     match held {
         Held::Refused(f) => Written::Refused(f),
         Held::Row(x) => exact::read_region(file, x, start, end, out),
     }
 }
 
-// The raw read by row: scans from where the first base of a region of row `row` lies, for as many bases as the bounds say, or
-// without limit. It does not look at the record's length, and may go on into the next record.
-pub fn read_raw(
-    file: &[u8],
-    table: &[u64],
-    in_use: usize,
-    row: usize,
-    start: Bound,
-    end: Bound,
-    out: &mut [u8],
-) -> Written
-    ensures { λ r. ⌜ leaves r (now (out .exit)) ≡ rawRead (now (file .entry)) (now (table .entry)) «in_use» row start end (now (out .entry)) ⌝ }
+// The raw read: scans from where the first base of a region of a row lies, for as many bases as the bounds say, or without limit. It
+// does not look at the record's length, and may go on into the next record.
+pub fn read_raw(file: &[u8], row: InUse, start: Bound, end: Bound, out: &mut [u8]) -> Written
+    ensures { λ r. ⌜ leaves r (now (out .exit)) ≡ rawHeld (now (file .entry)) (heldOf row) start end (now (out .entry)) ⌝ }
 {
     if refusal::over_limit(file.len()) {
         return Written::Refused(Refusal::TooLong);
     }
-    let held = bounded_row(table, in_use, row, start, end);
+    let held = bounded_row(row, start, end);
     match held {
         Held::Refused(f) => Written::Refused(f),
         Held::Row(x) => raw::scan_region(file, x, start, end, out),

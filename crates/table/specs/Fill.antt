@@ -1,5 +1,5 @@
 -- The rows that a file or an index gives, and a table filled with them.
-use Prim.Native.Nat.{ℕ}
+use Prim.Native.Nat.{ℕ, _<_}
 use mathlib.Core.Path.{_≡_}
 use mathlib.Core.List.{List, [], _∷_}
 use mathlib.Core.Bool.{Bool, cond}
@@ -8,10 +8,14 @@ use lib.Dec.{ltb}
 use Rattle.refusal.specs.declared.Refusal.{Refusal}
 use Rattle.refusal.specs.declared.Refusal.the-variants.{TableFull}
 use Rattle.record.specs.declared.Record.{Record}
-use Rattle.record.specs.Row.{withRows}
+use Rattle.table.specs.Rows.{withRows, rowCount, withRow}
 use Rattle.table.specs.declared.Stop.{Stop}
 use Rattle.table.specs.declared.Stop.the-variants.{Ended, Refused}
 use Rattle.table.specs.declared.Filled.{Filled}
+use Rattle.table.specs.declared.Next.{Next}
+use Rattle.table.specs.declared.Next.the-variants as next
+use Rattle.table.specs.declared.Kept.{Kept}
+use Rattle.table.specs.declared.Kept.the-variants as kept
 
 -- rows, and why there are no more
 pub record Found : Type 0 where
@@ -35,3 +39,24 @@ pub record FilledAs (f : Found) (before after : List ℕ) (r : Filled) : Type 0 
   pub rows : r .rows ≡ length (f .rows)
   pub stop : r .stop ≡ f .stop
   pub table : after ≡ withRows before 0 (f .rows)
+
+-- ---- one turn
+
+-- the next of the rows that there are from a place on, which is before an end: a row, with those from the place behind it, or why none
+pub record NextOf (here : Found) (behind : ℕ → Found) (at end : ℕ) (x : Next) : Type 0 where
+  pub row : (y : Record) (b : ℕ) → x ≡ next.Row y b → (here ≡ withFirst y (behind b)) × (at < end) × (at < b)
+  pub stop : (s : Stop) → x ≡ next.Stop s → here ≡ nothing s
+
+-- the answer of a turn that puts the next record in row n: it goes on behind it, if the table has the row
+unfoldable pub keptOf : List ℕ → ℕ → Next → Kept
+keptOf t n (next.Row y b) = cond (ltb n (rowCount t)) (kept.On b) (kept.Stop (Refused (TableFull (rowCount t))))
+keptOf t n (next.Stop s) = kept.Stop s
+
+-- the table afterwards
+unfoldable pub withNext : List ℕ → ℕ → Next → List ℕ
+withNext t n (next.Row y b) = withRow t n y
+withNext t n (next.Stop s) = t
+
+pub record KeptAs (before : List ℕ) (n : ℕ) (x : Next) (told : Kept) (after : List ℕ) : Type 0 where
+  pub answer : told ≡ keptOf before n x
+  pub table : after ≡ withNext before n x

@@ -5,20 +5,24 @@ use mathlib.Core.List.{List, [], _∷_}
 use mathlib.Core.Bool.{Bool, true, false, cond}
 use lib.ListN.{length, take, length-take}
 use lib.Dec.{ltb, leb·suc-suc}
-use borrow.Author.Tests.{lt-ltb, le-ltb, ltb-false}
+use borrow.Author.Tests.{lt-ltb, le-ltb, ltb-true, ltb-false}
 use native.Mathlib.Omega.{arith}
 use native.Mathlib.Nat.{add-zero, zero-add, sub-zero}
 use Rattle.refusal.specs.declared.Refusal.{Refusal}
 use Rattle.refusal.specs.declared.Refusal.the-variants.{TableFull}
 use Rattle.record.specs.declared.Record.{Record}
-use Rattle.record.specs.declared.Stored.{Stored}
-use Rattle.record.specs.declared.Stored.the-variants as stored
-use Rattle.record.specs.Row.{rowCount, withRows, StoredAt}
-use Rattle.record.specs.Laws.{rows-none, rows-onward, kept-inside, full-outside, with-row, without-row, rowCount-rows}
+use Rattle.table.specs.declared.Next.{Next}
+use Rattle.table.specs.declared.Next.the-variants as next
+use Rattle.table.specs.declared.Kept.{Kept}
+use Rattle.table.specs.declared.Kept.the-variants as kept
+use Rattle.table.specs.Rows.{rowCount, withRows, withRow, StoredAt}
+use Rattle.table.specs.RowLaws.{rows-none, rows-onward, with-row, without-row, rowCount-rows, kept-inside, full-outside}
+use Rattle.table.specs.declared.Stored.{Stored}
+use Rattle.table.specs.declared.Stored.the-variants as stored
 use Rattle.table.specs.declared.Stop.{Stop}
 use Rattle.table.specs.declared.Stop.the-variants.{Ended, Refused}
 use Rattle.table.specs.declared.Filled.{Filled}
-use Rattle.table.specs.Fill.{Found, nothing, withFirst, heldIn, FilledAs}
+use Rattle.table.specs.Fill.{Found, nothing, withFirst, heldIn, FilledAs, NextOf, keptOf, withNext, KeptAs}
 
 -- ---- what a table holds
 
@@ -66,35 +70,105 @@ module _ (all : ℕ) (t₀ : List ℕ) (f₀ : Found) (n : ℕ) (t : List ℕ) w
       }
 
   -- nothing more comes
-  pub onward-last : (x : Stop) → Onward all t₀ f₀ n (nothing x) t → FilledAs (heldIn all all f₀) t₀ t (record { rows = n; stop = x })
+  onward-last : (x : Stop) → Onward all t₀ f₀ n (nothing x) t → FilledAs (heldIn all all f₀) t₀ t (record { rows = n; stop = x })
   onward-last x o = told (nothing x) x o (held-nothing (all - n) all x)
 
-  module _ (x : Record) (f : Found) (o : Onward all t₀ f₀ n (withFirst x f) t) (a : Stored) (t′ : List ℕ) (s : StoredAt t n x a t′) where
+  module _ (x : Record) (f : Found) (o : Onward all t₀ f₀ n (withFirst x f) t) (t′ : List ℕ) (s : t′ ≡ withRow t n x) where
     -- the next row finds no room
-    pub onward-full : (y : Refusal) → a ≡ stored.Refused y → FilledAs (heldIn all all f₀) t₀ t′ (record { rows = n; stop = Refused y })
-    onward-full y e =
-        let h = full-outside t n y (sym (s .answer) ∙ e) in
-        let z : all - n ≡ 0 = omega (arith, h, o .room) in
-        let q : y ≡ TableFull all = h .1 ∙ ap TableFull (o .room) in
-        let w : t′ ≡ t = s .table ∙ without-row t n x (h .0) in
-        rw (w, q) (told (withFirst x f) (Refused (TableFull all)) o (rw z (held-none all x f)))
+    onward-full : rowCount t ≤ n → FilledAs (heldIn all all f₀) t₀ t′ (record { rows = n; stop = Refused (TableFull (rowCount t)) })
+    onward-full h =
+        let z : all - n ≡ 0 = omega (arith, o .room) in
+        let w : t′ ≡ t = s ∙ without-row t n x h in
+        rw (w, o .room) (told (withFirst x f) (Refused (TableFull all)) o (rw z (held-none all x f)))
 
     -- or is kept
-    pub onward-kept : a ≡ stored.Kept → Onward all t₀ f₀ (n + 1) f t′
-    onward-kept e =
-        let h : n < rowCount t = kept-inside t n (sym (s .answer) ∙ e) in
+    onward-kept : n < rowCount t → Onward all t₀ f₀ (n + 1) f t′
+    onward-kept h =
         let z : all - n ≡ suc (all - (n + 1)) = omega (arith, o .room) in
         let m : heldIn (all - n) all (withFirst x f) ≡ withFirst x (heldIn (all - (n + 1)) all f) = rw z (held-first (all - (n + 1)) all x f) in
         record {
-          room = ap rowCount (s .table ∙ with-row t n x h) ∙ rowCount-rows t n (x ∷ []) ∙ o .room;
+          room = ap rowCount (s ∙ with-row t n x h) ∙ rowCount-rows t n (x ∷ []) ∙ o .room;
           rows = omega (arith, ap length (ap (λ (k : Found). k .rows) m), o .rows);
           stop = sym (ap (λ (k : Found). k .stop) m) ∙ o .stop;
           table =
-              ap (λ (u : List ℕ). withRows u (n + 1) (heldIn (all - (n + 1)) all f .rows)) (s .table)
+              ap (λ (u : List ℕ). withRows u (n + 1) (heldIn (all - (n + 1)) all f .rows)) s
               ∙ rows-onward t n x (heldIn (all - (n + 1)) all f .rows) h
               ∙ sym (ap (λ (k : Found). withRows t n (k .rows)) m)
               ∙ o .table;
         }
+
+  -- a turn that puts the next of the rows that are still to come in row n
+  module _ (here : Found) (behind : ℕ → Found) (at end : ℕ) (x : Next) (c : NextOf here behind at end x) (o : Onward all t₀ f₀ n here t) (k : Kept) (t′ : List ℕ) (q : KeptAs t n x k t′) where
+    answered : (z : Next) → x ≡ z → k ≡ keptOf t n z
+    answered z h = q .answer ∙ ap (keptOf t n) h
+
+    left : (z : Next) → x ≡ z → t′ ≡ withNext t n z
+    left z h = q .table ∙ ap (withNext t n) h
+
+    -- it goes on, and the place moves on
+    pub turn-on : (b : ℕ) → k ≡ kept.On b → Onward all t₀ f₀ (n + 1) (behind b) t′ × (at < end) × (at < b)
+    unfolding keptOf withNext
+    turn-on b e = go x refl
+      where
+        row : (y : Record) (d : ℕ) → x ≡ next.Row y d → (v : Bool) → ltb n (rowCount t) ≡ v → cond v (kept.On d) (kept.Stop (Refused (TableFull (rowCount t)))) ≡ kept.On b
+            → Onward all t₀ f₀ (n + 1) (behind b) t′ × (at < end) × (at < b)
+        row y d h true v w =
+            let m : d ≡ b = cc in
+            let r = c .row y d h in
+            rw (← m) (onward-kept y (behind d) (rw (r .0) at o) t′ (left (next.Row y d) h) (ltb-true _ _ v), r .1, r .2)
+        row y d h false v w = let z : _≡_ {A = ℕ} 0 1 = cc in absurd (omega arith)
+
+        go : (z : Next) → x ≡ z → Onward all t₀ f₀ (n + 1) (behind b) t′ × (at < end) × (at < b)
+        go (next.Row y d) h = row y d h (ltb n (rowCount t)) refl (sym (answered (next.Row y d) h) ∙ e)
+        go (next.Stop s) h = let w : kept.Stop s ≡ kept.On b = sym (answered (next.Stop s) h) ∙ e in let z : _≡_ {A = ℕ} 0 1 = cc in absurd (omega arith)
+
+    -- it stops, and the table is filled
+    pub turn-stops : (s : Stop) → k ≡ kept.Stop s → FilledAs (heldIn all all f₀) t₀ t′ (record { rows = n; stop = s })
+    unfolding keptOf withNext
+    turn-stops s e = go x refl
+      where
+        row : (y : Record) (d : ℕ) → x ≡ next.Row y d → (v : Bool) → ltb n (rowCount t) ≡ v → cond v (kept.On d) (kept.Stop (Refused (TableFull (rowCount t)))) ≡ kept.Stop s
+            → FilledAs (heldIn all all f₀) t₀ t′ (record { rows = n; stop = s })
+        row y d h true v w = let z : _≡_ {A = ℕ} 0 1 = cc in absurd (omega arith)
+        row y d h false v w =
+            let m : Refused (TableFull (rowCount t)) ≡ s = cc in
+            rw (← m) (onward-full y (behind d) (rw (c .row y d h .0) at o) t′ (left (next.Row y d) h) (ltb-false _ _ v))
+
+        go : (z : Next) → x ≡ z → FilledAs (heldIn all all f₀) t₀ t′ (record { rows = n; stop = s })
+        go (next.Row y d) h = row y d h (ltb n (rowCount t)) refl (sym (answered (next.Row y d) h) ∙ e)
+        go (next.Stop u) h =
+            let w : kept.Stop u ≡ kept.Stop s = sym (answered (next.Stop u) h) ∙ e in
+            let m : u ≡ s = cc in
+            rw (left (next.Stop u) h, ← m) (onward-last u (rw (c .stop u h) at o))
+
+-- ---- the next row
+
+module _ (here : Found) (behind : ℕ → Found) (at end : ℕ) where
+  pub next-row : (y : Record) (b : ℕ) → (here ≡ withFirst y (behind b)) × (at < end) × (at < b) → NextOf here behind at end (next.Row y b)
+  next-row y b h =
+      record {
+        row = λ z d e. (let p : y ≡ z = cc in let q : b ≡ d = cc in rw (← p, ← q) h);
+        stop = λ s e. (let z : _≡_ {A = ℕ} 0 1 = cc in absurd (omega arith));
+      }
+
+  pub next-stop : (s : Stop) → here ≡ nothing s → NextOf here behind at end (next.Stop s)
+  next-stop s h = record { row = λ z d e. (let z : _≡_ {A = ℕ} 0 1 = cc in absurd (omega arith)); stop = λ u e. (let p : s ≡ u = cc in rw (← p) h) }
+
+-- ---- one turn, by what storing tells
+
+module _ (t : List ℕ) (n : ℕ) (x : Next) where
+  pub kept-stop : (s : Stop) → x ≡ next.Stop s → KeptAs t n x (kept.Stop s) t
+  unfolding keptOf withNext
+  kept-stop s h = record { answer = rw h; table = rw h }
+
+  module _ (y : Record) (b : ℕ) (h : x ≡ next.Row y b) (a : Stored) (t′ : List ℕ) (s : StoredAt t n y a t′) where
+    pub kept-on : a ≡ stored.Kept → KeptAs t n x (kept.On b) t′
+    unfolding keptOf withNext
+    kept-on e = record { answer = rw (h, lt-ltb _ _ (kept-inside t n (sym (s .answer) ∙ e))); table = rw h (s .table) }
+
+    pub kept-full : (f : Refusal) → a ≡ stored.Refused f → KeptAs t n x (kept.Stop (Refused f)) t′
+    unfolding keptOf withNext
+    kept-full f e = let m = full-outside t n f (sym (s .answer) ∙ e) in record { answer = rw (h, le-ltb _ _ (m .0), m .1); table = rw h (s .table) }
 
 -- no row at all
 pub filled-none : (t : List ℕ) (x : Stop) → FilledAs (nothing x) t t (record { rows = 0; stop = x })

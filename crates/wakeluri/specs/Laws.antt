@@ -22,7 +22,7 @@ use Rattle.table.specs.Fill.{Found}
 use Rattle.table.specs.declared.Filled.{Filled}
 use Rattle.output.specs.declared.Written.{Written}
 use Rattle.output.specs.Outcome.{Outcome, leaves}
-use Rattle.byte_table.specs.Fill.{FilledBytes}
+use Rattle.table.specs.Bytes.{FilledBytes}
 use Rattle.wakeluri.specs.declared.answer.Answer.{Answer}
 use Rattle.wakeluri.specs.Answer.{writtenAnswer, sequenceAnswer, filledAnswer}
 use Rattle.wakeluri.specs.Told.{sequenceTold, writtenTold, filledTold}

@@ -4,10 +4,10 @@ use Prim.Native.Nat.{ℕ, _≤_, _<_}
 use mathlib.Core.Path.{_≡_, _∙_}
 use mathlib.Core.List.{List, _++_}
 use lib.ListN.{length, drop}
-use Rattle.record.specs.Row.{rowCount, rowAt}
+use Rattle.table.specs.Rows.{rowCount, rowAt}
 use Rattle.index_line.specs.IndexLine.{readLine, writtenAs}
 use Rattle.index_line.specs.PlainAgain.{plain-row}
-use Rattle.byte_table.specs.Numbers.{numbersIn}
+use Rattle.table.specs.Numbers.{numbersIn}
 use Rattle.wakeluri.specs.Answer.{fine, answerOf, entryAnswer, writtenAnswer}
 use Rattle.output.specs.Outcome.{leaves}
 use Rattle.wakeluri.specs.Told.{writtenTold}

@@ -7,12 +7,12 @@ use Rattle.refusal.specs.declared.Refusal.the-variants.{TooLong}
 use Rattle.refusal.specs.Numbers.{numbersOf, overLimit}
 use Rattle.lines.specs.Lines.{readLine}
 use Rattle.record.specs.declared.Record.{Record}
-use Rattle.record.specs.Row.{withRows}
+use Rattle.table.specs.Rows.{withRows}
 use Rattle.output.specs.declared.Written.{Written}
 use Rattle.output.specs.Outcome.{Outcome, leaves}
 use Rattle.sequence.specs.declared.SequenceRead.{SequenceRead}
 use Rattle.table.specs.Fill.{Found}
-use Rattle.byte_table.specs.Numbers.{numbersIn, withNumbers}
+use Rattle.table.specs.Numbers.{numbersIn, withNumbers}
 use Rattle.wakeluri.specs.declared.answer.Answer.{Answer}
 use Rattle.wakeluri.specs.declared.answer.RowAnswer.{RowAnswer}
 use Rattle.wakeluri.specs.declared.answer.SpanAnswer.{SpanAnswer}

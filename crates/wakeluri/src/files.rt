@@ -5,14 +5,14 @@ use crate::answer::RowAnswer;
 use fitting::Rule;
 use indexer::Indexer;
 ghost use mathlib.Core.Path.{_≡_};
-ghost use Rattle.record.specs.Row.{rowCount};
+ghost use Rattle.table.specs.Rows.{rowCount};
 ghost use Rattle.indexer.specs.Index.{recordRead};
 ghost use Rattle.indexer.specs.File.{fileIn};
 ghost use Rattle.fitting.specs.declared.Rule.the-variants.{Complete};
 ghost use Rattle.fitting.specs.Rules.{rowsIn};
 ghost use Rattle.index.specs.Index.{indexIn};
 ghost use Rattle.checker.specs.Check.{checkOf};
-ghost use Rattle.byte_table.specs.Numbers.{numbersIn};
+ghost use Rattle.table.specs.Numbers.{numbersIn};
 ghost use Rattle.wakeluri.specs.Answer.{stepAnswer, verdictAnswer};
 ghost use Rattle.output.specs.Outcome.{leaves};
 ghost use Rattle.wakeluri.specs.Told.{filledTold};
@@ -30,7 +30,7 @@ pub extern "C" fn wakeluri_index_record(file: &[u8], at: u64) -> RowAnswer
 pub extern "C" fn wakeluri_index_file(file: &[u8], table: &mut [u8]) -> Answer
     ensures { λ a. ⌜ leaves a (now (table .exit)) ≡ filledTold (fileIn (now (file .entry)) (rowCount (numbersIn (now (table .entry))))) (now (table .entry)) ⌝ }
 {
-    let filled = byte_table::index_file(file, table, Rule::Strict);
+    let filled = fitting::bytes::index_file(file, table, Rule::Strict);
     answer::filled_answer(filled)
 }
 
@@ -39,7 +39,7 @@ pub extern "C" fn wakeluri_index_file(file: &[u8], table: &mut [u8]) -> Answer
 pub extern "C" fn wakeluri_index_complete(file: &[u8], table: &mut [u8]) -> Answer
     ensures { λ a. ⌜ leaves a (now (table .exit)) ≡ filledTold (rowsIn Complete (now (file .entry)) (rowCount (numbersIn (now (table .entry))))) (now (table .entry)) ⌝ }
 {
-    let filled = byte_table::index_file(file, table, Rule::Complete);
+    let filled = fitting::bytes::index_file(file, table, Rule::Complete);
     answer::filled_answer(filled)
 }
 
@@ -48,7 +48,7 @@ pub extern "C" fn wakeluri_index_complete(file: &[u8], table: &mut [u8]) -> Answ
 pub extern "C" fn wakeluri_read_index(index: &[u8], table: &mut [u8]) -> Answer
     ensures { λ a. ⌜ leaves a (now (table .exit)) ≡ filledTold (indexIn (now (index .entry)) (rowCount (numbersIn (now (table .entry))))) (now (table .entry)) ⌝ }
 {
-    let filled = byte_table::read_index(index, table);
+    let filled = index::bytes::read_index(index, table);
     answer::filled_answer(filled)
 }
 

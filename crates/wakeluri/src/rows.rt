@@ -3,12 +3,14 @@ use crate::answer;
 use crate::answer::Answer;
 use record::Position;
 use region::Bound;
+use table::InUse;
 ghost use mathlib.Core.Path.{_≡_};
 ghost use Rattle.index.specs.Find.{rowRead};
 ghost use Rattle.index_line.specs.IndexLine.{writtenAs};
 ghost use Rattle.region.specs.Exact.{exactRead};
 ghost use Rattle.region.specs.Raw.{rawRead};
-ghost use Rattle.byte_table.specs.Numbers.{numbersIn};
+ghost use Rattle.table.specs.Numbers.{numbersIn};
+ghost use Rattle.table.specs.Rows.{usedAt};
 ghost use Rattle.wakeluri.specs.Answer.{boundOf, foundAnswer};
 ghost use Rattle.output.specs.Outcome.{leaves};
 ghost use Rattle.wakeluri.specs.Told.{writtenTold};
@@ -23,12 +25,19 @@ fn bound(flag: u64, p: u64) -> Bound
     Bound::Given(Position(p))
 }
 
+// Row `row` of a table with so many rows in use.
+fn used_row(table: &[u8], in_use: u64, row: u64) -> InUse
+    ensures { λ r. ⌜ r ≡ usedAt (numbersIn (now (table .entry))) «in_use» row ⌝ }
+{
+    table::bytes::row(table, in_use as usize, row as usize)
+}
+
 // The first row in use that has the name.
 #[no_mangle]
 pub extern "C" fn wakeluri_find(names: &[u8], table: &[u8], in_use: u64, name: &[u8]) -> Answer
     ensures { λ a. ⌜ a ≡ foundAnswer (rowRead (now (names .entry)) (numbersIn (now (table .entry))) «in_use» (now (name .entry))) ⌝ }
 {
-    answer::found_answer(byte_table::find(names, table, in_use as usize, name))
+    answer::found_answer(index::bytes::find(names, table, in_use as usize, name))
 }
 
 // The index line of a row, with its LF.
@@ -42,7 +51,7 @@ pub extern "C" fn wakeluri_write_index_line(
 ) -> Answer
     ensures { λ a. ⌜ leaves a (now (out .exit)) ≡ writtenTold (writtenAs (now (names .entry)) (numbersIn (now (table .entry))) «in_use» row (now (out .entry))) ⌝ }
 {
-    let written = byte_table::write_line(names, table, in_use as usize, row as usize, out);
+    let written = index_line::write_line(names, used_row(table, in_use, row), out);
     answer::written_answer(written)
 }
 
@@ -63,7 +72,7 @@ pub extern "C" fn wakeluri_read_exact(
 {
     let a = bound(has_start, start);
     let e = bound(has_end, end);
-    let read = byte_table::read_exact(file, table, in_use as usize, row as usize, a, e, out);
+    let read = region::read_exact(file, used_row(table, in_use, row), a, e, out);
     answer::written_answer(read)
 }
 
@@ -84,6 +93,6 @@ pub extern "C" fn wakeluri_read_raw(
 {
     let a = bound(has_start, start);
     let e = bound(has_end, end);
-    let read = byte_table::read_raw(file, table, in_use as usize, row as usize, a, e, out);
+    let read = region::read_raw(file, used_row(table, in_use, row), a, e, out);
     answer::written_answer(read)
 }

@@ -8,7 +8,7 @@ use lib.Seq.{drop-length}
 use native.Mathlib.Omega.{arith}
 use native.Mathlib.Nat.{zero-add}
 use Rattle.lines.specs.Lines.{lines, seqOf, sumWidths}
-use Rattle.record.specs.Row.{describedAt}
+use Rattle.record.specs.Description.{describedAt}
 use Rattle.record.specs.Laws.{described-some}
 use Rattle.record.specs.declared.Record.{Record}
 use Rattle.indexer.specs.Rule.{sequenceBy, recordBy}

@@ -1,15 +1,12 @@
 -- `fitting::index_rows` meets its contract: the rows in the table, with those that the file from `at` on still gives, are those of the whole file.
 -- Assumes nothing.
-use Prim.Native.Nat.{_<_, _-_}
-use mathlib.Core.Path.{_≡_, refl, sym, _∙_}
+use Prim.Native.Nat.{_≤_, _<_, _/_, _-_, _+_}
+use mathlib.Core.Path.{_≡_, refl, _∙_}
 use native.Mathlib.Omega.{arith}
 use lib.ListN.{length}
 use borrow.Author.Needs.{needs}
-use Rattle.record.specs.Row.{rowCount}
-use Rattle.record.specs.Laws.{kept-inside}
-use Rattle.table.specs.Fill.{withFirst}
-use Rattle.table.specs.Laws.{Onward, onward-start, onward-last, onward-full, onward-kept}
-use Rattle.indexer.specs.RuleLaws.{file-row, file-end, file-refused}
+use Rattle.table.specs.Rows.{rowWords, rowCount}
+use Rattle.table.specs.Laws.{Onward, onward-start, onward-count, turn-on, turn-stops}
 use Rattle.fitting.specs.Rules.{rowsBy}
 use Rattle.fitting.proofs.index_rows.Statement.{statement}
 use Rattle.fitting.proofs.index_rows.Tie as tie
@@ -20,64 +17,50 @@ Inv-loop s table₀ rule at₀ n₀ table at n = (length table ≡ length table�
 abbrev μ-loop : tie.MeasureT-loop
 μ-loop s table₀ rule at₀ n₀ table at n = length s - at
 
+-- so many rows are in, of those that the table has
+counted : (c : tie.At-loop Inv-loop μ-loop) → c .loop .n ≤ length (c .before .before .before .args .table .now) / rowWords
+unfolding rowCount
+counted c = onward-count _ _ _ _ _ _ (c .loop .inv .1)
+
 loop-holds : tie.Need-loop-holds Inv-loop μ-loop
-loop-holds c = (search needs, onward-start _ _ _ refl)
+loop-holds c = (refl, onward-start _ _ _ refl)
 
-index-at-requires : tie.Need-index-at-requires Inv-loop μ-loop
-index-at-requires c κs = search needs
+next-row-requires : tie.Need-next-row-requires Inv-loop μ-loop
+next-row-requires c κs = search needs
 
-enum-known-answer : tie.Need-enum-known-answer Inv-loop μ-loop
-enum-known-answer c = search needs
+keep-requires : tie.Need-keep-requires Inv-loop μ-loop
+keep-requires c κs = search needs
 
-store-requires : tie.Need-store-requires Inv-loop μ-loop
-store-requires c κs = search needs
+enum-known-behind : tie.Need-enum-known-behind Inv-loop μ-loop
+enum-known-behind c = search needs
 
-enum-told : tie.Need-enum-told Inv-loop μ-loop
-enum-told c = search needs
-
--- a turn that finds a record: the file from its place on is that record and the file behind it
-row : (c : tie.After-answer Inv-loop μ-loop)
-    → (rowsBy (c .before .before .before .before .before .before .args .rule) (c .before .before .before .before .before .before .args .s .now) (c .before .before .before .loop .at) ≡ withFirst (c .answer .given .0 .0) (rowsBy (c .before .before .before .before .before .before .args .rule) (c .before .before .before .before .before .before .args .s .now) (c .before .before .index-at .result .next .at)))
-    × (c .before .before .before .loop .at < length (c .before .before .before .before .before .before .args .s .now))
-    × (c .before .before .before .loop .at < c .before .before .index-at .result .next .at)
-row c = file-row _ _ _ _ (c .before .before .index-at .ensures) _ (c .answer .given .1)
+-- a turn that goes on: what the file from its place on still gives is the row that was kept, and what the file behind it gives
+turn : (c : tie.After-behind Inv-loop μ-loop) → let k = c .before .before .before .before in let l = k .before .before .before in let a = l .before .before .before .args in let b = c .behind .given .0 .0 in
+    Onward (rowCount (a .table .now)) (a .table .now) (rowsBy (a .rule) (a .s .now) 0) (l .loop .n + 1) (rowsBy (a .rule) (a .s .now) b) (k .keep .last .0)
+    × (l .loop .at < length (a .s .now)) × (l .loop .at < b)
+turn c =
+    let k = c .before .before .before .before in
+    turn-on _ _ _ _ _ _ _ _ _ _ (k .before .next-row .ensures) (k .before .before .before .loop .inv .1) _ _ (k .keep .ensures) _ (c .behind .given .1)
 
 add-n : tie.Need-add-n Inv-loop μ-loop
-unfolding rowCount
-add-n c = omega (arith, kept-inside _ _ (sym (c .before .before .before .before .store .ensures .answer) ∙ c .enum-told .given .1))
+add-n c = omega (arith, counted (c .before .before .before .before .before .before .before .before))
 
 loop-less : tie.Need-loop-less Inv-loop μ-loop
-loop-less c = omega (arith, row (c .before .before .before .before .before .before .before))
+loop-less c = omega (arith, turn (c .before))
 
 loop-again : tie.Need-loop-again Inv-loop μ-loop
-loop-again c = (c .before .before .before .before .store .kept .1 .0 ∙ c .before .before .before .before .before .before .before .before .before .before .loop .inv .0, onward-kept _ _ _ _ _ _ _ (rw (row (c .before .before .before .before .before .before .before) .0) at (c .before .before .before .before .before .before .before .before .before .before .loop .inv .1)) _ _ (c .before .before .before .before .store .ensures) (c .enum-told .given .1))
+loop-again c = let k = c .before .before .before .before .before in (k .keep .kept .0 ∙ k .before .before .before .loop .inv .0, turn (c .before) .0)
 
-enum-known-stored : tie.Need-enum-known-stored Inv-loop μ-loop
-enum-known-stored c = search needs
+enum-known-stop : tie.Need-enum-known-stop Inv-loop μ-loop
+enum-known-stop c = search needs
 
 same-length : tie.Need-same-length Inv-loop μ-loop
-same-length c = c .before .before .before .before .before .store .kept .1 .0 ∙ c .before .before .before .before .before .before .before .before .before .before .before .loop .inv .0
+same-length c = let k = c .before .before .before .before .before in k .keep .kept .0 ∙ k .before .before .before .loop .inv .0
 
 returns : tie.Need-returns Inv-loop μ-loop
-returns c = onward-full _ _ _ _ _ _ _ (rw (row (c .before .before .before .before .before .before .before .before) .0) at (c .before .before .before .before .before .before .before .before .before .before .before .loop .inv .1)) _ _ (c .before .before .before .before .before .store .ensures) _ (c .before .stored .given .1)
-
-enum-told-2 : tie.Need-enum-told-2 Inv-loop μ-loop
-enum-told-2 c = search needs
-
-same-length-2 : tie.Need-same-length-2 Inv-loop μ-loop
-same-length-2 c = search needs
-
-returns-2 : tie.Need-returns-2 Inv-loop μ-loop
-returns-2 c = onward-last _ _ _ _ _ _ (rw (file-end _ _ _ _ (c .before .before .index-at .ensures) (c .enum-told2 .given .1)) at (c .before .before .before .loop .inv .1))
-
-enum-known-answer-2 : tie.Need-enum-known-answer-2 Inv-loop μ-loop
-enum-known-answer-2 c = search needs
-
-same-length-3 : tie.Need-same-length-3 Inv-loop μ-loop
-same-length-3 c = search needs
-
-returns-3 : tie.Need-returns-3 Inv-loop μ-loop
-returns-3 c = onward-last _ _ _ _ _ _ (rw (file-refused _ _ _ _ (c .before .before .before .index-at .ensures) _ (c .before .answer2 .given .1)) at (c .before .before .before .before .loop .inv .1))
+returns c =
+    let k = c .before .before .before .before .before in
+    turn-stops _ _ _ _ _ _ _ _ _ _ (k .before .next-row .ensures) (k .before .before .before .loop .inv .1) _ _ (k .keep .ensures) _ (c .before .stop .given .1)
 
 pub index-rows-spec : {M : Type 1} → statement M
 index-rows-spec =
@@ -86,19 +69,12 @@ index-rows-spec =
     Inv-loop
     μ-loop
     loop-holds
-    index-at-requires
-    enum-known-answer
-    store-requires
-    enum-told
+    next-row-requires
+    keep-requires
+    enum-known-behind
     add-n
     loop-less
     loop-again
-    enum-known-stored
+    enum-known-stop
     same-length
-    returns
-    enum-told-2
-    same-length-2
-    returns-2
-    enum-known-answer-2
-    same-length-3
-    returns-3)
+    returns)

@@ -1,13 +1,13 @@
 -- `index::find_row` meets its contract: what the rows from r on say stays what all of them say.
 -- Assumes nothing.
-use Prim.Native.Nat.{_≤_, _<_, _-_, _+_}
+use Prim.Native.Nat.{_+_, _-_}
 use mathlib.Core.Path.{_≡_, sym, _∙_}
 use borrow.Author.Needs.{needs}
-use native.Mathlib.Omega.{arith}
 use native.Mathlib.Nat.{sub-zero}
-use Rattle.record.specs.Laws.{named-known}
+use Rattle.index.specs.declared.Compared.{Compared}
+use Rattle.index.specs.declared.Compared.the-variants as compared
 use Rattle.index.specs.Find.{rowFrom, rowNamed}
-use Rattle.index.specs.Laws.{from-end, from-refused, from-found, from-next}
+use Rattle.index.specs.Laws.{stepped, find-step, from-end}
 use Rattle.index.proofs.find_row.Statement.{statement}
 use Rattle.index.proofs.find_row.Tie as tie
 
@@ -21,23 +21,34 @@ loop-holds : tie.Need-loop-holds Inv-loop μ-loop
 unfolding rowNamed
 loop-holds c = rw (sub-zero (c .before .before .before .args .in-use))
 
-named-row-requires : tie.Need-named-row-requires Inv-loop μ-loop
-named-row-requires c κs = search needs
+row-requires : tie.Need-row-requires Inv-loop μ-loop
+row-requires c κs = search needs
 
-enum-known-held : tie.Need-enum-known-held Inv-loop μ-loop
-enum-known-held c = search needs
+compare-requires : tie.Need-compare-requires Inv-loop μ-loop
+compare-requires c κs = search needs
 
-is-named-requires : tie.Need-is-named-requires Inv-loop μ-loop
-is-named-requires c κs = omega (arith, named-known _ _ _ _ _ (sym (c .before .before .before .named-row .ensures) ∙ c .before .held .given .1))
+-- what all rows say, by how row r compares
+turn : (c : tie.After-compare Inv-loop μ-loop) (w : Compared) → c .compare .result ≡ w
+    → let l = c .before .before .before in let a = l .before .before .before .before .args in
+    stepped (l .loop .r) w (rowFrom (a .names .now) (a .table .now) (a .in-use) (a .name .now) (a .in-use - (l .loop .r + 1)) (l .loop .r + 1)) ≡ rowNamed (a .names .now) (a .table .now) (a .in-use) (a .name .now)
+turn c w e =
+    let l = c .before .before .before in
+    sym (find-step _ _ _ _ _ (c .before .before .loop-test .taken) _ w (rw (c .before .row .ensures) at (c .compare .ensures)) e) ∙ l .loop .inv
+
+enum-told : tie.Need-enum-told Inv-loop μ-loop
+enum-told c = search needs
 
 returns : tie.Need-returns Inv-loop μ-loop
-returns c = sym (from-found _ _ _ _ _ (c .before .before .before .before .before .before .loop-test .taken) _ (c .before .before .before .before .before .named-row .ensures) _ (c .before .before .before .held .given .1) (sym (c .before .is-named .ensures) ∙ c .if1 .taken)) ∙ c .before .before .before .before .before .before .before .loop .inv
+returns c = turn (c .before .before) compared.Same (c .enum-told .given .1)
 
-enum-known-held-2 : tie.Need-enum-known-held-2 Inv-loop μ-loop
-enum-known-held-2 c = search needs
+enum-known-f : tie.Need-enum-known-f Inv-loop μ-loop
+enum-known-f c = search needs
 
 returns-2 : tie.Need-returns-2 Inv-loop μ-loop
-returns-2 c = sym (from-refused _ _ _ _ _ (c .before .before .before .before .loop-test .taken) _ (c .before .before .before .named-row .ensures) _ (c .before .held2 .given .1)) ∙ c .before .before .before .before .before .loop .inv
+returns-2 c = turn (c .before .before .before) (compared.Refused _) (c .before .f .given .1)
+
+enum-told-2 : tie.Need-enum-told-2 Inv-loop μ-loop
+enum-told-2 c = search needs
 
 add-r : tie.Need-add-r Inv-loop μ-loop
 add-r c = search needs
@@ -46,7 +57,7 @@ loop-less : tie.Need-loop-less Inv-loop μ-loop
 loop-less c = search needs
 
 loop-again : tie.Need-loop-again Inv-loop μ-loop
-loop-again c = sym (from-next _ _ _ _ _ (c .before .before .before .before .before .before .loop-test .taken) _ (c .before .before .before .before .before .named-row .ensures) _ (c .before .before .before .held .given .1) (sym (c .before .is-named .ensures) ∙ c .if1 .left)) ∙ c .before .before .before .before .before .before .before .loop .inv
+loop-again c = turn (c .before .before) compared.Other (c .enum-told2 .given .1)
 
 returns-3 : tie.Need-returns-3 Inv-loop μ-loop
 returns-3 c = sym (from-end _ _ _ _ _ (c .loop-test .left)) ∙ c .before .loop .inv
@@ -58,12 +69,13 @@ find-row-spec =
     Inv-loop
     μ-loop
     loop-holds
-    named-row-requires
-    enum-known-held
-    is-named-requires
+    row-requires
+    compare-requires
+    enum-told
     returns
-    enum-known-held-2
+    enum-known-f
     returns-2
+    enum-told-2
     add-r
     loop-less
     loop-again

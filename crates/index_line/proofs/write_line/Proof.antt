@@ -1,4 +1,4 @@
--- `index_line::write_line` meets its contract: the row and its name are judged by `named_row`, and `write_text` writes its name and numbers.
+-- `index_line::write_line` meets its contract: the row and its name are judged by `named`, and `write_text` writes its name and numbers.
 -- Assumes nothing.
 use borrow.Author.Needs.{needs}
 use Prim.Native.Nat.{_+_, _-_, _≤_}
@@ -8,10 +8,10 @@ use native.Mathlib.Nat.{add-sub-cancel-left}
 use lib.ListN.{length, length-take, drop}
 use borrow.Author.Tests.{ltb-false}
 use Rattle.refusal.specs.Numbers.{overLimit}
-use Rattle.record.specs.declared.Held.the-variants.{Row}
-use Rattle.record.specs.Row.{namedAt}
-use Rattle.record.specs.Laws.{named-known}
-use Rattle.index_line.specs.IndexLine.{nameIn, writtenAs}
+use Rattle.table.specs.declared.Held.the-variants.{Row}
+use Rattle.table.specs.Rows.{namedOf}
+use Rattle.table.specs.RowLaws.{named-of}
+use Rattle.index_line.specs.IndexLine.{nameIn, lineWritten}
 use Rattle.index_line.proofs.write_line.Statement.{statement}
 use Rattle.index_line.proofs.write_line.Tie as tie
 
@@ -19,11 +19,11 @@ over-limit-requires : tie.Need-over-limit-requires
 over-limit-requires c κs = search needs
 
 returns : tie.Need-returns
-unfolding writtenAs
+unfolding lineWritten
 returns c = rw (sym (c .before .over-limit .ensures) ∙ c .if1 .taken)
 
-named-row-requires : tie.Need-named-row-requires
-named-row-requires c κs = search needs
+named-requires : tie.Need-named-requires
+named-requires c κs = search needs
 
 enum-known-r : tie.Need-enum-known-r
 enum-known-r c = search needs
@@ -32,19 +32,19 @@ enum-known-x : tie.Need-enum-known-x
 enum-known-x c = search needs
 
 -- the names are within the limit
-small : (c : tie.Else1) → length (c .before .before .before .before .before .args .names .now) ≤ 1099511627776
+small : (c : tie.Else1) → length (c .before .before .before .before .args .names .now) ≤ 1099511627776
 unfolding overLimit
 small c = ltb-false 1099511627776 _ (sym (c .before .over-limit .ensures) ∙ c .if1 .left)
 
 -- the row holds the record, whose name lies inside them
 held : (c : tie.After-x)
-    → (let a = c .before .before .before .before .before .before .before .before .args in
-    namedAt (a .table .now) (a .in-use) (a .row) (length (a .names .now)) ≡ Row (c .x .given .0 .0))
-held c = sym (c .before .before .named-row .ensures) ∙ c .x .given .1
+    → (let a = c .before .before .before .before .before .before .before .args in
+    namedOf (length (a .names .now)) (a .row) ≡ Row (c .x .given .0 .0))
+held c = sym (c .before .before .named .ensures) ∙ c .x .given .1
 
 inside : (c : tie.After-x)
-    → c .x .given .0 .0 .«name_start» + c .x .given .0 .0 .«name_length» ≤ length (c .before .before .before .before .before .before .before .before .args .names .now)
-inside c = named-known _ _ _ _ _ (held c) .1
+    → c .x .given .0 .0 .«name_start» + c .x .given .0 .0 .«name_length» ≤ length (c .before .before .before .before .before .before .before .args .names .now)
+inside c = named-of _ _ _ (held c) .1
 
 add-end : tie.Need-add-end
 add-end c = omega (arith, inside (c .before), small (c .before .before .before .before))
@@ -65,19 +65,19 @@ write-text-requires : tie.Need-write-text-requires
 write-text-requires c κs =
     let x = c .before .before .before .before .before in
     let v = x .x .given .0 .0 in
-    omega (arith, length-take (v .«name_start» + v .«name_length» - v .«name_start») (drop (v .«name_start») (x .before .before .before .before .before .before .before .before .args .names .now)), inside x, small (x .before .before .before))
+    omega (arith, length-take (v .«name_start» + v .«name_length» - v .«name_start») (drop (v .«name_start») (x .before .before .before .before .before .before .before .args .names .now)), inside x, small (x .before .before .before))
 
 returns-2 : tie.Need-returns-2
-unfolding writtenAs
+unfolding lineWritten
 returns-2 c =
     let n = c .before .before .before in
-    rw (sym (n .before .before .over-limit .ensures) ∙ n .before .if1 .left, sym (n .named-row .ensures) ∙ c .before .r .given .1)
+    rw (sym (n .before .before .over-limit .ensures) ∙ n .before .if1 .left, sym (n .named .ensures) ∙ c .before .r .given .1)
 
 same-length : tie.Need-same-length
 same-length c = search needs
 
 returns-3 : tie.Need-returns-3
-unfolding writtenAs nameIn
+unfolding lineWritten nameIn
 returns-3 c =
     let w = c .before .before in
     let x = w .before .before .before .before .before .before in
@@ -91,7 +91,7 @@ write-line-spec =
     (tie.spec
     over-limit-requires
     returns
-    named-row-requires
+    named-requires
     enum-known-r
     enum-known-x
     add-end

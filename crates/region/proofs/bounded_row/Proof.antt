@@ -1,4 +1,4 @@
--- `region::bounded_row` meets its contract: bad bounds are refused before the table is looked at.
+-- `region::bounded_row` meets its contract: bad bounds are refused before the row is judged.
 -- Assumes nothing.
 use mathlib.Core.Path.{sym, _∙_}
 use borrow.Author.Needs.{needs}
@@ -13,12 +13,12 @@ returns : tie.Need-returns
 unfolding boundedRow
 returns c = rw (sym (c .before .bad-bounds .ensures) ∙ c .if1 .taken)
 
-from-row-requires : tie.Need-from-row-requires
-from-row-requires c κs = search needs
+held-requires : tie.Need-held-requires
+held-requires c κs = search needs
 
 returns-2 : tie.Need-returns-2
 unfolding boundedRow
-returns-2 c = c .from-row .ensures ∙ rw (sym (c .before .before .bad-bounds .ensures) ∙ c .before .if1 .left)
+returns-2 c = c .held .ensures ∙ rw (sym (c .before .before .bad-bounds .ensures) ∙ c .before .if1 .left)
 
 pub bounded-row-spec : {M : Type 1} → statement M
-bounded-row-spec = tie.close (tie.spec bad-bounds-requires returns from-row-requires returns-2)
+bounded-row-spec = tie.close (tie.spec bad-bounds-requires returns held-requires returns-2)

@@ -14,7 +14,7 @@ over-limit-requires : tie.Need-over-limit-requires
 over-limit-requires c κs = search needs
 
 returns : tie.Need-returns
-returns c = raw-long _ _ _ _ _ _ _ (sym (c .before .over-limit .ensures) ∙ c .if1 .taken)
+returns c = raw-long _ _ _ _ _ (sym (c .before .over-limit .ensures) ∙ c .if1 .taken)
 
 bounded-row-requires : tie.Need-bounded-row-requires
 bounded-row-requires c κs = search needs
@@ -26,7 +26,7 @@ enum-known-held-2 : tie.Need-enum-known-held-2
 enum-known-held-2 c = search needs
 
 -- the file is within the limit
-short : (c : tie.After-bounded-row) → overLimit (length (c .before .before .before .before .before .before .args .file .now)) ≡ false
+short : (c : tie.After-bounded-row) → overLimit (length (c .before .before .before .before .before .args .file .now)) ≡ false
 short c = sym (c .before .before .over-limit .ensures) ∙ c .before .if1 .left
 
 scan-region-requires : tie.Need-scan-region-requires
@@ -34,7 +34,7 @@ scan-region-requires c κs =
     bounded-known _ _ _ _ (sym (c .before .before .before .before .bounded-row .ensures) ∙ c .before .before .held2 .given .1) .0
 
 returns-2 : tie.Need-returns-2
-returns-2 c = raw-refused _ _ _ _ _ _ _ (short (c .before .before .before)) _ (sym (c .before .before .before .bounded-row .ensures) ∙ c .before .held .given .1)
+returns-2 c = raw-refused _ _ _ _ _ (short (c .before .before .before)) _ (sym (c .before .before .before .bounded-row .ensures) ∙ c .before .held .given .1)
 
 same-length : tie.Need-same-length
 same-length c = search needs
@@ -42,7 +42,7 @@ same-length c = search needs
 returns-3 : tie.Need-returns-3
 returns-3 c =
     let k = c .before .before .before .before .before in
-    c .before .before .scan-region .ensures ∙ raw-row _ _ _ _ _ _ _ (short (k .before .before)) _ (sym (k .before .before .bounded-row .ensures) ∙ k .held2 .given .1)
+    c .before .before .scan-region .ensures ∙ raw-row _ _ _ _ _ (short (k .before .before)) _ (sym (k .before .before .bounded-row .ensures) ∙ k .held2 .given .1)
 
 pub read-raw-spec : {M : Type 1} → statement M
 read-raw-spec =

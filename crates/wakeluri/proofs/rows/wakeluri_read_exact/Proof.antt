@@ -1,6 +1,8 @@
 -- `wakeluri::rows::wakeluri_read_exact` meets its contract: what the call answers is told, and what it leaves is left; a bound is absent by its flag.
 -- Assumes nothing.
 use Rattle.wakeluri.specs.Laws.{written-told}
+use Rattle.table.specs.Rows.{heldAt}
+use Rattle.region.specs.Exact.{exactRead}
 use borrow.Author.Needs.{needs}
 use Rattle.wakeluri.proofs.rows.wakeluri_read_exact.Statement.{statement}
 use Rattle.wakeluri.proofs.rows.wakeluri_read_exact.Tie as tie
@@ -10,6 +12,9 @@ bound-requires c κs = search needs
 
 bound-requires-2 : tie.Need-bound-requires-2
 bound-requires-2 c κs = search needs
+
+used-row-requires : tie.Need-used-row-requires
+used-row-requires c κs = search needs
 
 read-exact-requires : tie.Need-read-exact-requires
 read-exact-requires c κs = search needs
@@ -21,10 +26,11 @@ same-length : tie.Need-same-length
 same-length c = search needs
 
 returns : tie.Need-returns
+unfolding exactRead heldAt
 returns c =
     let r = c .before .before .before in
     let b = r .before .before in
-    written-told _ _ _ _ (rw (b .before .bound .ensures, b .bound2 .ensures) at (r .read-exact .ensures)) (c .written-answer .ensures)
+    written-told _ _ _ _ (rw (b .before .before .bound .ensures, b .before .bound2 .ensures, b .used-row .ensures) at (r .read-exact .ensures)) (c .written-answer .ensures)
 
 pub wakeluri-read-exact-spec : {M : Type 1} → statement M
 wakeluri-read-exact-spec =
@@ -32,6 +38,7 @@ wakeluri-read-exact-spec =
     (tie.spec
     bound-requires
     bound-requires-2
+    used-row-requires
     read-exact-requires
     written-answer-requires
     same-length

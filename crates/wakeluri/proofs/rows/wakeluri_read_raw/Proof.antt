@@ -1,6 +1,8 @@
 -- `wakeluri::rows::wakeluri_read_raw` meets its contract: what the call answers is told, and what it leaves is left; a bound is absent by its flag.
 -- Assumes nothing.
 use Rattle.wakeluri.specs.Laws.{written-told}
+use Rattle.table.specs.Rows.{heldAt}
+use Rattle.region.specs.Raw.{rawRead}
 use borrow.Author.Needs.{needs}
 use Rattle.wakeluri.proofs.rows.wakeluri_read_raw.Statement.{statement}
 use Rattle.wakeluri.proofs.rows.wakeluri_read_raw.Tie as tie
@@ -10,6 +12,9 @@ bound-requires c κs = search needs
 
 bound-requires-2 : tie.Need-bound-requires-2
 bound-requires-2 c κs = search needs
+
+used-row-requires : tie.Need-used-row-requires
+used-row-requires c κs = search needs
 
 read-raw-requires : tie.Need-read-raw-requires
 read-raw-requires c κs = search needs
@@ -21,10 +26,11 @@ same-length : tie.Need-same-length
 same-length c = search needs
 
 returns : tie.Need-returns
+unfolding rawRead heldAt
 returns c =
     let r = c .before .before .before in
     let b = r .before .before in
-    written-told _ _ _ _ (rw (b .before .bound .ensures, b .bound2 .ensures) at (r .read-raw .ensures)) (c .written-answer .ensures)
+    written-told _ _ _ _ (rw (b .before .before .bound .ensures, b .before .bound2 .ensures, b .used-row .ensures) at (r .read-raw .ensures)) (c .written-answer .ensures)
 
 pub wakeluri-read-raw-spec : {M : Type 1} → statement M
 wakeluri-read-raw-spec =
@@ -32,6 +38,7 @@ wakeluri-read-raw-spec =
     (tie.spec
     bound-requires
     bound-requires-2
+    used-row-requires
     read-raw-requires
     written-answer-requires
     same-length

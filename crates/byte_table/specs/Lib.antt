@@ -1,9 +1,0 @@
-pub mod Numbers
-pub mod Rows
-pub mod Find
-pub mod Fill
-pub mod Laws
-pub mod RowLaws
-pub mod ReadLaws
-pub mod FindLaws
-pub mod FillLaws

@@ -1,0 +1,43 @@
+// A file indexed into a table that is lent as bytes: it answers and refuses as the call over the numbers of those bytes does.
+use crate::Rule;
+use refusal::Refusal;
+use table::Filled;
+use table::Kept;
+use table::Stop;
+ghost use Rattle.table.specs.Numbers.{numbersIn};
+ghost use Rattle.table.specs.Rows.{rowCount};
+ghost use Rattle.table.specs.Bytes.{FilledBytes};
+ghost use Rattle.table.specs.ByteLaws.{FilledRows, heldBy};
+ghost use Rattle.fitting.specs.Rules.{rowsBy, rowsIn};
+
+// A row for each record of the file, from the table's first row on.
+fn index_rows(s: &[u8], table: &mut [u8], rule: Rule) -> Filled
+    ensures { λ r. ⌜ FilledRows (heldBy (now (table .entry)) (rowsBy rule (now (s .entry)) 0)) (now (table .entry)) (now (table .exit)) r ⌝ }
+{
+    let mut at = 0;
+    let mut n = 0;
+    loop {
+        match table::bytes::keep(table, n, crate::next_row(s, at, rule)) {
+            Kept::On(behind) => {
+                n += 1;
+                at = behind;
+            }
+            Kept::Stop(stop) => {
+                return Filled { rows: n, stop };
+            }
+        }
+    }
+}
+
+// Indexes a whole file by a rule into a lent table, from its first row on.
+pub fn index_file(s: &[u8], table: &mut [u8], rule: Rule) -> Filled
+    ensures { λ r. ⌜ FilledBytes (rowsIn rule (now (s .entry)) (rowCount (numbersIn (now (table .entry))))) (now (table .entry)) (now (table .exit)) r ⌝ }
+{
+    if refusal::over_limit(s.len()) {
+        return Filled {
+            rows: 0,
+            stop: Stop::Refused(Refusal::TooLong),
+        };
+    }
+    index_rows(s, table, rule)
+}

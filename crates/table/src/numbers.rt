@@ -1,0 +1,93 @@
+// The numbers of a table that is lent as bytes: eight bytes to a number, low byte first.
+ghost use mathlib.Core.Path.{_≡_};
+ghost use Prim.Native.Nat.{_+_, _≤_};
+ghost use lib.ListN.{length, take, drop, getD, set};
+ghost use lib.Seq.{sets};
+ghost use Rattle.table.specs.Numbers.{fromBytes, toBytes, numbersIn};
+ghost use Rattle.table.specs.NumberLaws.{Became};
+
+fn wide(b: u8) -> u64
+    ensures { λ r. ⌜ r ≡ b ⌝ }
+{
+    b as u64
+}
+
+// The number of at most eight bytes.
+fn from_bytes(bytes: &[u8]) -> u64
+    requires { ⌜ length (now bytes) ≤ 8 ⌝ }
+    ensures { λ r. ⌜ r ≡ fromBytes (now (bytes .entry)) ⌝ }
+{
+    let mut n = 0;
+    let mut i = bytes.len();
+    while 0 < i {
+        i -= 1;
+        n = n * 256 + wide(bytes[i]);
+    }
+    n
+}
+
+// Writes the low bytes of a number, as many as there is room for.
+fn to_bytes(number: u64, bytes: &mut [u8])
+    ensures { λ _. ⌜ now (bytes .exit) ≡ toBytes (length (now (bytes .entry))) number ⌝ }
+{
+    let mut left = number;
+    let mut i = 0;
+    while i < bytes.len() {
+        bytes[i] = (left % 256) as u8;
+        left /= 256;
+        i += 1;
+    }
+}
+
+// How many numbers a table has.
+pub(crate) fn count(table: &[u8]) -> usize
+    ensures { λ r. ⌜ r ≡ length (numbersIn (now (table .entry))) ⌝ }
+{
+    table.len() / 8
+}
+
+// Number `k` of a table; 0 where it has none.
+fn number(table: &[u8], k: usize) -> u64
+    ensures { λ r. ⌜ r ≡ getD (numbersIn (now (table .entry))) k 0 ⌝ }
+{
+    if count(table) <= k {
+        return 0;
+    }
+    let at = k * 8;
+    from_bytes(&table[at..at + 8])
+}
+
+// Puts a number in the place of number `k` of a table, if it has one.
+fn put(table: &mut [u8], k: usize, number: u64)
+    ensures { λ _. ⌜ Became (now (table .entry)) (set (numbersIn (now (table .entry))) k number) (now (table .exit)) ⌝ }
+{
+    if count(table) <= k {
+        return;
+    }
+    let at = k * 8;
+    to_bytes(number, &mut table[at..at + 8]);
+}
+
+// Copies the numbers of a table from number `k` on, as many as there is room for.
+pub(crate) fn copy_numbers(table: &[u8], k: usize, room: &mut [u64])
+    requires { ⌜ k + length (now room) ≤ length (numbersIn (now table)) ⌝ }
+    ensures { λ _. ⌜ now (room .exit) ≡ take (length (now (room .entry))) (drop k (numbersIn (now (table .entry)))) ⌝ }
+{
+    let mut i = 0;
+    while i < room.len() {
+        room[i] = number(table, k + i);
+        i += 1;
+    }
+}
+
+// Puts some numbers in a table, from number `k` on.
+pub(crate) fn put_numbers(table: &mut [u8], k: usize, numbers: &[u64])
+    requires { ⌜ k + length (now numbers) ≤ length (numbersIn (now table)) ⌝ }
+    ensures { λ _. ⌜ Became (now (table .entry)) (sets (numbersIn (now (table .entry))) k (now (numbers .entry))) (now (table .exit)) ⌝ }
+{
+    let mut i = 0;
+    while i < numbers.len() {
+        put(table, k + i, numbers[i]);
+        i += 1;
+    }
+}
