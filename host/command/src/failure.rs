@@ -40,7 +40,15 @@ pub struct Refused {
     pub sheet: Option<(String, u64)>,
 }
 
+/// What to do next where the words make no sense.
+const EXAMPLES: &str = "`wakeluri --help` has examples";
+
 impl Failure {
+    /// What is wrong with the words of the command, as an object.
+    pub fn usage_object(words: &str, next: &str) -> String {
+        Object::new().number("status", 2).text("words", words).text("next", next).line()
+    }
+
     /// An input or output error of the system about a file.
     pub fn system(doing: &str, file: &str, error: &std::io::Error, next: &str) -> Self {
         if error.kind() == std::io::ErrorKind::BrokenPipe {
@@ -89,15 +97,11 @@ impl Failure {
             Self::Refused(refused) => {
                 format!("wakeluri: {}\n{}{}\n", refused.words, indented(&refused.next), refused.refusal.code())
             }
-            Self::Usage(words) | Self::InputOutput { words, .. } if json => {
-                let mut object = Object::new();
-                object.number("status", status).text("words", words);
-                if let Self::InputOutput { next, .. } = self {
-                    object.text("next", next);
-                }
-                object.line()
+            Self::Usage(words) if json => Self::usage_object(words, EXAMPLES),
+            Self::InputOutput { words, next } if json => {
+                Object::new().number("status", status).text("words", words).text("next", next).line()
             }
-            Self::Usage(words) => format!("wakeluri: {words}\n  `wakeluri --help` has examples\n"),
+            Self::Usage(words) => format!("wakeluri: {words}\n  {EXAMPLES}\n"),
             Self::InputOutput { words, next } => format!("wakeluri: {words}\n{}", indented(next)),
         }
     }

@@ -3,6 +3,7 @@
 use crate::failure::{Failure, Refused};
 use crate::input::Input;
 use crate::place::{self, Line, commas, count, quoted};
+use crate::warning::Warning;
 use wakeluri::{Record, Refusal, Table};
 
 /// A refusal about a line of a file, or about all of it.
@@ -73,11 +74,13 @@ fn has_cr_inside(file: &[u8], line: Line) -> bool {
 }
 
 /// What is likely wrong with a file though it is taken: it has one record, without bases, whose definition line holds CR.
-pub fn lines_of_cr(fasta: &Input, rows: &Table<'_>) -> Option<String> {
+pub fn lines_of_cr<'f>(fasta: &'f Input, rows: &Table<'_>) -> Option<Warning<'f>> {
     let record = rows.records().next().filter(|record| rows.len() == 1 && record.length == 0)?;
     let line = place::lines(fasta.bytes(), 0, 1).next()?;
-    has_cr_inside(fasta.bytes(), line)
-        .then(|| format!("{}: {} has no bases: {CR_ALONE}\n  {LF_ENDS}", fasta.shown, quoted(record.name)))
+    has_cr_inside(fasta.bytes(), line).then(|| {
+        let words = format!("{}: {} has no bases: {CR_ALONE}", fasta.shown, quoted(record.name));
+        Warning { next: LF_ENDS.to_string(), ..Warning::new(&fasta.shown, words) }
+    })
 }
 
 /// A line that is not like those before it.

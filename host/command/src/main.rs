@@ -16,6 +16,8 @@ mod progress;
 mod read;
 mod region;
 mod unusual;
+mod usage;
+mod warning;
 mod work;
 mod wrap;
 
@@ -34,6 +36,7 @@ use std::os::unix::ffi::OsStrExt;
 use std::path::{Path, PathBuf};
 use std::process::ExitCode;
 use unusual::Unusual;
+use warning::Warning;
 use work::Rule;
 use wrap::Wrapping;
 
@@ -57,7 +60,11 @@ fn main() -> ExitCode {
     unsafe {
         libc::signal(libc::SIGXFSZ, libc::SIG_IGN);
     }
-    let matches = arguments::command().get_matches();
+    let given: Vec<OsString> = std::env::args_os().collect();
+    let matches = match usage::understood(&given) {
+        Ok(matches) => matches,
+        Err(status) => return status,
+    };
     let how = match matches.get_one::<String>("input").map(String::as_str) {
         Some("map") => How::Map,
         Some("read") => How::Read,
@@ -154,6 +161,11 @@ fn wrap(words: &ArgMatches, common: Common) -> Result<(), Failure> {
         return Err(Failure::Usage("a line of no bases can't be written: --width is 1 at least".to_string()));
     }
     let output = path(words, "output").map_or(Ok(Output::Standard), Output::of)?;
+    if common.json && output.is_standard() {
+        return Err(Failure::Usage(
+            "the new file itself is written to standard output: --json needs --output OUT".to_string(),
+        ));
+    }
     let index = match output.path() {
         _ if !words.get_flag("index") => None,
         Some(place) => Some(Output::of(&index_of(place))?),
@@ -246,12 +258,9 @@ fn answer(
     let rows = match &index {
         None => work::index(fasta, rule(words))?,
         Some(index) if words.get_flag("unchecked") => {
-            let _ = writeln!(
-                std::io::stderr(),
-                "wakeluri: warning: {} was not checked with {}: if it is wrong, so are the bases",
-                index.shown,
-                fasta.shown
-            );
+            let words = "was not checked with";
+            let words = format!("{} {words} {}: if it is wrong, so are the bases", index.shown, fasta.shown);
+            Warning::new(&index.shown, words).say();
             work::read_index(index)?
         }
         Some(index) => {
@@ -362,6 +371,9 @@ fn complement(words: &ArgMatches, turn: Turn, common: Common) -> Result<(), Fail
 }
 
 fn completions(words: &ArgMatches) -> Result<(), Failure> {
+    if warning::in_json() {
+        return Err(Failure::Usage("completions are a script for a shell: leave out --json".to_string()));
+    }
     let mut text = vec![];
     if let Some(shell) = words.get_one::<clap_complete::Shell>("shell") {
         clap_complete::generate(*shell, &mut arguments::command(), "wakeluri", &mut text);

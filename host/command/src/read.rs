@@ -8,7 +8,7 @@ use crate::nearest::nearest;
 use crate::output::{Answers, failed};
 use crate::place::{commas, count, quoted};
 use crate::region::{Meaning, Number, Reading, Written, is_before_a_colon, meaning, plain_form, readings};
-use std::io::Write;
+use crate::warning::Warning;
 use std::ops::Range;
 use wakeluri::{Bounds, Call, Names, Refusal, Row, Table, Writer};
 
@@ -298,14 +298,14 @@ impl Source<'_> {
             if told < TWINS {
                 let (name, first, second) = (quoted(name), commas(number(row)), commas(number(twin)));
                 let told = format!("records {first} and {second} of {file} are both named {name}: the first is read");
-                let _ = writeln!(std::io::stderr(), "wakeluri: warning: {told}");
+                Warning::new(file, told).say();
             } else {
                 more += 1;
             }
         }
         if more > 0 {
             let told = format!("so it is with {} of {file}", count(more, "more name"));
-            let _ = writeln!(std::io::stderr(), "wakeluri: warning: {told}");
+            Warning::new(file, told).say();
         }
     }
 

@@ -4,7 +4,6 @@ use crate::failure::Failure;
 use crate::faults;
 use crate::input::Input;
 use crate::progress::Progress;
-use std::io::Write;
 use wakeluri::Table;
 
 /// By which rule a file is indexed.
@@ -28,7 +27,7 @@ pub fn index(fasta: &Input, rule: Rule) -> Result<Table<'_>, Failure> {
     match refusal {
         None => {
             if let Some(warning) = faults::lines_of_cr(fasta, &rows) {
-                let _ = writeln!(std::io::stderr(), "wakeluri: warning: {warning}");
+                warning.say();
             }
             Ok(rows)
         }
