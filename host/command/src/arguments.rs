@@ -120,6 +120,7 @@ fn reading(command: Command) -> Command {
                 .value_parser(value_parser!(PathBuf))
                 .value_hint(ValueHint::FilePath),
         )
+        .arg(flag("bed").help("the sheet is BED: name, start from 0, end that is not included"))
         .arg(index_file().long("index").short('i'))
         .arg(flag("unchecked").help("use the index as it is, without checking it with the file"))
         .arg(strict())

@@ -10,6 +10,10 @@ pub enum Failure {
     Refused(Box<Refused>),
     /// The words of the command make no sense together. Status 2.
     Usage(String),
+    /// A region whose bounds can't be read, or a line of a sheet that is no region. Status 2.
+    Unreadable(Box<Unreadable>),
+    /// All that is wrong with the regions that were asked for; never none. The worst status of them.
+    Several(Vec<Failure>),
     /// A file, a pipe or the disk. Status 3.
     InputOutput {
         /// What happened, with the file's name.
@@ -40,6 +44,21 @@ pub struct Refused {
     pub sheet: Option<(String, u64)>,
 }
 
+/// A region in words that make no sense.
+#[derive(Debug)]
+pub struct Unreadable {
+    /// What was asked for, and why it can't be read.
+    pub words: String,
+    /// What to write.
+    pub next: String,
+    /// The file, if it was looked at.
+    pub file: Option<String>,
+    /// The region.
+    pub region: Vec<u8>,
+    /// The sheet that it stands in, and its line.
+    pub sheet: Option<(String, u64)>,
+}
+
 /// What to do next where the words make no sense.
 const EXAMPLES: &str = "`wakeluri --help` has examples";
 
@@ -64,7 +83,8 @@ impl Failure {
     pub fn status(&self) -> u8 {
         match self {
             Self::Refused(_) => 1,
-            Self::Usage(_) => 2,
+            Self::Usage(_) | Self::Unreadable(_) => 2,
+            Self::Several(all) => all.iter().map(Self::status).max().unwrap_or(3),
             Self::InputOutput { .. } | Self::Gone => 3,
         }
     }
@@ -74,6 +94,21 @@ impl Failure {
         let status = u64::from(self.status());
         match self {
             Self::Gone => String::new(),
+            Self::Several(all) => all.iter().map(|failure| failure.told(json)).collect(),
+            Self::Unreadable(unreadable) if json => {
+                let Unreadable { words, next, file, region, sheet } = &**unreadable;
+                let mut object = Object::new();
+                object.number("status", status);
+                if let Some(file) = file {
+                    object.text("file", file);
+                }
+                object.bytes("region", region);
+                if let Some((sheet, line)) = sheet {
+                    object.text("sheet", sheet).number("sheet_line", *line);
+                }
+                object.text("words", words).text("next", next).line()
+            }
+            Self::Unreadable(unreadable) => format!("wakeluri: {}\n{}", unreadable.words, indented(&unreadable.next)),
             Self::Refused(refused) if json => {
                 let Refused { words, next, refusal, file, place, region, sheet } = &**refused;
                 let mut object = Object::new();

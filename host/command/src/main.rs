@@ -15,6 +15,7 @@ mod place;
 mod progress;
 mod read;
 mod region;
+mod sheet;
 mod unusual;
 mod usage;
 mod warning;
@@ -29,7 +30,8 @@ use json::Object;
 use narrow::Narrow;
 use output::{Answers, Output};
 use place::count;
-use read::{Asked, Form, Source, Turn};
+use read::{AllAsked, Asked, Form, Source, Turn};
+use sheet::Sheet;
 use std::ffi::OsString;
 use std::io::Write;
 use std::os::unix::ffi::OsStrExt;
@@ -244,7 +246,7 @@ fn answer(
     words: &ArgMatches,
     file: &Path,
     fasta: &Input,
-    asked: Vec<Asked<'_>>,
+    asked: AllAsked<'_>,
     turn: Turn,
     common: Common,
 ) -> Result<(), Failure> {
@@ -272,18 +274,18 @@ fn answer(
             work::read_index(index)?
         }
     };
-    let asked: Vec<Asked<'_>> = if asked.is_empty() {
-        let whole = |(row, text)| Asked { text, sheet: None, row: Some(row) };
+    let asked: AllAsked<'_> = if asked.is_empty() {
+        let whole = |(row, text)| Ok(Asked { row: Some(row), ..Asked::of(text) });
         rows.rows().zip(rows.records().map(|record| record.name)).map(whole).collect()
     } else {
         asked
     };
     let source = Source { fasta, rows: &rows, numbers: None };
-    source.give(&source.regions(&asked)?, form)
+    source.give(&source.regions(asked)?, form)
 }
 
 /// The sheet of regions, if there is one.
-fn open_sheet(words: &ArgMatches, file: &Path, common: Common) -> Result<Option<Input>, Failure> {
+fn open_sheet(words: &ArgMatches, file: &Path, common: Common) -> Result<Option<Sheet>, Failure> {
     let (sheet, index) = (path(words, "regions"), path(words, "index"));
     for (one, two, what) in [
         (Some(file), sheet, "the file and the sheet"),
@@ -294,25 +296,24 @@ fn open_sheet(words: &ArgMatches, file: &Path, common: Common) -> Result<Option<
             return Err(Failure::Usage(format!("{what} can't both come from standard input")));
         }
     }
-    sheet.map(|sheet| common.open(sheet, How::Read)).transpose()
+    if sheet.is_none() && words.get_flag("bed") {
+        return Err(Failure::Usage("--bed is said of a sheet: name it with --regions SHEET".to_string()));
+    }
+    let open = |sheet| {
+        let input = common.open(sheet, How::Read)?;
+        Sheet::new(&input.shown, input.bytes(), words.get_flag("bed"))
+    };
+    sheet.map(open).transpose()
 }
 
 /// The regions that are asked for, one by one and in a sheet.
-fn asked<'a>(words: &'a ArgMatches, sheet: Option<&'a Input>) -> Result<Vec<Asked<'a>>, Failure> {
+fn asked<'a>(words: &'a ArgMatches, sheet: Option<&'a Sheet>) -> Result<AllAsked<'a>, Failure> {
     let regions = words.get_many::<OsString>("region").unwrap_or_default();
-    let mut asked: Vec<Asked<'_>> =
-        regions.map(|region| Asked { text: region.as_bytes(), sheet: None, row: None }).collect();
+    let mut asked: AllAsked<'_> = regions.map(|region| Ok(Asked::of(region.as_bytes()))).collect();
     if let Some(sheet) = sheet {
-        // three bytes that some editors put before a text are no part of its first region
-        let text = sheet.bytes().strip_prefix(b"\xef\xbb\xbf").unwrap_or(sheet.bytes());
-        for (line, number) in text.split(|byte| *byte == b'\n').zip(1..) {
-            let text = line.trim_ascii();
-            if !text.is_empty() {
-                asked.push(Asked { text, sheet: Some((&sheet.shown, number)), row: None });
-            }
-        }
+        asked.extend(sheet.asked());
         if asked.is_empty() {
-            return Err(Failure::Usage(format!("{}: there is no region in it", sheet.shown)));
+            return Err(Failure::Usage(format!("{}: there is no region in it", sheet.shown())));
         }
     }
     Ok(asked)

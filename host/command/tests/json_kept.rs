@@ -91,6 +91,8 @@ fn fault_6_of_words() {
         &["check", "-"],
         &["check", "-", "-"],
         &["read", "f.fa", "--regions", "empty.txt"],
+        &["read", "f.fa", "s:1..5"],
+        &["read", "f.fa", "s", "--bed"],
         &["index", "-"],
         &["index", "f.fa", "-o", "-"],
         &["wrap", "f.fa"],
@@ -186,6 +188,9 @@ fn fault_6_of_refusals_and_errors() {
     ] {
         run(words, 1);
     }
+    folder.write("bad.txt", "s:1\ns:1..5\nnobody\ns 1 2\n");
+    run(&["read", "f.fa", "-r", "bad.txt"], 2);
+    run(&["read", "f.fa", "-r", "bad.txt", "--bed"], 2);
     run(&["wrap", "f.fa", "-o", "new.fa"], 1);
     if std::fs::File::create(folder.at("huge.fa")).unwrap().set_len((1 << 40) + 1).is_ok() {
         run(&["index", "huge.fa"], 1);

@@ -349,8 +349,6 @@ fn of_read() {
         ("Chr1", "refused 15", "the nearest names are: chr1, chr2"),
         ("1:5-6", "refused 15", "no record is named '1'\n  the nearest name is: chr1"),
         ("elsewhere", "refused 15", "it has 4 records: chr1, chr2, HLA:A, HLA"),
-        ("chr1:five", "refused 15", "there is a record chr1, and what follows is no region of it: 'five' is no number"),
-        ("chr1:1,0-20", "refused 15", "the commas of '1,0' don't part its digits in threes"),
         ("", "refused 15", "no record is named ''"),
         ("{HLA}:2", "refused 17 (length 1)", "HLA has 1 base: base 2 is past"),
     ] {
