@@ -57,7 +57,7 @@ Examples:
   wakeluri wrap ref.fa --width 60 -o new.fa --index  and new.fa.fai beside it
   wakeluri wrap ref.fa > new.fa                      to standard output
 
-Names and descriptions are kept; blank lines go. The new file reads back as the same records.
+Names and descriptions are kept; blank lines go. With --repair a line such as '> name' becomes '>name'. The new file reads back as the same records.
 A file is written beside its place and put there in one step: a stop in the middle leaves the old one whole. It never takes the
 place of the file that is read, nor of a file that is not FASTA.";
 
@@ -214,7 +214,8 @@ pub fn command() -> Command {
                         .value_parser(value_parser!(PathBuf))
                         .value_hint(ValueHint::FilePath),
                 )
-                .arg(flag("index").help("write the index of the new file too, to OUT.fai")),
+                .arg(flag("index").help("write the index of the new file too, to OUT.fai"))
+                .arg(flag("repair").help("take blanks out between '>' and a name")),
         )
         .subcommand(turning(
             Command::new("complement").about("The complement, of reads or of bases").after_help(COMPLEMENT_EXAMPLES),

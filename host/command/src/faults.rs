@@ -1,5 +1,6 @@
 //! What is wrong with a file or an index, in words, with its line and byte. The proved code has refused by then.
 
+use crate::advice;
 use crate::failure::{Failure, Refused};
 use crate::input::Input;
 use crate::place::{self, Line, commas, count, quoted};
@@ -23,7 +24,10 @@ pub fn not_indexed(fasta: &Input, rows: &Table<'_>, refusal: Refusal) -> Failure
     let definition = if refusal.number == 1 { None } else { place::refused_definition(file, rows) };
     let mut at = definition;
     let (what, next) = match (refusal.number, definition) {
-        (2..=4, Some(line)) => bad_definition(file, line, refusal.number),
+        (2..=4, Some(line)) => {
+            let (what, next) = bad_definition(file, line, refusal.number);
+            (what, advice::or_anew(&next, fasta))
+        }
         (5, Some(definition)) => {
             let name = name_of(file, definition);
             at = place::sequence(file, definition).next().or(definition.into());
@@ -33,25 +37,27 @@ pub fn not_indexed(fasta: &Input, rows: &Table<'_>, refusal: Refusal) -> Failure
                 }
                 Some(_) => (
                     format!("the first line of {name} is blank, and the bases begin after it"),
-                    "take the blank line out, or leave out --strict".to_string(),
+                    advice::or_not_strict("take the blank line out", fasta),
                 ),
                 None => (
                     format!("{name} has no bases"),
-                    "take the record out, put its bases in, or leave out --strict".to_string(),
+                    advice::or_not_strict("take the record out, put its bases in", fasta),
                 ),
             }
         }
         (6 | 7, Some(definition)) => {
             let name = name_of(file, definition);
             at = place::uneven(file, definition).or(definition.into());
-            uneven(&name, refusal)
+            let (what, next) = uneven(&name, refusal);
+            (what, advice::or_not_strict(next, fasta))
         }
         (42, Some(definition)) => {
             let record = format!("{} (record {})", name_of(file, definition), commas(rows.len() as u64 + 1));
             let (line, what) =
                 no_index_fits(file, definition, &record, refusal).unwrap_or((definition, refusal.words()));
             at = Some(line);
-            (what, "no index can fit this file: wrap its bases anew, all lines of a record alike".to_string())
+            let next = "no index can fit this file: wrap its bases anew, all lines of a record alike";
+            (what, advice::or_anew(next, fasta))
         }
         (1, _) => (
             format!(
@@ -84,20 +90,17 @@ pub fn lines_of_cr<'f>(fasta: &'f Input, rows: &Table<'_>) -> Option<Warning<'f>
 }
 
 /// A line that is not like those before it.
-fn uneven(name: &str, refusal: Refusal) -> (String, String) {
+fn uneven(name: &str, refusal: Refusal) -> (String, &'static str) {
     let (found, expected) = (refusal.first, refusal.second);
     match (refusal.number, found) {
-        (6, 0) => (
-            format!("this line of {name} is blank, and more of the record follows"),
-            "take the blank line out, or leave out --strict".to_string(),
-        ),
+        (6, 0) => (format!("this line of {name} is blank, and more of the record follows"), "take the blank line out"),
         (6, _) => (
             format!(
                 "this line of {name} has {}, and the lines before it have {}; only the last may have fewer, and none more",
                 count(found, "base"),
                 commas(expected)
             ),
-            "wrap the bases of the file anew, all lines alike, or leave out --strict".to_string(),
+            "wrap the bases of the file anew, all lines alike",
         ),
         _ => (
             format!(
@@ -105,7 +108,7 @@ fn uneven(name: &str, refusal: Refusal) -> (String, String) {
                 count(found, "byte"),
                 commas(expected)
             ),
-            "give all lines the same ends, LF alone or CR and LF, or leave out --strict".to_string(),
+            "give all lines the same ends, LF alone or CR and LF",
         ),
     }
 }
@@ -153,7 +156,10 @@ pub fn not_wrapped(fasta: &Input, line: Line, refusal: Refusal) -> Failure {
     let file = fasta.bytes();
     let text = place::text(file, line);
     let (what, next) = match (refusal.number, text.iter().position(|byte| matches!(byte, b'>' | b'\r'))) {
-        (2..=4, _) => bad_definition(file, line, refusal.number),
+        (2..=4, _) => {
+            let (what, next) = bad_definition(file, line, refusal.number);
+            (what, advice::or_anew(&next, fasta))
+        }
         (30, Some(place)) => (
             format!(
                 "base {} of the line is a '>' or a carriage return, which would not read back from lines of another width",
@@ -284,7 +290,7 @@ pub fn not_accepted(fasta: &Input, index: &Input, refusal: Refusal) -> Failure {
     let pair = Pair::of(fasta, index, refusal.first);
     if let (2..=4, Some(line)) = (refusal.number, pair.definition) {
         let (what, next) = bad_definition(fasta.bytes(), line, refusal.number);
-        return refused(fasta, Some(line), &what, next, refusal);
+        return refused(fasta, Some(line), &what, advice::or_anew(&next, fasta), refusal);
     }
     let (line, what) = match refusal.number {
         19 => {
@@ -302,11 +308,11 @@ pub fn not_accepted(fasta: &Input, index: &Input, refusal: Refusal) -> Failure {
         23 => (pair.line, pair.other_place(refusal.second)),
         _ => (pair.line, refusal.words()),
     };
-    refused(index, line, &what, format!("make the index again: `wakeluri index {}`", fasta.given()), refusal)
+    refused(index, line, &what, advice::new_index(fasta), refusal)
 }
 
 /// A refusal of an index text, in words.
-pub fn not_read(index: &Input, refusal: Refusal) -> Failure {
+pub fn not_read(fasta: &Input, index: &Input, refusal: Refusal) -> Failure {
     let line = nth_line(index, refusal.first).filter(|_| refusal.number != 1);
-    refused(index, line, &refusal.words(), "make the index again with `wakeluri index`".to_string(), refusal)
+    refused(index, line, &refusal.words(), advice::new_index(fasta), refusal)
 }

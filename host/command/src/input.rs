@@ -4,6 +4,7 @@
 //! read plainly. Both end clearly if the file changes meanwhile: a mapped file that gets shorter raises a signal, which is caught,
 //! and before anything is answered the file's size and times are held against those it was opened with.
 
+use crate::advice::word;
 use crate::apart::{Outputs, descriptor, opened};
 use crate::failure::Failure;
 use crate::progress::Progress;
@@ -136,8 +137,8 @@ impl Input {
     }
 
     /// The file as a word of a command.
-    pub fn given(&self) -> &str {
-        if self.standard { "-" } else { &self.shown }
+    pub fn given(&self) -> String {
+        if self.standard { "-".to_string() } else { word(&self.shown) }
     }
 
     /// Fails if it is one of some outputs by now.

@@ -1,6 +1,7 @@
 //! `wakeluri`: index, check and read FASTA files. Every answer comes from the proved library; what is here opens files, reads
 //! regions as people write them, and says in words what was refused and where.
 
+mod advice;
 mod apart;
 mod arguments;
 mod failure;
@@ -180,17 +181,23 @@ fn wrap(words: &ArgMatches, common: Common) -> Result<(), Failure> {
     let fasta = Input::open(file, common.how, common.json, &outputs())?;
     output.free_for_fasta()?;
     index.as_ref().map_or(Ok(()), Output::free)?;
-    let wrap::Size { records, bases } = Wrapping { fasta: &fasta, width }.write(&output, index.as_ref())?;
+    let repair = words.get_flag("repair");
+    let size = Wrapping { fasta: &fasta, width, repair }.write(&output, index.as_ref())?;
+    let wrap::Size { records, bases, mended } = size;
     let Some(place) = output.path() else { return Ok(()) };
     let shown = place.display().to_string();
     if common.json {
         let mut object = Object::new();
         object.text("file", &fasta.shown).text("output", &shown).number("width", width);
         object.number("records", records).number("bases", bases);
+        if repair {
+            object.number("records_mended", mended);
+        }
         return write(object.line().as_bytes());
     }
     let (records, bases) = (count(records, "record"), count(bases, "base"));
-    write(format!("{shown}: {records}, {bases}, in lines of {}\n", place::commas(width)).as_bytes())
+    let mended = if mended > 0 { format!(" ({} mended)", place::commas(mended)) } else { String::new() };
+    write(format!("{shown}: {records}{mended}, {bases}, in lines of {}\n", place::commas(width)).as_bytes())
 }
 
 fn check(words: &ArgMatches, common: Common) -> Result<(), Failure> {
@@ -210,7 +217,7 @@ fn check(words: &ArgMatches, common: Common) -> Result<(), Failure> {
     let index = open_index(&index, file, common)?;
     work::check(&fasta, &index)?;
     fasta.unchanged()?;
-    let rows = work::read_index(&index)?;
+    let rows = work::read_index(&fasta, &index)?;
     let (records, bases) = (rows.len() as u64, rows.records().map(|record| record.length).sum());
     if common.json {
         let mut object = Object::new();
@@ -226,7 +233,7 @@ fn check(words: &ArgMatches, common: Common) -> Result<(), Failure> {
 fn open_index(index: &Path, file: &Path, common: Common) -> Result<Input, Failure> {
     match common.open(index, How::Read) {
         Err(Failure::InputOutput { words, .. }) if !is_standard(index) && !index.exists() => {
-            let next = format!("make the index with `wakeluri index {}`", file.display());
+            let next = format!("make the index with `wakeluri index {}`", advice::word(&input::shown(file)));
             Err(Failure::InputOutput { words, next })
         }
         opened => opened,
@@ -263,7 +270,7 @@ fn answer(
             let words = "was not checked with";
             let words = format!("{} {words} {}: if it is wrong, so are the bases", index.shown, fasta.shown);
             Warning::new(&index.shown, words).say();
-            work::read_index(index)?
+            work::read_index(fasta, index)?
         }
         Some(index) => {
             work::check(fasta, index)?;
@@ -271,7 +278,7 @@ fn answer(
             if let Some(answered) = narrow.and_then(|narrow| narrow.answer(fasta, &asked, form)) {
                 return answered;
             }
-            work::read_index(index)?
+            work::read_index(fasta, index)?
         }
     };
     let asked: AllAsked<'_> = if asked.is_empty() {

@@ -1,5 +1,6 @@
 //! Regions of a file, as they are, complemented or reversed and complemented.
 
+use crate::advice;
 use crate::failure::{Failure, Refused, Unreadable};
 use crate::input::Input;
 use crate::json::Object;
@@ -314,7 +315,7 @@ impl Source<'_> {
             }
             18 => (
                 format!("by the index base {} would lie where the file has no byte", commas(refusal.first)),
-                "the index is not right for this file: make it again with `wakeluri index`".to_string(),
+                format!("the index is not right for this file\n{}", advice::new_index(self.fasta)),
             ),
             14 => (
                 format!("{} of memory are needed for it, and not to be had", count(refusal.first, "byte")),

@@ -45,6 +45,6 @@ pub fn check(fasta: &Input, index: &Input) -> Result<(), Failure> {
 }
 
 /// An index text that is used unchecked, or why it can't be read.
-pub fn read_index(index: &Input) -> Result<Table<'_>, Failure> {
-    wakeluri::read_index(index.bytes()).map_err(|refusal| faults::not_read(index, refusal))
+pub fn read_index<'i>(fasta: &Input, index: &'i Input) -> Result<Table<'i>, Failure> {
+    wakeluri::read_index(index.bytes()).map_err(|refusal| faults::not_read(fasta, index, refusal))
 }
