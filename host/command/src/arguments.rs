@@ -98,7 +98,7 @@ fn flag(name: &'static str) -> Arg {
 }
 
 fn strict() -> Arg {
-    flag("strict").help("take a file only if the lines of each record are alike but the last, as noodles-fasta does")
+    flag("strict").help("take a file only if the lines of each record are alike but the last, as noodles-fasta does, and hold letters alone")
 }
 
 fn regions() -> Arg {
@@ -182,7 +182,8 @@ pub fn command() -> Command {
                 .about("Accept an index of any program, exactly if it leads to every base of the file")
                 .after_help(CHECK_EXAMPLES)
                 .arg(file().required(true))
-                .arg(index_file()),
+                .arg(index_file())
+                .arg(flag("strict").help("refuse bytes among the bases that are no letters")),
         )
         .subcommand(reading(
             Command::new("read")

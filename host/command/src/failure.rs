@@ -12,6 +12,8 @@ pub enum Failure {
     Usage(String),
     /// A region whose bounds can't be read, or a line of a sheet that is no region. Status 2.
     Unreadable(Box<Unreadable>),
+    /// With `--strict`: bytes that are no letters. Status 1.
+    NotLetters(Box<NotLetters>),
     /// All that is wrong with the regions that were asked for; never none. The worst status of them.
     Several(Vec<Failure>),
     /// A file, a pipe or the disk. Status 3.
@@ -42,6 +44,19 @@ pub struct Refused {
     pub region: Option<String>,
     /// The sheet that it stands in, and its line.
     pub sheet: Option<(String, u64)>,
+}
+
+/// Bytes among the bases that are no letters.
+#[derive(Debug)]
+pub struct NotLetters {
+    /// Which, and where.
+    pub words: String,
+    /// What to do next.
+    pub next: String,
+    /// The file.
+    pub file: String,
+    /// The line of the first and the place in it, from 1.
+    pub place: (u64, u64),
 }
 
 /// A region in words that make no sense.
@@ -82,7 +97,7 @@ impl Failure {
     /// The status that the command ends with.
     pub fn status(&self) -> u8 {
         match self {
-            Self::Refused(_) => 1,
+            Self::Refused(_) | Self::NotLetters(_) => 1,
             Self::Usage(_) | Self::Unreadable(_) => 2,
             Self::Several(all) => all.iter().map(Self::status).max().unwrap_or(3),
             Self::InputOutput { .. } | Self::Gone => 3,
@@ -94,6 +109,16 @@ impl Failure {
         let status = u64::from(self.status());
         match self {
             Self::Gone => String::new(),
+            Self::NotLetters(found) => {
+                let NotLetters { words, next, file, place: (line, column) } = &**found;
+                let code = format!("refused by --strict (line {line}, column {column})");
+                if !json {
+                    return format!("wakeluri: {words}\n{}{code}\n", indented(next));
+                }
+                let mut object = Object::new();
+                object.number("status", status).text("file", file).number("line", *line).number("column", *column);
+                object.text("words", words).text("next", next).text("code", &code).line()
+            }
             Self::Several(all) => all.iter().map(|failure| failure.told(json)).collect(),
             Self::Unreadable(unreadable) if json => {
                 let Unreadable { words, next, file, region, sheet } = &**unreadable;

@@ -8,6 +8,7 @@ mod failure;
 mod faults;
 mod input;
 mod json;
+mod letters;
 mod names;
 mod narrow;
 mod nearest;
@@ -28,6 +29,7 @@ use clap::ArgMatches;
 use failure::{Failure, Refused};
 use input::{How, Input, is_placeless, is_standard};
 use json::Object;
+use letters::Odd;
 use narrow::Narrow;
 use output::{Answers, Output};
 use place::count;
@@ -137,6 +139,7 @@ fn index(words: &ArgMatches, common: Common) -> Result<(), Failure> {
             sheet: None,
         }))
     })?;
+    Odd::of_file(fasta.bytes()).tell(&fasta, words.get_flag("strict"))?;
     let unusual = Unusual::of(fasta.bytes(), &rows);
     fasta.unchanged()?;
     // by now the name may lead elsewhere
@@ -216,6 +219,7 @@ fn check(words: &ArgMatches, common: Common) -> Result<(), Failure> {
     let fasta = common.open(file, common.how)?;
     let index = open_index(&index, file, common)?;
     work::check(&fasta, &index)?;
+    Odd::of_file(fasta.bytes()).tell(&fasta, words.get_flag("strict"))?;
     fasta.unchanged()?;
     let rows = work::read_index(&fasta, &index)?;
     let (records, bases) = (rows.len() as u64, rows.records().map(|record| record.length).sum());
@@ -263,7 +267,7 @@ fn answer(
         None => Some(open_index(&index_of(file), file, common)?),
     };
     let width = words.get_one::<usize>("width").copied().unwrap_or(60);
-    let form = Form { turn, width, json: common.json };
+    let form = Form { turn, width, json: common.json, strict: words.get_flag("strict") };
     let rows = match &index {
         None => work::index(fasta, rule(words))?,
         Some(index) if words.get_flag("unchecked") => {

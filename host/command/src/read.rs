@@ -4,6 +4,7 @@ use crate::advice;
 use crate::failure::{Failure, Refused, Unreadable};
 use crate::input::Input;
 use crate::json::Object;
+use crate::letters::Odd;
 use crate::names::wanted_names;
 use crate::nearest::nearest;
 use crate::output::{Answers, failed};
@@ -147,6 +148,8 @@ pub struct Form {
     pub width: usize,
     /// As JSON.
     pub json: bool,
+    /// Bytes that are no letters are refused.
+    pub strict: bool,
 }
 
 impl Source<'_> {
@@ -408,13 +411,19 @@ impl Source<'_> {
 
     /// Reads all regions, and only then writes them.
     pub fn give(self, regions: &[Region<'_>], form: Form) -> Result<(), Failure> {
-        let (mut kept, mut faults) = (vec![], vec![]);
+        let (mut kept, mut faults, mut odd) = (vec![], vec![], Odd::default());
         let mut places: Vec<Option<Range<usize>>> = Vec::with_capacity(regions.len());
         for region in regions {
             let start = kept.len();
             let keep = region.bases() <= KEPT - start as u64;
+            let mut from = region.start;
             let read = self.pieces(*region, form.turn).try_for_each(|piece| {
                 let piece = piece?;
+                // what is turned has letters alone
+                if form.turn == Turn::AsIs {
+                    odd.of_bases(&piece, self.rows.record(region.row), from);
+                    from += piece.len() as u64;
+                }
                 if !form.json {
                     self.writable(*region, &piece)?;
                 }
@@ -428,6 +437,7 @@ impl Source<'_> {
         }
         all_of(faults)?;
         self.fasta.unchanged()?;
+        odd.tell(self.fasta, form.strict)?;
 
         let mut answers = Answers::new();
         for (region, place) in regions.iter().zip(&places) {
