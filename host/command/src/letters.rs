@@ -22,6 +22,22 @@ fn odd() -> &'static [u8; 256] {
     })
 }
 
+/// So many bytes are looked at together.
+const CHUNK: usize = 64;
+
+/// Whether some bytes are the most common letters and ends of lines, and nothing else; one more is looked at, which may follow a CR.
+/// It is written so that the machine does many bytes at once.
+fn is_plain(bytes: &[u8; CHUNK + 1]) -> bool {
+    let mut all = true;
+    for place in 0..CHUNK {
+        let (byte, next) = (bytes[place], bytes[place + 1]);
+        let small = byte | 0x20;
+        let letter = (small == b'a') | (small == b'c') | (small == b'g') | (small == b't') | (small == b'n');
+        all &= letter | (byte == b'\n') | ((byte == b'\r') & (next == b'\n'));
+    }
+    all
+}
+
 /// How many bytes are no letters, and where the first lies.
 #[derive(Clone, Copy, Debug, Default, Eq, PartialEq)]
 pub struct Odd {
@@ -40,12 +56,11 @@ impl Odd {
         // the first line is a definition line, whatever it holds
         let mut at = line_end(file, 0);
         while at < file.len() {
-            let end = file.len().min(at + 64);
-            let chunk = file.get(at..end).unwrap_or_default();
-            if chunk.iter().fold(0, |any, byte| any | table[usize::from(*byte)]) == 0 {
-                at = end;
+            if file.get(at..).and_then(<[u8]>::first_chunk).is_some_and(is_plain) {
+                at += CHUNK;
                 continue;
             }
+            let end = file.len().min(at + CHUNK);
             while let Some(byte) = file.get(at).filter(|_| at < end) {
                 match byte {
                     byte if !is_odd(*byte) => at += 1,
