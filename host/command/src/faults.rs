@@ -3,7 +3,7 @@
 use crate::advice;
 use crate::failure::{Failure, Refused};
 use crate::input::Input;
-use crate::place::{self, Line, commas, count, quoted};
+use crate::place::{self, Line, commas, count, short};
 use crate::warning::Warning;
 use wakeluri::{Record, Refusal, Table};
 
@@ -84,7 +84,7 @@ pub fn lines_of_cr<'f>(fasta: &'f Input, rows: &Table<'_>) -> Option<Warning<'f>
     let record = rows.records().next().filter(|record| rows.len() == 1 && record.length == 0)?;
     let line = place::lines(fasta.bytes(), 0, 1).next()?;
     has_cr_inside(fasta.bytes(), line).then(|| {
-        let words = format!("{}: {} has no bases: {CR_ALONE}", fasta.shown, quoted(record.name));
+        let words = format!("{}: {} has no bases: {CR_ALONE}", fasta.shown, short(record.name));
         Warning { next: LF_ENDS.to_string(), ..Warning::new(&fasta.shown, words) }
     })
 }
@@ -189,7 +189,7 @@ fn bad_definition(file: &[u8], line: Line, number: u64) -> (String, String) {
         (3, text) => {
             let shown = text.get(..text.len().min(20)).unwrap_or_default().trim_ascii_end();
             (
-                format!("a record begins with a line such as '>name', and here stands '{}'", quoted(shown)),
+                format!("a record begins with a line such as '>name', and here stands '{}'", short(shown)),
                 "is it a FASTA file?".to_string(),
             )
         }
@@ -207,7 +207,7 @@ fn bad_definition(file: &[u8], line: Line, number: u64) -> (String, String) {
 /// A record's name for messages.
 fn name_of(file: &[u8], definition: Line) -> String {
     match wakeluri::definition_line(place::text(file, definition)) {
-        Ok(definition) => quoted(definition.name),
+        Ok(definition) => short(definition.name),
         Err(_) => "the record".to_string(),
     }
 }
@@ -234,9 +234,26 @@ impl<'p> Pair<'p> {
 
     /// The record has another name.
     fn other_name(&self) -> String {
-        let said = self.said.map_or(String::new(), |said| quoted(said.name));
+        let said = self.said.map_or(String::new(), |said| short(said.name));
         let (number, file, name) = (commas(self.number), &self.fasta.shown, &self.name);
         format!("this line is about '{said}', and record {number} of {file} is '{name}'")
+    }
+
+    /// What is likely the cause where a line is missing: the record has the name of one before it.
+    fn twin(&self) -> String {
+        let file = self.fasta.bytes();
+        let name =
+            |line: Line| wakeluri::definition_line(place::text(file, line)).ok().map(|definition| definition.name);
+        let own = self.definition.and_then(name);
+        let is_definition = |line: &Line| line.start == 0 || file.get(line.start) == Some(&b'>');
+        let before = place::lines(file, 0, 1).filter(is_definition).take_while(|line| Some(*line) != self.definition);
+        match before.map(name).position(|name| name.is_some() && name == own) {
+            None => String::new(),
+            Some(first) => format!(
+                "; record {} has that name too, and samtools and others leave out the second record of a name",
+                commas(first as u64 + 1)
+            ),
+        }
     }
 
     /// The record has another length.
@@ -296,14 +313,15 @@ pub fn not_accepted(fasta: &Input, index: &Input, refusal: Refusal) -> Failure {
         19 => {
             let lines = count(place::lines(index.bytes(), 0, 1).count() as u64, "line");
             let number = commas(pair.number);
-            (None, format!("it ends after {lines}, and record {number} of {} is {}", fasta.shown, pair.name))
+            let twin = pair.twin();
+            (None, format!("it ends after {lines}, and record {number} of {} is {}{twin}", fasta.shown, pair.name))
         }
         20 => {
             let records = count(refusal.first, "record");
             let line = nth_line(index, refusal.first.saturating_add(1));
             (line, format!("it goes on here, and {} has {records}", fasta.shown))
         }
-        21 => (pair.line, pair.other_name()),
+        21 => (pair.line, pair.other_name() + &pair.twin()),
         22 => (pair.line, pair.other_length()),
         23 => (pair.line, pair.other_place(refusal.second)),
         _ => (pair.line, refusal.words()),

@@ -7,11 +7,13 @@
 use crate::advice::word;
 use crate::apart::{Outputs, descriptor, opened};
 use crate::failure::Failure;
+use crate::place::quoted;
 use crate::progress::Progress;
 use memmap2::Mmap;
 use std::fs::{File, Metadata};
 use std::io::{self, ErrorKind, Read};
 use std::os::fd::AsFd;
+use std::os::unix::ffi::OsStrExt;
 use std::os::unix::fs::{FileTypeExt, MetadataExt};
 use std::path::Path;
 use std::sync::OnceLock;
@@ -74,7 +76,7 @@ pub fn is_placeless(path: &Path) -> bool {
 
 /// A path's name in messages.
 pub fn shown(path: &Path) -> String {
-    if is_standard(path) { "standard input".to_string() } else { path.display().to_string() }
+    if is_standard(path) { "standard input".to_string() } else { quoted(path.as_os_str().as_bytes()) }
 }
 
 fn changed(file: &str) -> Failure {

@@ -18,6 +18,7 @@ mod progress;
 mod read;
 mod region;
 mod sheet;
+mod twins;
 mod unusual;
 mod usage;
 mod warning;
@@ -89,7 +90,8 @@ fn main() -> ExitCode {
     match answered {
         Ok(()) => ExitCode::SUCCESS,
         Err(failure) => {
-            let _ = std::io::stderr().write_all(failure.told(common.json).as_bytes());
+            let told = failure.told(common.json);
+            let _ = std::io::stderr().write_all(if common.json { told } else { place::seen(&told) }.as_bytes());
             ExitCode::from(failure.status())
         }
     }
@@ -140,6 +142,7 @@ fn index(words: &ArgMatches, common: Common) -> Result<(), Failure> {
         }))
     })?;
     Odd::of_file(fasta.bytes()).tell(&fasta, words.get_flag("strict"))?;
+    twins::warn(&fasta, &rows);
     let unusual = Unusual::of(fasta.bytes(), &rows);
     fasta.unchanged()?;
     // by now the name may lead elsewhere
@@ -147,7 +150,7 @@ fn index(words: &ArgMatches, common: Common) -> Result<(), Failure> {
     output.write(&text)?;
     let Some(place) = output.path() else { return Ok(()) };
     let (records, bases) = (rows.len() as u64, rows.records().map(|record| record.length).sum());
-    let shown = place.display().to_string();
+    let shown = place::quoted(place.as_os_str().as_bytes());
     if common.json {
         let mut object = Object::new();
         object.text("file", &fasta.shown).text("index", &shown).number("records", records).number("bases", bases);
@@ -188,7 +191,7 @@ fn wrap(words: &ArgMatches, common: Common) -> Result<(), Failure> {
     let size = Wrapping { fasta: &fasta, width, repair }.write(&output, index.as_ref())?;
     let wrap::Size { records, bases, mended } = size;
     let Some(place) = output.path() else { return Ok(()) };
-    let shown = place.display().to_string();
+    let shown = place::quoted(place.as_os_str().as_bytes());
     if common.json {
         let mut object = Object::new();
         object.text("file", &fasta.shown).text("output", &shown).number("width", width);
@@ -222,6 +225,7 @@ fn check(words: &ArgMatches, common: Common) -> Result<(), Failure> {
     Odd::of_file(fasta.bytes()).tell(&fasta, words.get_flag("strict"))?;
     fasta.unchanged()?;
     let rows = work::read_index(&fasta, &index)?;
+    twins::warn(&fasta, &rows);
     let (records, bases) = (rows.len() as u64, rows.records().map(|record| record.length).sum());
     if common.json {
         let mut object = Object::new();

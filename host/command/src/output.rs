@@ -2,6 +2,7 @@
 
 use crate::apart::{descriptor, folder, led_to};
 use crate::failure::Failure;
+use crate::place::quoted;
 use std::ffi::CString;
 use std::fs::{self, File, OpenOptions};
 use std::io::{self, Read, Write};
@@ -135,13 +136,13 @@ impl Output {
             let mut to = io::BufWriter::with_capacity(1 << 16, file);
             fill(&mut to).and_then(|()| to.flush())
         });
-        let shown = self.path().map(|path| path.display().to_string()).unwrap_or_default();
+        let shown = self.path().map(|path| quoted(path.as_os_str().as_bytes())).unwrap_or_default();
         written.map_err(|error| Failure::system("it can't be written", &shown, &error, ""))
     }
 }
 
 fn no_place(path: &Path, what: &str, next: &str) -> Failure {
-    let words = format!("{}: this is a {what}", path.display());
+    let words = format!("{}: this is a {what}", quoted(path.as_os_str().as_bytes()));
     Failure::InputOutput { words, next: format!("{next} with --output") }
 }
 
@@ -172,7 +173,7 @@ fn other_than_index(path: &Path) -> Option<&'static str> {
 
 /// Writes a file so that its place holds the old one or the whole new one, whenever this is stopped.
 fn replace(path: &Path, what: &str, fill: Fill<'_>) -> Result<(), Failure> {
-    let shown = path.display().to_string();
+    let shown = quoted(path.as_os_str().as_bytes());
     // where a link leads, the file itself is replaced
     let place = led_to(path).map_err(|error| Failure::system("it can't be written", &shown, &error, ""))?;
     let written = write_beside(&place, fill).and_then(|beside| {

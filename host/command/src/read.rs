@@ -8,7 +8,7 @@ use crate::letters::Odd;
 use crate::names::wanted_names;
 use crate::nearest::nearest;
 use crate::output::{Answers, failed};
-use crate::place::{commas, count, quoted};
+use crate::place::{commas, count, quoted, short};
 use crate::region::{Meaning, Number, Reading, Written, is_before_a_colon, meaning, plain_form, readings};
 use crate::warning::Warning;
 use std::ops::Range;
@@ -156,7 +156,7 @@ impl Source<'_> {
     /// What was asked for, where, and what is wrong with it.
     fn words(self, asked: Asked<'_>, what: &str) -> String {
         let whence = asked.sheet.map_or(String::new(), |(sheet, line)| format!("{sheet}, line {line}: "));
-        format!("{whence}{}: {} was asked for, and {what}", self.fasta.shown, quoted(asked.text))
+        format!("{whence}{}: {} was asked for, and {what}", self.fasta.shown, short(asked.text))
     }
 
     fn refused(self, asked: Asked<'_>, what: String, next: String, refusal: Refusal) -> Failure {
@@ -214,14 +214,14 @@ impl Source<'_> {
 
     /// What follows a record's name is no region of it.
     fn no_bounds(self, asked: Asked<'_>, row: Row, why: &str) -> Failure {
-        let name = self.rows.record(row).map_or(String::new(), |record| quoted(record.name));
+        let name = self.rows.record(row).map_or(String::new(), |record| short(record.name));
         let what = format!("there is a record {name}, and what follows is no region of it: {why}");
         self.unreadable(asked, &what, format!("write it as {name}:5-9"))
     }
 
     /// What stands behind a region is one too.
     fn two_in_a_line(self, asked: Asked<'_>) -> Failure {
-        let what = format!("behind it stands '{}', which is a record too", quoted(asked.second().unwrap_or_default()));
+        let what = format!("behind it stands '{}', which is a record too", short(asked.second().unwrap_or_default()));
         self.unreadable(
             asked,
             &what,
@@ -242,8 +242,8 @@ impl Source<'_> {
     /// More than one record may be meant: each way to read it, and a form that has no other.
     fn several(self, asked: Asked<'_>, ways: &[(Reading<'_>, Row)], refusal: Refusal) -> Failure {
         let told = |(reading, _): &(Reading<'_>, Row)| match reading.bounds {
-            None => format!("the whole of {}", quoted(reading.name)),
-            Some(bounds) => format!("'{}' of {}", quoted(bounds), quoted(reading.name)),
+            None => format!("the whole of {}", short(reading.name)),
+            Some(bounds) => format!("'{}' of {}", short(bounds), short(reading.name)),
         };
         let plain = |(reading, row): &(Reading<'_>, Row)| {
             let length = self.rows.record(*row).map_or(0, |record| record.length);
@@ -259,7 +259,7 @@ impl Source<'_> {
     }
 
     fn no_name(self, asked: Asked<'_>, name: &[u8], refusal: Refusal, look: bool) -> Failure {
-        let what = format!("no record is named '{}'", quoted(name));
+        let what = format!("no record is named '{}'", short(name));
         if !look {
             return self.refused(asked, what, String::new(), refusal);
         }
@@ -278,7 +278,7 @@ impl Source<'_> {
         let near = nearest(name, self.rows.records().map(|record| record.name));
         let near: Vec<String> = near.into_iter().map(quoted).collect();
         let next = if near.is_empty() {
-            let first: Vec<String> = self.rows.records().take(5).map(|record| quoted(record.name)).collect();
+            let first: Vec<String> = self.rows.records().take(5).map(|record| short(record.name)).collect();
             let more = if self.rows.len() > first.len() { ", .." } else { "" };
             format!("it has {}: {}{more}", count(self.rows.len() as u64, "record"), first.join(", "))
         } else {
@@ -289,7 +289,7 @@ impl Source<'_> {
 
     /// A refusal of a read, in words.
     fn not_read(self, asked: Asked<'_>, row: Row, written: &Written, refusal: Refusal) -> Failure {
-        let name = self.rows.record(row).map_or(String::new(), |record| quoted(record.name));
+        let name = self.rows.record(row).map_or(String::new(), |record| short(record.name));
         let length = self.rows.record(row).map_or(0, |record| record.length);
         let (what, next) = match refusal.number {
             16 => {
@@ -306,7 +306,9 @@ impl Source<'_> {
             17 if length == 0 => (format!("{name} has no bases"), String::new()),
             17 => {
                 let over = [&written.start, &written.end].into_iter().flatten().max();
-                let over = over.map_or(String::new(), |base| format!(": base {base} is past their end"));
+                let over = over.map_or(String::new(), |base| {
+                    format!(": base {} is past their end", short(base.to_string().as_bytes()))
+                });
                 let bits = written.over().map_or("", |_| " (and over 64 bits)");
                 let starts = written.start.as_ref().and_then(|start| start.value).unwrap_or(1);
                 let next = if starts <= length && written.start.as_ref().is_none_or(|start| start.value.is_some()) {
@@ -381,7 +383,7 @@ impl Source<'_> {
         let mut more = 0;
         for (told, (row, twin, name)) in twins.enumerate() {
             if told < TWINS {
-                let (name, first, second) = (quoted(name), commas(number(row)), commas(number(twin)));
+                let (name, first, second) = (short(name), commas(number(row)), commas(number(twin)));
                 let told = format!("records {first} and {second} of {file} are both named {name}: the first is read");
                 Warning::new(file, told).say();
             } else {

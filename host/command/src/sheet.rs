@@ -4,7 +4,7 @@
 //! blank lines are passed over. What may be a region written in another way is never taken for a label: it is a fault, and told.
 
 use crate::failure::{Failure, Unreadable};
-use crate::place::quoted;
+use crate::place::short;
 use crate::read::{Asked, Named};
 use crate::warning::Warning;
 use std::borrow::Cow;
@@ -91,7 +91,7 @@ impl Sheet {
 
     fn unreadable(&self, number: u64, line: &[u8], what: &str, next: String) -> Failure {
         Failure::Unreadable(Box::new(Unreadable {
-            words: format!("{}, line {number}: '{}': {what}", self.shown, quoted(line)),
+            words: format!("{}, line {number}: '{}': {what}", self.shown, short(line)),
             next,
             file: None,
             region: line.to_vec(),

@@ -3,6 +3,7 @@
 use crate::arguments;
 use crate::failure::Failure;
 use crate::json::Object;
+use crate::place::seen;
 use crate::warning;
 use clap::ArgMatches;
 use clap::error::{Error, ErrorKind};
@@ -31,7 +32,8 @@ fn said(error: &Error) -> ExitCode {
             std::io::stdout().write_all(Object::new().text(key, text.trim_end()).line().as_bytes())
         }
         None if warning::in_json() => std::io::stderr().write_all(in_json(&text).as_bytes()),
-        _ => error.print(),
+        None => std::io::stderr().write_all(seen(&text).as_bytes()),
+        Some(_) => error.print(),
     };
     ExitCode::from(if asked_for.is_some() { 0 } else { 2 })
 }

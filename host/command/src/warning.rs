@@ -1,6 +1,7 @@
 //! What is said on standard error beside an answer; and whether all that is said is JSON.
 
 use crate::json::Object;
+use crate::place::seen;
 use std::io::Write;
 use std::sync::atomic::{AtomicBool, Ordering};
 
@@ -41,7 +42,7 @@ impl<'w> Warning<'w> {
     fn told(&self, json: bool) -> String {
         if !json {
             let next: String = self.next.lines().map(|line| format!("  {line}\n")).collect();
-            return format!("wakeluri: warning: {}\n{next}", self.words);
+            return seen(&format!("wakeluri: warning: {}\n{next}", self.words));
         }
         let mut object = Object::new();
         object.text("warning", &self.words).text("file", self.file);
