@@ -139,6 +139,7 @@ fn turning(command: Command) -> Command {
     reading(command.arg(file().default_value("-")).arg(regions()))
         .arg(flag("each-line").help("of plain bases: each line is a sequence of its own").conflicts_with("joined"))
         .arg(flag("joined").help("of plain bases: all lines together are one sequence"))
+        .arg(flag("rna").help("write U for the complement of A, and not T"))
 }
 
 /// All of them.

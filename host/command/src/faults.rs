@@ -150,7 +150,6 @@ fn no_index_fits(file: &[u8], definition: Line, record: &str, refusal: Refusal) 
     Some((line, words))
 }
 
-/// A line that should be a definition line.
 /// A refusal to write a line anew, in words.
 pub fn not_wrapped(fasta: &Input, line: Line, refusal: Refusal) -> Failure {
     let file = fasta.bytes();
@@ -172,12 +171,25 @@ pub fn not_wrapped(fasta: &Input, line: Line, refusal: Refusal) -> Failure {
     refused(fasta, Some(line), &what, next, refusal)
 }
 
+/// A file that some program has packed, and how to unpack it.
+fn packed(program: &str, unpack: &str) -> (String, String) {
+    (
+        format!("this is a compressed file (of {program}), and FASTA text is needed"),
+        format!("unpack it first: `{unpack} FILE | wakeluri .. -`"),
+    )
+}
+
+/// A line that should be a definition line.
 fn bad_definition(file: &[u8], line: Line, number: u64) -> (String, String) {
     match (number, place::text(file, line)) {
         (3, [0x1f, 0x8b, ..]) => (
             "this is a compressed file, and FASTA text is needed".to_string(),
             "unpack it first: `gzip -dc FILE | wakeluri .. -`".to_string(),
         ),
+        (3, [b'B', b'Z', b'h', ..]) => packed("bzip2", "bzip2 -dc"),
+        (3, [0xfd, b'7', b'z', b'X', b'Z', ..]) => packed("xz", "xz -dc"),
+        (3, [0x28, 0xb5, 0x2f, 0xfd, ..]) => packed("zstd", "zstd -dc"),
+        (3, [b'P', b'K', 3, 4, ..]) => packed("zip", "unzip -p"),
         (3, [0xef, 0xbb, 0xbf, ..]) => (
             "three bytes that some editors put before a text (EF BB BF) stand before the first '>'".to_string(),
             "save the file as UTF-8 without a byte order mark".to_string(),

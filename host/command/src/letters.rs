@@ -119,6 +119,20 @@ impl Odd {
     }
 }
 
+/// Complements as RNA has them: what comes of A is U. Nothing else becomes T, so each T is such a one.
+pub fn of_rna(mut turned: Vec<u8>, rna: bool) -> Vec<u8> {
+    if rna {
+        for base in &mut turned {
+            *base = match *base {
+                b'T' => b'U',
+                b't' => b'u',
+                other => other,
+            };
+        }
+    }
+    turned
+}
+
 /// Where a line ends, its LF with it.
 fn line_end(file: &[u8], at: usize) -> usize {
     let rest = file.get(at..).unwrap_or_default();

@@ -106,6 +106,11 @@ fn rule(words: &ArgMatches) -> Rule {
     if words.get_flag("strict") { Rule::Strict } else { Rule::Complete }
 }
 
+/// Whether the answer is RNA; `read` has no such word.
+fn rna(words: &ArgMatches) -> bool {
+    words.try_get_one::<bool>("rna").ok().flatten().copied().unwrap_or(false)
+}
+
 /// FILE.fai.
 fn index_of(file: &Path) -> PathBuf {
     let mut name = file.as_os_str().to_os_string();
@@ -271,7 +276,7 @@ fn answer(
         None => Some(open_index(&index_of(file), file, common)?),
     };
     let width = words.get_one::<usize>("width").copied().unwrap_or(60);
-    let form = Form { turn, width, json: common.json, strict: words.get_flag("strict") };
+    let form = Form { turn, width, json: common.json, strict: words.get_flag("strict"), rna: rna(words) };
     let rows = match &index {
         None => work::index(fasta, rule(words))?,
         Some(index) if words.get_flag("unchecked") => {
@@ -339,11 +344,16 @@ fn complement(words: &ArgMatches, turn: Turn, common: Common) -> Result<(), Fail
     let sheet = open_sheet(words, file, common)?;
     let asked = asked(words, sheet.as_ref())?;
     let fasta = common.open(file, common.how)?;
-    if !asked.is_empty() || fasta.bytes().first() == Some(&b'>') {
+    let is_fasta = matches!(fasta.bytes(), [b'>', ..] | [0xef, 0xbb, 0xbf, b'>', ..]);
+    if !asked.is_empty() || is_fasta {
         return answer(words, file, &fasta, asked, turn, common);
     }
     // bases without a definition line
     let text = fasta.bytes();
+    if text.is_empty() {
+        work::warn_of_nothing(&fasta);
+        return Ok(());
+    }
     let lines: Vec<&[u8]> = text.strip_suffix(b"\n").unwrap_or(text).split(|byte| *byte == b'\n').collect();
     let lines: Vec<&[u8]> = lines.into_iter().map(|line| line.strip_suffix(b"\r").unwrap_or(line)).collect();
     let sequences = if words.get_flag("joined") {
@@ -359,7 +369,7 @@ fn complement(words: &ArgMatches, turn: Turn, common: Common) -> Result<(), Fail
     };
     let mut answer = vec![];
     for (line, bases) in sequences {
-        let turned = turn.turned(bases).map_err(|refusal| {
+        let turned = turn.turned(bases).map(|bases| letters::of_rna(bases, rna(words))).map_err(|refusal| {
             let words = format!("{}, line {line}: {}", fasta.shown, refusal.words());
             let next = "the letters that have one are ACGTU and MRWSYKVHDBN, small ones too".to_string();
             let place = None;

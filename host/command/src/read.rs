@@ -4,7 +4,7 @@ use crate::advice;
 use crate::failure::{Failure, Refused, Unreadable};
 use crate::input::Input;
 use crate::json::Object;
-use crate::letters::Odd;
+use crate::letters::{Odd, of_rna};
 use crate::names::wanted_names;
 use crate::nearest::nearest;
 use crate::output::{Answers, failed};
@@ -148,6 +148,8 @@ pub struct Form {
     pub width: usize,
     /// As JSON.
     pub json: bool,
+    /// U is written for the complement of A.
+    pub rna: bool,
     /// Bytes that are no letters are refused.
     pub strict: bool,
 }
@@ -344,9 +346,9 @@ impl Source<'_> {
     }
 
     /// Bases of a region, turned.
-    fn piece(self, region: Region<'_>, from: u64, to: u64, turn: Turn) -> Result<Vec<u8>, Failure> {
+    fn piece(self, region: Region<'_>, from: u64, to: u64, turn: Turn, rna: bool) -> Result<Vec<u8>, Failure> {
         let bases = self.rows.read_exact(self.fasta.bytes(), region.row, from..=to);
-        bases.and_then(|bases| turn.turned(bases)).map_err(|refusal| {
+        bases.and_then(|bases| turn.turned(bases)).map(|bases| of_rna(bases, rna)).map_err(|refusal| {
             // places are told as places in the region
             let before = if refusal.number == 24 { from - region.start } else { 0 };
             let refusal = Refusal { first: refusal.first.saturating_add(before), ..refusal };
@@ -356,12 +358,16 @@ impl Source<'_> {
     }
 
     /// The pieces of a region, in the order that they are written in.
-    fn pieces(self, region: Region<'_>, turn: Turn) -> impl Iterator<Item = Result<Vec<u8>, Failure>> {
+    fn pieces(
+        self,
+        region: Region<'_>,
+        Form { turn, rna, .. }: Form,
+    ) -> impl Iterator<Item = Result<Vec<u8>, Failure>> {
         let pieces = region.bases().div_ceil(PIECE);
         (0..pieces).map(move |number| {
             let number = if turn == Turn::Reverse { pieces - 1 - number } else { number };
             let from = region.start + number * PIECE;
-            self.piece(region, from, region.end.min(from.saturating_add(PIECE - 1)), turn)
+            self.piece(region, from, region.end.min(from.saturating_add(PIECE - 1)), turn, rna)
         })
     }
 
@@ -419,7 +425,7 @@ impl Source<'_> {
             let start = kept.len();
             let keep = region.bases() <= KEPT - start as u64;
             let mut from = region.start;
-            let read = self.pieces(*region, form.turn).try_for_each(|piece| {
+            let read = self.pieces(*region, form).try_for_each(|piece| {
                 let piece = piece?;
                 // what is turned has letters alone
                 if form.turn == Turn::AsIs {
@@ -445,7 +451,7 @@ impl Source<'_> {
         for (region, place) in regions.iter().zip(&places) {
             match place.clone().and_then(|place| kept.get(place)) {
                 Some(bases) => self.write(*region, [Ok(bases)], form, &mut answers)?,
-                None => self.write(*region, self.pieces(*region, form.turn), form, &mut answers)?,
+                None => self.write(*region, self.pieces(*region, form), form, &mut answers)?,
             }
         }
         if places.iter().any(Option::is_none) {

@@ -4,6 +4,7 @@ use crate::failure::Failure;
 use crate::faults;
 use crate::input::Input;
 use crate::progress::Progress;
+use crate::warning::Warning;
 use wakeluri::Table;
 
 /// By which rule a file is indexed.
@@ -18,6 +19,7 @@ pub enum Rule {
 /// The rows of a file, or why there are none, and where.
 pub fn index(fasta: &Input, rule: Rule) -> Result<Table<'_>, Failure> {
     let file = fasta.bytes();
+    warn_of_nothing(fasta);
     let progress = Progress::working("indexing", &fasta.shown, file.len() as u64, fasta.is_mapped());
     let (rows, refusal) = match rule {
         Rule::Complete => wakeluri::index_until_refused(file),
@@ -35,9 +37,17 @@ pub fn index(fasta: &Input, rule: Rule) -> Result<Table<'_>, Failure> {
     }
 }
 
+/// A file without a byte is a file without records, and seldom what was meant.
+pub fn warn_of_nothing(fasta: &Input) {
+    if fasta.bytes().is_empty() {
+        Warning::new(&fasta.shown, format!("{}: it is empty: there is no record in it", fasta.shown)).say();
+    }
+}
+
 /// Whether an index is right for a file; if not, the first fault in words.
 pub fn check(fasta: &Input, index: &Input) -> Result<(), Failure> {
     let file = fasta.bytes();
+    warn_of_nothing(fasta);
     let progress = Progress::working("checking", &fasta.shown, file.len() as u64, fasta.is_mapped());
     let answer = wakeluri::check(file, index.bytes());
     drop(progress);

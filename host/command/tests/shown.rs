@@ -53,7 +53,7 @@ fn fault_10_control_bytes_are_escaped_everywhere() {
 #[test]
 fn fault_10_a_long_name_is_cut() {
     let folder = Folder::new("fault-10-long");
-    let long = "x".repeat(100_000);
+    let long = "x".repeat(50_000);
     folder.write("f.fa", format!(">{long}\nAC\nA\nACG\n>{long}\nA\n"));
     folder.write("i.fai", format!("{long}\t900000\t9\t9\t9\n"));
     for words in [
@@ -67,7 +67,7 @@ fn fault_10_a_long_name_is_cut() {
         let answer = folder.run(words);
         assert_eq!(answer.out, "");
         assert!(
-            answer.err.len() < 2000 && answer.err.contains("xxx.. (100,000 bytes)") || answer.err.contains("yyy.. (")
+            answer.err.len() < 2000 && answer.err.contains("xxx.. (50,000 bytes)") || answer.err.contains("yyy.. (")
         );
     }
 }
