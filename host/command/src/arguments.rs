@@ -31,7 +31,7 @@ It never takes the place of the file that is read, under whatever name, nor that
 const CHECK_EXAMPLES: &str = "\
 Examples:
   wakeluri check ref.fa                       with ref.fa.fai
-  wakeluri check ref.fa old.fai               with another index, of any program
+  wakeluri check ref.fa old.fai               with another index, of any program; or -i old.fai
   wakeluri check ref.fa && sheet-maker ..     only if every base is where the index says
   zcat ref.fa.gz | wakeluri check - ref.fai   a file on standard input";
 
@@ -93,6 +93,17 @@ fn index_file() -> Arg {
         .value_hint(ValueHint::FilePath)
 }
 
+/// The index by a word of its own.
+fn index_option() -> Arg {
+    Arg::new("index-option")
+        .long("index")
+        .short('i')
+        .value_name("INDEX")
+        .help("the index, if it isn't FILE.fai")
+        .value_parser(value_parser!(PathBuf))
+        .value_hint(ValueHint::FilePath)
+}
+
 fn flag(name: &'static str) -> Arg {
     Arg::new(name).long(name).action(ArgAction::SetTrue)
 }
@@ -104,7 +115,7 @@ fn strict() -> Arg {
 fn regions() -> Arg {
     Arg::new("region")
         .value_name("REGION")
-        .help("name, name:5, name:5-, name:-9, name:5-9")
+        .help("name, name:5, name:5-, name:-9, name:5-9; before them an INDEX may stand, a file that ends in .fai")
         .num_args(0..)
         .value_parser(value_parser!(OsString))
 }
@@ -121,7 +132,7 @@ fn reading(command: Command) -> Command {
                 .value_hint(ValueHint::FilePath),
         )
         .arg(flag("bed").help("the sheet is BED: name, start from 0, end that is not included"))
-        .arg(index_file().long("index").short('i'))
+        .arg(index_option())
         .arg(flag("unchecked").help("use the index as it is, without checking it with the file"))
         .arg(strict())
         .arg(
@@ -167,10 +178,13 @@ pub fn command() -> Command {
                 .about("Write the index of a file, in samtools' form, or say what is wrong and where")
                 .after_help(INDEX_EXAMPLES)
                 .arg(file().required(true))
+                .arg(index_file().help("where to, by a name that ends in .fai"))
+                .arg(index_option().help("where to, as --output"))
                 .arg(
                     Arg::new("output")
                         .long("output")
                         .short('o')
+                        .conflicts_with_all(["index", "index-option"])
                         .value_name("INDEX")
                         .help("where to, if not to FILE.fai; - is standard output")
                         .value_parser(value_parser!(PathBuf))
@@ -184,6 +198,7 @@ pub fn command() -> Command {
                 .after_help(CHECK_EXAMPLES)
                 .arg(file().required(true))
                 .arg(index_file())
+                .arg(index_option())
                 .arg(flag("strict").help("refuse bytes among the bases that are no letters")),
         )
         .subcommand(reading(
@@ -216,7 +231,17 @@ pub fn command() -> Command {
                         .value_parser(value_parser!(PathBuf))
                         .value_hint(ValueHint::FilePath),
                 )
-                .arg(flag("index").help("write the index of the new file too, to OUT.fai"))
+                .arg(
+                    Arg::new("index")
+                        .long("index")
+                        .value_name("INDEX")
+                        .help("write the index of the new file too, to OUT.fai or to INDEX")
+                        .num_args(0..=1)
+                        .require_equals(true)
+                        .default_missing_value("")
+                        .value_parser(value_parser!(OsString))
+                        .value_hint(ValueHint::FilePath),
+                )
                 .arg(flag("repair").help("take blanks out between '>' and a name")),
         )
         .subcommand(turning(

@@ -101,6 +101,37 @@ fn path<'m>(words: &'m ArgMatches, name: &str) -> Option<&'m Path> {
     words.get_one::<PathBuf>(name).map(PathBuf::as_path)
 }
 
+/// The index of `check` and `index`, behind the file or by a word of its own.
+fn named_index(words: &ArgMatches) -> Result<Option<&Path>, Failure> {
+    let (behind, by_word) = (path(words, "index"), path(words, "index-option"));
+    if behind.is_some() && by_word.is_some() {
+        return Err(Failure::Usage("two indexes are named, and one is needed".to_string()));
+    }
+    // what is written to is not guessed
+    let is_index = |path: &Path| path.extension().is_some_and(|end| end == "fai");
+    match behind {
+        Some(path) if words.try_contains_id("output").is_ok() && !is_index(path) => {
+            let shown = input::shown(path);
+            Err(Failure::Usage(format!("to write the index to {shown}, say --output: its name doesn't end in .fai")))
+        }
+        _ => Ok(behind.or(by_word)),
+    }
+}
+
+/// The index of a read, by a word of its own or before the regions.
+fn read_index(words: &ArgMatches) -> Option<&Path> {
+    path(words, "index-option").or_else(|| index_before_regions(words))
+}
+
+/// A file of that name that stands before the regions and ends in .fai is an index; a record of that name is written in braces.
+fn index_before_regions(words: &ArgMatches) -> Option<&Path> {
+    if path(words, "index-option").is_some() {
+        return None;
+    }
+    let first = words.get_many::<OsString>("region").and_then(|mut regions| regions.next()).map(Path::new)?;
+    (first.extension().is_some_and(|end| end == "fai") && first.is_file()).then_some(first)
+}
+
 /// The rule that a file without an index is indexed by.
 fn rule(words: &ArgMatches) -> Rule {
     if words.get_flag("strict") { Rule::Strict } else { Rule::Complete }
@@ -120,7 +151,8 @@ fn index_of(file: &Path) -> PathBuf {
 
 fn index(words: &ArgMatches, common: Common) -> Result<(), Failure> {
     let file = path(words, "file").unwrap_or(Path::new("-"));
-    let output = match path(words, "output") {
+    let named = named_index(words)?;
+    let output = match path(words, "output").or(named) {
         Some(output) => Output::of(output)?,
         None if is_placeless(file) => Output::Standard,
         None => Output::of(&index_of(file))?,
@@ -181,8 +213,11 @@ fn wrap(words: &ArgMatches, common: Common) -> Result<(), Failure> {
         ));
     }
     let index = match output.path() {
-        _ if !words.get_flag("index") => None,
-        Some(place) => Some(Output::of(&index_of(place))?),
+        _ if !words.contains_id("index") => None,
+        Some(place) => {
+            let named = words.get_one::<OsString>("index").filter(|named| !named.is_empty());
+            Some(Output::of(&named.map_or_else(|| index_of(place), PathBuf::from))?)
+        }
         None => return Err(Failure::Usage("--index needs --output OUT: the index is written to OUT.fai".to_string())),
     };
     let outputs = || {
@@ -213,7 +248,7 @@ fn wrap(words: &ArgMatches, common: Common) -> Result<(), Failure> {
 
 fn check(words: &ArgMatches, common: Common) -> Result<(), Failure> {
     let file = path(words, "file").unwrap_or(Path::new("-"));
-    let index = match path(words, "index") {
+    let index = match named_index(words)? {
         Some(index) => index.to_path_buf(),
         None if is_placeless(file) => {
             let words = format!("name the index that {} is to be checked with", input::shown(file));
@@ -257,6 +292,9 @@ fn read(words: &ArgMatches, turn: Turn, common: Common) -> Result<(), Failure> {
     let file = path(words, "file").unwrap_or(Path::new("-"));
     let sheet = open_sheet(words, file, common)?;
     let asked = asked(words, sheet.as_ref())?;
+    if asked.is_empty() {
+        return Err(Failure::Usage("no region is named: name one behind the index".to_string()));
+    }
     let fasta = common.open(file, common.how)?;
     answer(words, file, &fasta, asked, turn, common)
 }
@@ -270,7 +308,7 @@ fn answer(
     turn: Turn,
     common: Common,
 ) -> Result<(), Failure> {
-    let index = match path(words, "index") {
+    let index = match read_index(words) {
         Some(index) => Some(open_index(index, file, common)?),
         None if is_placeless(file) || !index_of(file).exists() => None,
         None => Some(open_index(&index_of(file), file, common)?),
@@ -306,7 +344,7 @@ fn answer(
 
 /// The sheet of regions, if there is one.
 fn open_sheet(words: &ArgMatches, file: &Path, common: Common) -> Result<Option<Sheet>, Failure> {
-    let (sheet, index) = (path(words, "regions"), path(words, "index"));
+    let (sheet, index) = (path(words, "regions"), read_index(words));
     for (one, two, what) in [
         (Some(file), sheet, "the file and the sheet"),
         (Some(file), index, "the file and its index"),
@@ -329,6 +367,7 @@ fn open_sheet(words: &ArgMatches, file: &Path, common: Common) -> Result<Option<
 /// The regions that are asked for, one by one and in a sheet.
 fn asked<'a>(words: &'a ArgMatches, sheet: Option<&'a Sheet>) -> Result<AllAsked<'a>, Failure> {
     let regions = words.get_many::<OsString>("region").unwrap_or_default();
+    let regions = regions.skip(usize::from(index_before_regions(words).is_some()));
     let mut asked: AllAsked<'_> = regions.map(|region| Ok(Asked::of(region.as_bytes()))).collect();
     if let Some(sheet) = sheet {
         asked.extend(sheet.asked());
