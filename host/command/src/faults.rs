@@ -132,6 +132,10 @@ fn no_index_fits(file: &[u8], definition: Line, record: &str, refusal: Refusal) 
     let why = if byte > line.start {
         let (bases, first) = (count(line.bases as u64, "base"), commas(first.bases as u64));
         format!("this line has {bases}, and the first has {first}")
+    } else if let Some(blank) = blank_line(file, definition, [first, second], [before, line]) {
+        let short = (before.bases < first.bases)
+            .then(|| format!("; line {} has {}", commas(before.number), count(before.bases as u64, "base")));
+        blank + &short.unwrap_or_default()
     } else if before.bases < first.bases {
         let (number, bases) = (commas(before.number), count(before.bases as u64, "base"));
         format!(
@@ -148,6 +152,23 @@ fn no_index_fits(file: &[u8], definition: Line, record: &str, refusal: Refusal) 
          here stands '{shown}'"
     );
     Some((line, words))
+}
+
+/// The blank line that is the fault, if one is: where more lines are blank, or fewer, than between a record's first two lines with bases.
+fn blank_line(file: &[u8], definition: Line, first: [Line; 2], last: [Line; 2]) -> Option<String> {
+    let between = |[from, to]: [Line; 2]| {
+        let lines = place::sequence(file, definition).skip_while(move |line| line.start <= from.start);
+        lines.take_while(move |line| line.start < to.start)
+    };
+    let (usual, here) = (between(first).count(), between(last).count());
+    let said = |count: usize| if count == 1 { "1 is".to_string() } else { format!("{count} are") };
+    if here > usual {
+        let number = commas(between(last).nth(usual)?.number);
+        let usual = if usual == 0 { "none is".to_string() } else { said(usual) };
+        return Some(format!("line {number} is blank, and bases follow it; behind the record's first line {usual}"));
+    }
+    let number = commas(between(first).next().filter(|_| here < usual)?.number);
+    Some(format!("line {number} is blank, and behind line {} {} not", commas(last[0].number), said(usual - here)))
 }
 
 /// A refusal to write a line anew, in words.

@@ -102,7 +102,7 @@ fn path<'m>(words: &'m ArgMatches, name: &str) -> Option<&'m Path> {
 }
 
 /// The index of `check` and `index`, behind the file or by a word of its own.
-fn named_index(words: &ArgMatches) -> Result<Option<&Path>, Failure> {
+fn named_index(words: &ArgMatches, is_written: bool) -> Result<Option<&Path>, Failure> {
     let (behind, by_word) = (path(words, "index"), path(words, "index-option"));
     if behind.is_some() && by_word.is_some() {
         return Err(Failure::Usage("two indexes are named, and one is needed".to_string()));
@@ -110,7 +110,7 @@ fn named_index(words: &ArgMatches) -> Result<Option<&Path>, Failure> {
     // what is written to is not guessed
     let is_index = |path: &Path| path.extension().is_some_and(|end| end == "fai");
     match behind {
-        Some(path) if words.try_contains_id("output").is_ok() && !is_index(path) => {
+        Some(path) if is_written && !is_index(path) => {
             let shown = input::shown(path);
             Err(Failure::Usage(format!("to write the index to {shown}, say --output: its name doesn't end in .fai")))
         }
@@ -151,7 +151,7 @@ fn index_of(file: &Path) -> PathBuf {
 
 fn index(words: &ArgMatches, common: Common) -> Result<(), Failure> {
     let file = path(words, "file").unwrap_or(Path::new("-"));
-    let named = named_index(words)?;
+    let named = named_index(words, true)?;
     let output = match path(words, "output").or(named) {
         Some(output) => Output::of(output)?,
         None if is_placeless(file) => Output::Standard,
@@ -248,7 +248,7 @@ fn wrap(words: &ArgMatches, common: Common) -> Result<(), Failure> {
 
 fn check(words: &ArgMatches, common: Common) -> Result<(), Failure> {
     let file = path(words, "file").unwrap_or(Path::new("-"));
-    let index = match named_index(words)? {
+    let index = match named_index(words, false)? {
         Some(index) => index.to_path_buf(),
         None if is_placeless(file) => {
             let words = format!("name the index that {} is to be checked with", input::shown(file));
