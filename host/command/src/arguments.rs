@@ -163,6 +163,7 @@ pub fn command() -> Command {
         .after_help(EXAMPLES)
         .subcommand_required(true)
         .arg_required_else_help(true)
+        .arg(flag("quiet").short('q').global(true).help("no warnings, and no summary of what was written or accepted"))
         .arg(flag("json").global(true).help("a JSON object for each answer; a refusal is one too, on standard error"))
         .arg(
             Arg::new("input")

@@ -76,6 +76,7 @@ fn main() -> ExitCode {
         Some("read") => How::Read,
         _ => How::Auto,
     };
+    warning::be_quiet(matches.get_flag("quiet"));
     let common = Common { how, json: matches.get_flag("json"), outputs: Outputs::standard() };
     let answered = match matches.subcommand() {
         Some(("index", words)) => index(words, common),
@@ -194,10 +195,10 @@ fn index(words: &ArgMatches, common: Common) -> Result<(), Failure> {
         object
             .number("records_with_blank_lines", unusual.blank_lines)
             .number("records_without_bases", unusual.no_bases);
-        return write(object.line().as_bytes());
+        return report(object.line().as_bytes());
     }
     let records = format!("{}{}", count(records, "record"), unusual.told());
-    write(format!("{shown}: {records}, {}\n", count(bases, "base")).as_bytes())
+    report(format!("{shown}: {records}, {}\n", count(bases, "base")).as_bytes())
 }
 
 fn wrap(words: &ArgMatches, common: Common) -> Result<(), Failure> {
@@ -239,11 +240,11 @@ fn wrap(words: &ArgMatches, common: Common) -> Result<(), Failure> {
         if repair {
             object.number("records_mended", mended);
         }
-        return write(object.line().as_bytes());
+        return report(object.line().as_bytes());
     }
     let (records, bases) = (count(records, "record"), count(bases, "base"));
     let mended = if mended > 0 { format!(" ({} mended)", place::commas(mended)) } else { String::new() };
-    write(format!("{shown}: {records}{mended}, {bases}, in lines of {}\n", place::commas(width)).as_bytes())
+    report(format!("{shown}: {records}{mended}, {bases}, in lines of {}\n", place::commas(width)).as_bytes())
 }
 
 fn check(words: &ArgMatches, common: Common) -> Result<(), Failure> {
@@ -271,10 +272,12 @@ fn check(words: &ArgMatches, common: Common) -> Result<(), Failure> {
         let mut object = Object::new();
         object.truth("accepted", true).text("file", &fasta.shown).text("index", &index.shown);
         object.number("records", records).number("bases", bases);
-        return write(object.line().as_bytes());
+        return report(object.line().as_bytes());
     }
     let (records, bases) = (count(records, "record"), count(bases, "base"));
-    write(format!("accepted: {} leads to every base of {} ({records}, {bases})\n", index.shown, fasta.shown).as_bytes())
+    report(
+        format!("accepted: {} leads to every base of {} ({records}, {bases})\n", index.shown, fasta.shown).as_bytes(),
+    )
 }
 
 /// The index, read plainly; where there is none, the message says how to make one.
@@ -444,6 +447,11 @@ fn completions(words: &ArgMatches) -> Result<(), Failure> {
         clap_complete::generate(*shell, &mut arguments::command(), "wakeluri", &mut text);
     }
     write(&text)
+}
+
+/// A summary of what was done, if somebody wants it.
+fn report(text: &[u8]) -> Result<(), Failure> {
+    if warning::is_quiet() { Ok(()) } else { write(text) }
 }
 
 fn write(text: &[u8]) -> Result<(), Failure> {

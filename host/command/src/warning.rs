@@ -9,6 +9,19 @@ use std::sync::atomic::{AtomicBool, Ordering};
 /// said so too.
 static JSON: AtomicBool = AtomicBool::new(false);
 
+/// Whether only what keeps the command from answering is said.
+static QUIET: AtomicBool = AtomicBool::new(false);
+
+/// From now on warnings and summaries are left out, or none is.
+pub fn be_quiet(quiet: bool) {
+    QUIET.store(quiet, Ordering::Relaxed);
+}
+
+/// Whether warnings and summaries are left out.
+pub fn is_quiet() -> bool {
+    QUIET.load(Ordering::Relaxed)
+}
+
 /// From now on everything is said in JSON, or nothing is.
 pub fn say_in_json(json: bool) {
     JSON.store(json, Ordering::Relaxed);
@@ -57,6 +70,9 @@ impl<'w> Warning<'w> {
 
     /// Says it.
     pub fn say(&self) {
+        if is_quiet() {
+            return;
+        }
         let _ = std::io::stderr().write_all(self.told(in_json()).as_bytes());
     }
 }
