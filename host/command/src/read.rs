@@ -346,9 +346,9 @@ impl Source<'_> {
     }
 
     /// Bases of a region, turned.
-    fn piece(self, region: Region<'_>, from: u64, to: u64, turn: Turn, rna: bool) -> Result<Vec<u8>, Failure> {
+    fn piece(self, region: Region<'_>, from: u64, to: u64, turn: Turn) -> Result<Vec<u8>, Failure> {
         let bases = self.rows.read_exact(self.fasta.bytes(), region.row, from..=to);
-        bases.and_then(|bases| turn.turned(bases)).map(|bases| of_rna(bases, rna)).map_err(|refusal| {
+        bases.and_then(|bases| turn.turned(bases)).map_err(|refusal| {
             // places are told as places in the region
             let before = if refusal.number == 24 { from - region.start } else { 0 };
             let refusal = Refusal { first: refusal.first.saturating_add(before), ..refusal };
@@ -367,7 +367,8 @@ impl Source<'_> {
         (0..pieces).map(move |number| {
             let number = if turn == Turn::Reverse { pieces - 1 - number } else { number };
             let from = region.start + number * PIECE;
-            self.piece(region, from, region.end.min(from.saturating_add(PIECE - 1)), turn, rna)
+            let bases = self.piece(region, from, region.end.min(from.saturating_add(PIECE - 1)), turn);
+            bases.map(|bases| of_rna(bases, rna))
         })
     }
 
