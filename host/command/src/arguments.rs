@@ -33,7 +33,7 @@ It never takes the place of the file that is read, under whatever name, nor that
 const CHECK_EXAMPLES: &str = "\
 Examples:
   wakeluri check ref.fa                       with ref.fa.fai
-  wakeluri check ref.fa old.fai               with another index, of any program
+  wakeluri check ref.fa old.fai               with another index, of any program; or -i old.fai
   wakeluri check ref.fa && sheet-maker ..     only if every base is where the index says
   zcat ref.fa.gz | wakeluri check - ref.fai   a file on standard input";
 
@@ -67,7 +67,7 @@ Examples:
   wakeluri wrap ref.fa --width 60 -o new.fa --index  and new.fa.fai beside it
   wakeluri wrap ref.fa > new.fa                      to standard output
 
-Names and descriptions are kept; blank lines go. The new file reads back as the same records.
+Names and descriptions are kept; blank lines go. With --repair a line such as '> name' becomes '>name'. The new file reads back as the same records.
 A file is written beside its place and put there in one step: a stop in the middle leaves the old one whole. It never takes the
 place of the file that is read, nor of a file that is not FASTA.";
 
@@ -114,18 +114,29 @@ fn index_file() -> Arg {
         .value_hint(ValueHint::FilePath)
 }
 
+/// The index by a word of its own.
+fn index_option() -> Arg {
+    Arg::new("index-option")
+        .long("index")
+        .short('i')
+        .value_name("INDEX")
+        .help("the index, if it isn't FILE.fai")
+        .value_parser(value_parser!(PathBuf))
+        .value_hint(ValueHint::FilePath)
+}
+
 fn flag(name: &'static str) -> Arg {
     Arg::new(name).long(name).action(ArgAction::SetTrue)
 }
 
 fn strict() -> Arg {
-    flag("strict").help("take a file only if the lines of each record are alike but the last, as noodles-fasta does")
+    flag("strict").help("take a file only if the lines of each record are alike but the last, as noodles-fasta does, and hold letters alone")
 }
 
 fn regions() -> Arg {
     Arg::new("region")
         .value_name("REGION")
-        .help("name, name:5, name:5-, name:-9, name:5-9")
+        .help("name, name:5, name:5-, name:-9, name:5-9; before them an INDEX may stand, a file that ends in .fai")
         .num_args(0..)
         .value_parser(value_parser!(OsString))
 }
@@ -154,7 +165,8 @@ fn searching(command: Command) -> Command {
                 .value_parser(value_parser!(PathBuf))
                 .value_hint(ValueHint::FilePath),
         )
-        .arg(index_file().long("index").short('i'))
+        .arg(flag("bed").help("the sheet is BED: name, start from 0, end that is not included"))
+        .arg(index_option())
         .arg(flag("unchecked").help("use the index as it is, without checking it with the file"))
         .arg(strict())
 }
@@ -163,6 +175,7 @@ fn turning(command: Command) -> Command {
     reading(command.arg(file().default_value("-")).arg(regions()))
         .arg(flag("each-line").help("of plain bases: each line is a sequence of its own").conflicts_with("joined"))
         .arg(flag("joined").help("of plain bases: all lines together are one sequence"))
+        .arg(flag("rna").help("write U for the complement of A, and not T"))
 }
 
 /// All of them.
@@ -175,6 +188,7 @@ pub fn command() -> Command {
         .after_help(EXAMPLES)
         .subcommand_required(true)
         .arg_required_else_help(true)
+        .arg(flag("quiet").short('q').global(true).help("no warnings, and no summary of what was written or accepted"))
         .arg(flag("json").global(true).help("a JSON object for each answer; a refusal is one too, on standard error"))
         .arg(
             Arg::new("input")
@@ -190,10 +204,13 @@ pub fn command() -> Command {
                 .about("Write the index of a file, in samtools' form, or say what is wrong and where")
                 .after_help(INDEX_EXAMPLES)
                 .arg(file().required(true))
+                .arg(index_file().help("where to, by a name that ends in .fai"))
+                .arg(index_option().help("where to, as --output"))
                 .arg(
                     Arg::new("output")
                         .long("output")
                         .short('o')
+                        .conflicts_with_all(["index", "index-option"])
                         .value_name("INDEX")
                         .help("where to, if not to FILE.fai; - is standard output")
                         .value_parser(value_parser!(PathBuf))
@@ -206,7 +223,9 @@ pub fn command() -> Command {
                 .about("Accept an index of any program, exactly if it leads to every base of the file")
                 .after_help(CHECK_EXAMPLES)
                 .arg(file().required(true))
-                .arg(index_file()),
+                .arg(index_file())
+                .arg(index_option())
+                .arg(flag("strict").help("refuse bytes among the bases that are no letters")),
         )
         .subcommand(reading(
             Command::new("read")
@@ -251,7 +270,18 @@ pub fn command() -> Command {
                         .value_parser(value_parser!(PathBuf))
                         .value_hint(ValueHint::FilePath),
                 )
-                .arg(flag("index").help("write the index of the new file too, to OUT.fai")),
+                .arg(
+                    Arg::new("index")
+                        .long("index")
+                        .value_name("INDEX")
+                        .help("write the index of the new file too, to OUT.fai or to INDEX")
+                        .num_args(0..=1)
+                        .require_equals(true)
+                        .default_missing_value("")
+                        .value_parser(value_parser!(OsString))
+                        .value_hint(ValueHint::FilePath),
+                )
+                .arg(flag("repair").help("take blanks out between '>' and a name")),
         )
         .subcommand(turning(
             Command::new("complement").about("The complement, of reads or of bases").after_help(COMPLEMENT_EXAMPLES),

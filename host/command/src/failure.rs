@@ -10,6 +10,12 @@ pub enum Failure {
     Refused(Box<Refused>),
     /// The words of the command make no sense together. Status 2.
     Usage(String),
+    /// A region whose bounds can't be read, or a line of a sheet that is no region. Status 2.
+    Unreadable(Box<Unreadable>),
+    /// With `--strict`: bytes that are no letters. Status 1.
+    NotLetters(Box<NotLetters>),
+    /// All that is wrong with the regions that were asked for; never none. The worst status of them.
+    Several(Vec<Failure>),
     /// A file, a pipe or the disk. Status 3.
     InputOutput {
         /// What happened, with the file's name.
@@ -42,7 +48,43 @@ pub struct Refused {
     pub sheet: Option<(String, u64)>,
 }
 
+/// Bytes among the bases that are no letters.
+#[derive(Debug)]
+pub struct NotLetters {
+    /// Which, and where.
+    pub words: String,
+    /// What to do next.
+    pub next: String,
+    /// The file.
+    pub file: String,
+    /// The line of the first and the place in it, from 1.
+    pub place: (u64, u64),
+}
+
+/// A region in words that make no sense.
+#[derive(Debug)]
+pub struct Unreadable {
+    /// What was asked for, and why it can't be read.
+    pub words: String,
+    /// What to write.
+    pub next: String,
+    /// The file, if it was looked at.
+    pub file: Option<String>,
+    /// The region.
+    pub region: Vec<u8>,
+    /// The sheet that it stands in, and its line.
+    pub sheet: Option<(String, u64)>,
+}
+
+/// What to do next where the words make no sense.
+const EXAMPLES: &str = "`wakeluri --help` has examples";
+
 impl Failure {
+    /// What is wrong with the words of the command, as an object.
+    pub fn usage_object(words: &str, next: &str) -> String {
+        Object::new().number("status", 2).text("words", words).text("next", next).line()
+    }
+
     /// An input or output error of the system about a file.
     pub fn system(doing: &str, file: &str, error: &std::io::Error, next: &str) -> Self {
         if error.kind() == std::io::ErrorKind::BrokenPipe {
@@ -57,8 +99,9 @@ impl Failure {
     /// The status that the command ends with.
     pub fn status(&self) -> u8 {
         match self {
-            Self::Refused(_) => 1,
-            Self::Usage(_) => 2,
+            Self::Refused(_) | Self::NotLetters(_) => 1,
+            Self::Usage(_) | Self::Unreadable(_) => 2,
+            Self::Several(all) => all.iter().map(Self::status).max().unwrap_or(3),
             Self::InputOutput { .. } | Self::Gone => 3,
         }
     }
@@ -68,6 +111,31 @@ impl Failure {
         let status = u64::from(self.status());
         match self {
             Self::Gone => String::new(),
+            Self::NotLetters(found) => {
+                let NotLetters { words, next, file, place: (line, column) } = &**found;
+                let code = format!("refused by --strict (line {line}, column {column})");
+                if !json {
+                    return format!("wakeluri: {words}\n{}{code}\n", indented(next));
+                }
+                let mut object = Object::new();
+                object.number("status", status).text("file", file).number("line", *line).number("column", *column);
+                object.text("words", words).text("next", next).text("code", &code).line()
+            }
+            Self::Several(all) => all.iter().map(|failure| failure.told(json)).collect(),
+            Self::Unreadable(unreadable) if json => {
+                let Unreadable { words, next, file, region, sheet } = &**unreadable;
+                let mut object = Object::new();
+                object.number("status", status);
+                if let Some(file) = file {
+                    object.text("file", file);
+                }
+                object.bytes("region", region);
+                if let Some((sheet, line)) = sheet {
+                    object.text("sheet", sheet).number("sheet_line", *line);
+                }
+                object.text("words", words).text("next", next).line()
+            }
+            Self::Unreadable(unreadable) => format!("wakeluri: {}\n{}", unreadable.words, indented(&unreadable.next)),
             Self::Refused(refused) if json => {
                 let Refused { words, shown: _, next, refusal, file, place, region, sheet } = &**refused;
                 let mut object = Object::new();
@@ -95,15 +163,11 @@ impl Failure {
                 let Refused { words, shown, next, refusal, .. } = &**refused;
                 format!("wakeluri: {words}\n{}{}{}\n", indented(shown), indented(next), refusal.code())
             }
-            Self::Usage(words) | Self::InputOutput { words, .. } if json => {
-                let mut object = Object::new();
-                object.number("status", status).text("words", words);
-                if let Self::InputOutput { next, .. } = self {
-                    object.text("next", next);
-                }
-                object.line()
+            Self::Usage(words) if json => Self::usage_object(words, EXAMPLES),
+            Self::InputOutput { words, next } if json => {
+                Object::new().number("status", status).text("words", words).text("next", next).line()
             }
-            Self::Usage(words) => format!("wakeluri: {words}\n  `wakeluri --help` has examples\n"),
+            Self::Usage(words) => format!("wakeluri: {words}\n  {EXAMPLES}\n"),
             Self::InputOutput { words, next } => format!("wakeluri: {words}\n{}", indented(next)),
         }
     }

@@ -1,8 +1,10 @@
 //! What is wrong with a file or an index, in words, with its line and byte. The proved code has refused by then.
 
+use crate::advice;
 use crate::failure::{Failure, Refused};
 use crate::input::Input;
-use crate::place::{self, Line, commas, count, quoted};
+use crate::place::{self, Line, commas, count, short};
+use crate::warning::Warning;
 use wakeluri::{Record, Refusal, Table};
 
 /// A refusal about a line of a file, or about all of it.
@@ -21,6 +23,7 @@ fn refused(input: &Input, line: Option<Line>, what: &str, next: String, refusal:
 fn refused_definition(input: &Input, line: Line, offset: u64, refusal: Refusal) -> Failure {
     let file = input.bytes();
     let (what, next) = bad_definition(file, line, refusal.number);
+    let next = advice::or_anew(&next, input);
     let words = format!("{}, line {} (byte {}): {what}", input.shown, commas(line.number), commas(offset));
     let shown = place::pointed(file, line, usize::try_from(offset).unwrap_or(line.start), columns());
     let (file, place) = (input.shown.clone(), Some((line.number, offset)));
@@ -53,25 +56,27 @@ pub fn not_indexed(fasta: &Input, rows: &Table<'_>, refusal: Refusal) -> Failure
                 }
                 Some(_) => (
                     format!("the first line of {name} is blank, and the bases begin after it"),
-                    "take the blank line out, or leave out --strict".to_string(),
+                    advice::or_not_strict("take the blank line out", fasta),
                 ),
                 None => (
                     format!("{name} has no bases"),
-                    "take the record out, put its bases in, or leave out --strict".to_string(),
+                    advice::or_not_strict("take the record out, put its bases in", fasta),
                 ),
             }
         }
         (6 | 7, Some(definition)) => {
             let name = name_of(file, definition);
             at = place::uneven(file, definition).or(definition.into());
-            uneven(&name, refusal)
+            let (what, next) = uneven(&name, refusal);
+            (what, advice::or_not_strict(next, fasta))
         }
         (42, Some(definition)) => {
             let record = format!("{} (record {})", name_of(file, definition), commas(rows.len() as u64 + 1));
             let (line, what) =
                 no_index_fits(file, definition, &record, refusal).unwrap_or((definition, refusal.words()));
             at = Some(line);
-            (what, "no index can fit this file: wrap its bases anew, all lines of a record alike".to_string())
+            let next = "no index can fit this file: wrap its bases anew, all lines of a record alike";
+            (what, advice::or_anew(next, fasta))
         }
         (1, _) => (
             format!(
@@ -94,28 +99,27 @@ fn has_cr_inside(file: &[u8], line: Line) -> bool {
 }
 
 /// What is likely wrong with a file though it is taken: it has one record, without bases, whose definition line holds CR.
-pub fn lines_of_cr(fasta: &Input, rows: &Table<'_>) -> Option<String> {
+pub fn lines_of_cr<'f>(fasta: &'f Input, rows: &Table<'_>) -> Option<Warning<'f>> {
     let record = rows.records().next().filter(|record| rows.len() == 1 && record.length == 0)?;
     let line = place::lines(fasta.bytes(), 0, 1).next()?;
-    has_cr_inside(fasta.bytes(), line)
-        .then(|| format!("{}: {} has no bases: {CR_ALONE}\n  {LF_ENDS}", fasta.shown, quoted(record.name)))
+    has_cr_inside(fasta.bytes(), line).then(|| {
+        let words = format!("{}: {} has no bases: {CR_ALONE}", fasta.shown, short(record.name));
+        Warning { next: LF_ENDS.to_string(), ..Warning::new(&fasta.shown, words) }
+    })
 }
 
 /// A line that is not like those before it.
-fn uneven(name: &str, refusal: Refusal) -> (String, String) {
+fn uneven(name: &str, refusal: Refusal) -> (String, &'static str) {
     let (found, expected) = (refusal.first, refusal.second);
     match (refusal.number, found) {
-        (6, 0) => (
-            format!("this line of {name} is blank, and more of the record follows"),
-            "take the blank line out, or leave out --strict".to_string(),
-        ),
+        (6, 0) => (format!("this line of {name} is blank, and more of the record follows"), "take the blank line out"),
         (6, _) => (
             format!(
                 "this line of {name} has {}, and the lines before it have {}; only the last may have fewer, and none more",
                 count(found, "base"),
                 commas(expected)
             ),
-            "wrap the bases of the file anew, all lines alike, or leave out --strict".to_string(),
+            "wrap the bases of the file anew, all lines alike",
         ),
         _ => (
             format!(
@@ -123,7 +127,7 @@ fn uneven(name: &str, refusal: Refusal) -> (String, String) {
                 count(found, "byte"),
                 commas(expected)
             ),
-            "give all lines the same ends, LF alone or CR and LF, or leave out --strict".to_string(),
+            "give all lines the same ends, LF alone or CR and LF",
         ),
     }
 }
@@ -141,6 +145,10 @@ fn no_index_fits(file: &[u8], definition: Line, record: &str, refusal: Refusal) 
     let why = if byte > line.start {
         let (bases, first) = (count(line.bases as u64, "base"), commas(first.bases as u64));
         format!("this line has {bases}, and the first has {first}")
+    } else if let Some(blank) = blank_line(file, definition, [first, second], [before, line]) {
+        let short = (before.bases < first.bases)
+            .then(|| format!("; line {} has {}", commas(before.number), count(before.bases as u64, "base")));
+        blank + &short.unwrap_or_default()
     } else if before.bases < first.bases {
         let (number, bases) = (commas(before.number), count(before.bases as u64, "base"));
         format!(
@@ -159,7 +167,23 @@ fn no_index_fits(file: &[u8], definition: Line, record: &str, refusal: Refusal) 
     Some((line, words))
 }
 
-/// A line that should be a definition line.
+/// The blank line that is the fault, if one is: where more lines are blank, or fewer, than between a record's first two lines with bases.
+fn blank_line(file: &[u8], definition: Line, first: [Line; 2], last: [Line; 2]) -> Option<String> {
+    let between = |[from, to]: [Line; 2]| {
+        let lines = place::sequence(file, definition).skip_while(move |line| line.start <= from.start);
+        lines.take_while(move |line| line.start < to.start)
+    };
+    let (usual, here) = (between(first).count(), between(last).count());
+    let said = |count: usize| if count == 1 { "1 is".to_string() } else { format!("{count} are") };
+    if here > usual {
+        let number = commas(between(last).nth(usual)?.number);
+        let usual = if usual == 0 { "none is".to_string() } else { said(usual) };
+        return Some(format!("line {number} is blank, and bases follow it; behind the record's first line {usual}"));
+    }
+    let number = commas(between(first).next().filter(|_| here < usual)?.number);
+    Some(format!("line {number} is blank, and behind line {} {} not", commas(last[0].number), said(usual - here)))
+}
+
 /// A refusal to write a line anew, in words.
 pub fn not_wrapped(fasta: &Input, line: Line, refusal: Refusal) -> Failure {
     let file = fasta.bytes();
@@ -178,12 +202,25 @@ pub fn not_wrapped(fasta: &Input, line: Line, refusal: Refusal) -> Failure {
     refused(fasta, Some(line), &what, next, refusal)
 }
 
+/// A file that some program has packed, and how to unpack it.
+fn packed(program: &str, unpack: &str) -> (String, String) {
+    (
+        format!("this is a compressed file (of {program}), and FASTA text is needed"),
+        format!("unpack it first: `{unpack} FILE | wakeluri .. -`"),
+    )
+}
+
+/// A line that should be a definition line.
 fn bad_definition(file: &[u8], line: Line, number: u64) -> (String, String) {
     match (number, place::text(file, line)) {
         (3, [0x1f, 0x8b, ..]) => (
             "this is a compressed file, and FASTA text is needed".to_string(),
             "unpack it first: `gzip -dc FILE | wakeluri .. -`".to_string(),
         ),
+        (3, [b'B', b'Z', b'h', ..]) => packed("bzip2", "bzip2 -dc"),
+        (3, [0xfd, b'7', b'z', b'X', b'Z', ..]) => packed("xz", "xz -dc"),
+        (3, [0x28, 0xb5, 0x2f, 0xfd, ..]) => packed("zstd", "zstd -dc"),
+        (3, [b'P', b'K', 3, 4, ..]) => packed("zip", "unzip -p"),
         (3, [0xef, 0xbb, 0xbf, ..]) => (
             "three bytes that some editors put before a text (EF BB BF) stand before the first '>'".to_string(),
             "save the file as UTF-8 without a byte order mark".to_string(),
@@ -195,7 +232,7 @@ fn bad_definition(file: &[u8], line: Line, number: u64) -> (String, String) {
         (3, text) => {
             let shown = text.get(..text.len().min(20)).unwrap_or_default().trim_ascii_end();
             (
-                format!("a record begins with a line such as '>name', and here stands '{}'", quoted(shown)),
+                format!("a record begins with a line such as '>name', and here stands '{}'", short(shown)),
                 "is it a FASTA file?".to_string(),
             )
         }
@@ -213,7 +250,7 @@ fn bad_definition(file: &[u8], line: Line, number: u64) -> (String, String) {
 /// A record's name for messages.
 fn name_of(file: &[u8], definition: Line) -> String {
     match wakeluri::definition_line(place::text(file, definition)) {
-        Ok(definition) => quoted(definition.name),
+        Ok(definition) => short(definition.name),
         Err(_) => "the record".to_string(),
     }
 }
@@ -240,9 +277,26 @@ impl<'p> Pair<'p> {
 
     /// The record has another name.
     fn other_name(&self) -> String {
-        let said = self.said.map_or(String::new(), |said| quoted(said.name));
+        let said = self.said.map_or(String::new(), |said| short(said.name));
         let (number, file, name) = (commas(self.number), &self.fasta.shown, &self.name);
         format!("this line is about '{said}', and record {number} of {file} is '{name}'")
+    }
+
+    /// What is likely the cause where a line is missing: the record has the name of one before it.
+    fn twin(&self) -> String {
+        let file = self.fasta.bytes();
+        let name =
+            |line: Line| wakeluri::definition_line(place::text(file, line)).ok().map(|definition| definition.name);
+        let own = self.definition.and_then(name);
+        let is_definition = |line: &Line| line.start == 0 || file.get(line.start) == Some(&b'>');
+        let before = place::lines(file, 0, 1).filter(is_definition).take_while(|line| Some(*line) != self.definition);
+        match before.map(name).position(|name| name.is_some() && name == own) {
+            None => String::new(),
+            Some(first) => format!(
+                "; record {} has that name too, and samtools and others leave out the second record of a name",
+                commas(first as u64 + 1)
+            ),
+        }
     }
 
     /// The record has another length.
@@ -302,23 +356,24 @@ pub fn not_accepted(fasta: &Input, index: &Input, refusal: Refusal) -> Failure {
         19 => {
             let lines = count(place::lines(index.bytes(), 0, 1).count() as u64, "line");
             let number = commas(pair.number);
-            (None, format!("it ends after {lines}, and record {number} of {} is {}", fasta.shown, pair.name))
+            let twin = pair.twin();
+            (None, format!("it ends after {lines}, and record {number} of {} is {}{twin}", fasta.shown, pair.name))
         }
         20 => {
             let records = count(refusal.first, "record");
             let line = nth_line(index, refusal.first.saturating_add(1));
             (line, format!("it goes on here, and {} has {records}", fasta.shown))
         }
-        21 => (pair.line, pair.other_name()),
+        21 => (pair.line, pair.other_name() + &pair.twin()),
         22 => (pair.line, pair.other_length()),
         23 => (pair.line, pair.other_place(refusal.second)),
         _ => (pair.line, refusal.words()),
     };
-    refused(index, line, &what, format!("make the index again: `wakeluri index {}`", fasta.given()), refusal)
+    refused(index, line, &what, advice::new_index(fasta), refusal)
 }
 
 /// A refusal of an index text, in words.
-pub fn not_read(index: &Input, refusal: Refusal) -> Failure {
+pub fn not_read(fasta: &Input, index: &Input, refusal: Refusal) -> Failure {
     let line = nth_line(index, refusal.first).filter(|_| refusal.number != 1);
-    refused(index, line, &refusal.words(), "make the index again with `wakeluri index`".to_string(), refusal)
+    refused(index, line, &refusal.words(), advice::new_index(fasta), refusal)
 }

@@ -4,13 +4,16 @@
 //! read plainly. Both end clearly if the file changes meanwhile: a mapped file that gets shorter raises a signal, which is caught,
 //! and before anything is answered the file's size and times are held against those it was opened with.
 
+use crate::advice::word;
 use crate::apart::{Outputs, descriptor, opened};
 use crate::failure::Failure;
+use crate::place::quoted;
 use crate::progress::Progress;
 use memmap2::Mmap;
 use std::fs::{File, Metadata};
 use std::io::{self, ErrorKind, Read};
 use std::os::fd::AsFd;
+use std::os::unix::ffi::OsStrExt;
 use std::os::unix::fs::{FileTypeExt, MetadataExt};
 use std::path::Path;
 use std::sync::OnceLock;
@@ -73,7 +76,7 @@ pub fn is_placeless(path: &Path) -> bool {
 
 /// A path's name in messages.
 pub fn shown(path: &Path) -> String {
-    if is_standard(path) { "standard input".to_string() } else { path.display().to_string() }
+    if is_standard(path) { "standard input".to_string() } else { quoted(path.as_os_str().as_bytes()) }
 }
 
 fn changed(file: &str) -> Failure {
@@ -136,8 +139,8 @@ impl Input {
     }
 
     /// The file as a word of a command.
-    pub fn given(&self) -> &str {
-        if self.standard { "-" } else { &self.shown }
+    pub fn given(&self) -> String {
+        if self.standard { "-".to_string() } else { word(&self.shown) }
     }
 
     /// Fails if it is one of some outputs by now.

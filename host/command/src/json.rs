@@ -40,7 +40,7 @@ impl Object {
             match letter {
                 '"' => out.push_str("\\\""),
                 '\\' => out.push_str("\\\\"),
-                control if u32::from(control) < 32 => {
+                control if control.is_control() => {
                     let _ = write!(out, "\\u{:04x}", u32::from(control));
                 }
                 other => out.push(other),

@@ -1,12 +1,14 @@
 //! `wakeluri`: index, check and read FASTA files. Every answer comes from the proved library; what is here opens files, reads
 //! regions as people write them, and says in words what was refused and where.
 
+mod advice;
 mod apart;
 mod arguments;
 mod failure;
 mod faults;
 mod input;
 mod json;
+mod letters;
 mod list;
 mod names;
 mod narrow;
@@ -17,7 +19,11 @@ mod primer;
 mod progress;
 mod read;
 mod region;
+mod sheet;
+mod twins;
 mod unusual;
+mod usage;
+mod warning;
 mod work;
 mod wrap;
 
@@ -26,11 +32,13 @@ use clap::ArgMatches;
 use failure::{Failure, Refused};
 use input::{How, Input, is_placeless, is_standard};
 use json::Object;
+use letters::Odd;
 use narrow::Narrow;
 use output::{Answers, Output};
 use place::count;
 use primer::{Primer, counted};
-use read::{Asked, Form, Source, Turn};
+use read::{AllAsked, Asked, Form, Source, Turn};
+use sheet::Sheet;
 use std::ffi::OsString;
 use std::io::Write;
 use std::os::unix::ffi::OsStrExt;
@@ -38,6 +46,7 @@ use std::path::{Path, PathBuf};
 use std::process::ExitCode;
 use unusual::Unusual;
 use wakeluri::Table;
+use warning::Warning;
 use work::Rule;
 use wrap::Wrapping;
 
@@ -61,12 +70,17 @@ fn main() -> ExitCode {
     unsafe {
         libc::signal(libc::SIGXFSZ, libc::SIG_IGN);
     }
-    let matches = arguments::command().get_matches();
+    let given: Vec<OsString> = std::env::args_os().collect();
+    let matches = match usage::understood(&given) {
+        Ok(matches) => matches,
+        Err(status) => return status,
+    };
     let how = match matches.get_one::<String>("input").map(String::as_str) {
         Some("map") => How::Map,
         Some("read") => How::Read,
         _ => How::Auto,
     };
+    warning::be_quiet(matches.get_flag("quiet"));
     let common = Common { how, json: matches.get_flag("json"), outputs: Outputs::standard() };
     let answered = match matches.subcommand() {
         Some(("index", words)) => index(words, common),
@@ -83,7 +97,8 @@ fn main() -> ExitCode {
     match answered {
         Ok(()) => ExitCode::SUCCESS,
         Err(failure) => {
-            let _ = std::io::stderr().write_all(failure.told(common.json).as_bytes());
+            let told = failure.told(common.json);
+            let _ = std::io::stderr().write_all(if common.json { told } else { place::seen(&told) }.as_bytes());
             ExitCode::from(failure.status())
         }
     }
@@ -93,9 +108,45 @@ fn path<'m>(words: &'m ArgMatches, name: &str) -> Option<&'m Path> {
     words.get_one::<PathBuf>(name).map(PathBuf::as_path)
 }
 
+/// The index of `check` and `index`, behind the file or by a word of its own.
+fn named_index(words: &ArgMatches, is_written: bool) -> Result<Option<&Path>, Failure> {
+    let (behind, by_word) = (path(words, "index"), path(words, "index-option"));
+    if behind.is_some() && by_word.is_some() {
+        return Err(Failure::Usage("two indexes are named, and one is needed".to_string()));
+    }
+    // what is written to is not guessed
+    let is_index = |path: &Path| path.extension().is_some_and(|end| end == "fai");
+    match behind {
+        Some(path) if is_written && !is_index(path) => {
+            let shown = input::shown(path);
+            Err(Failure::Usage(format!("to write the index to {shown}, say --output: its name doesn't end in .fai")))
+        }
+        _ => Ok(behind.or(by_word)),
+    }
+}
+
+/// The index of a read, by a word of its own or before the regions.
+fn read_index(words: &ArgMatches) -> Option<&Path> {
+    path(words, "index-option").or_else(|| index_before_regions(words))
+}
+
+/// A file of that name that stands before the regions and ends in .fai is an index; a record of that name is written in braces.
+fn index_before_regions(words: &ArgMatches) -> Option<&Path> {
+    if path(words, "index-option").is_some() {
+        return None;
+    }
+    let first = words.get_many::<OsString>("region").and_then(|mut regions| regions.next()).map(Path::new)?;
+    (first.extension().is_some_and(|end| end == "fai") && first.is_file()).then_some(first)
+}
+
 /// The rule that a file without an index is indexed by.
 fn rule(words: &ArgMatches) -> Rule {
     if words.get_flag("strict") { Rule::Strict } else { Rule::Complete }
+}
+
+/// Whether the answer is RNA; `read` has no such word.
+fn rna(words: &ArgMatches) -> bool {
+    words.try_get_one::<bool>("rna").ok().flatten().copied().unwrap_or(false)
 }
 
 /// FILE.fai.
@@ -107,7 +158,8 @@ fn index_of(file: &Path) -> PathBuf {
 
 fn index(words: &ArgMatches, common: Common) -> Result<(), Failure> {
     let file = path(words, "file").unwrap_or(Path::new("-"));
-    let output = match path(words, "output") {
+    let named = named_index(words, true)?;
+    let output = match path(words, "output").or(named) {
         Some(output) => Output::of(output)?,
         None if is_placeless(file) => Output::Standard,
         None => Output::of(&index_of(file))?,
@@ -134,6 +186,8 @@ fn index(words: &ArgMatches, common: Common) -> Result<(), Failure> {
             sheet: None,
         }))
     })?;
+    Odd::of_file(fasta.bytes()).tell(&fasta, words.get_flag("strict"))?;
+    twins::warn(&fasta, &rows);
     let unusual = Unusual::of(fasta.bytes(), &rows);
     fasta.unchanged()?;
     // by now the name may lead elsewhere
@@ -141,17 +195,17 @@ fn index(words: &ArgMatches, common: Common) -> Result<(), Failure> {
     output.write(&text)?;
     let Some(place) = output.path() else { return Ok(()) };
     let (records, bases) = (rows.len() as u64, rows.records().map(|record| record.length).sum());
-    let shown = place.display().to_string();
+    let shown = place::quoted(place.as_os_str().as_bytes());
     if common.json {
         let mut object = Object::new();
         object.text("file", &fasta.shown).text("index", &shown).number("records", records).number("bases", bases);
         object
             .number("records_with_blank_lines", unusual.blank_lines)
             .number("records_without_bases", unusual.no_bases);
-        return write(object.line().as_bytes());
+        return report(object.line().as_bytes());
     }
     let records = format!("{}{}", count(records, "record"), unusual.told());
-    write(format!("{shown}: {records}, {}\n", count(bases, "base")).as_bytes())
+    report(format!("{shown}: {records}, {}\n", count(bases, "base")).as_bytes())
 }
 
 fn list(words: &ArgMatches, common: Common) -> Result<(), Failure> {
@@ -169,9 +223,17 @@ fn wrap(words: &ArgMatches, common: Common) -> Result<(), Failure> {
         return Err(Failure::Usage("a line of no bases can't be written: --width is 1 at least".to_string()));
     }
     let output = path(words, "output").map_or(Ok(Output::Standard), Output::of)?;
+    if common.json && output.is_standard() {
+        return Err(Failure::Usage(
+            "the new file itself is written to standard output: --json needs --output OUT".to_string(),
+        ));
+    }
     let index = match output.path() {
-        _ if !words.get_flag("index") => None,
-        Some(place) => Some(Output::of(&index_of(place))?),
+        _ if !words.contains_id("index") => None,
+        Some(place) => {
+            let named = words.get_one::<OsString>("index").filter(|named| !named.is_empty());
+            Some(Output::of(&named.map_or_else(|| index_of(place), PathBuf::from))?)
+        }
         None => return Err(Failure::Usage("--index needs --output OUT: the index is written to OUT.fai".to_string())),
     };
     let outputs = || {
@@ -181,22 +243,28 @@ fn wrap(words: &ArgMatches, common: Common) -> Result<(), Failure> {
     let fasta = Input::open(file, common.how, common.json, &outputs())?;
     output.free_for_fasta()?;
     index.as_ref().map_or(Ok(()), Output::free)?;
-    let wrap::Size { records, bases } = Wrapping { fasta: &fasta, width }.write(&output, index.as_ref())?;
+    let repair = words.get_flag("repair");
+    let size = Wrapping { fasta: &fasta, width, repair }.write(&output, index.as_ref())?;
+    let wrap::Size { records, bases, mended } = size;
     let Some(place) = output.path() else { return Ok(()) };
-    let shown = place.display().to_string();
+    let shown = place::quoted(place.as_os_str().as_bytes());
     if common.json {
         let mut object = Object::new();
         object.text("file", &fasta.shown).text("output", &shown).number("width", width);
         object.number("records", records).number("bases", bases);
-        return write(object.line().as_bytes());
+        if repair {
+            object.number("records_mended", mended);
+        }
+        return report(object.line().as_bytes());
     }
     let (records, bases) = (count(records, "record"), count(bases, "base"));
-    write(format!("{shown}: {records}, {bases}, in lines of {}\n", place::commas(width)).as_bytes())
+    let mended = if mended > 0 { format!(" ({} mended)", place::commas(mended)) } else { String::new() };
+    report(format!("{shown}: {records}{mended}, {bases}, in lines of {}\n", place::commas(width)).as_bytes())
 }
 
 fn check(words: &ArgMatches, common: Common) -> Result<(), Failure> {
     let file = path(words, "file").unwrap_or(Path::new("-"));
-    let index = match path(words, "index") {
+    let index = match named_index(words, false)? {
         Some(index) => index.to_path_buf(),
         None if is_placeless(file) => {
             let words = format!("name the index that {} is to be checked with", input::shown(file));
@@ -210,24 +278,28 @@ fn check(words: &ArgMatches, common: Common) -> Result<(), Failure> {
     let fasta = common.open(file, common.how)?;
     let index = open_index(&index, file, common)?;
     work::check(&fasta, &index)?;
+    Odd::of_file(fasta.bytes()).tell(&fasta, words.get_flag("strict"))?;
     fasta.unchanged()?;
-    let rows = work::read_index(&index)?;
+    let rows = work::read_index(&fasta, &index)?;
+    twins::warn(&fasta, &rows);
     let (records, bases) = (rows.len() as u64, rows.records().map(|record| record.length).sum());
     if common.json {
         let mut object = Object::new();
         object.truth("accepted", true).text("file", &fasta.shown).text("index", &index.shown);
         object.number("records", records).number("bases", bases);
-        return write(object.line().as_bytes());
+        return report(object.line().as_bytes());
     }
     let (records, bases) = (count(records, "record"), count(bases, "base"));
-    write(format!("accepted: {} leads to every base of {} ({records}, {bases})\n", index.shown, fasta.shown).as_bytes())
+    report(
+        format!("accepted: {} leads to every base of {} ({records}, {bases})\n", index.shown, fasta.shown).as_bytes(),
+    )
 }
 
 /// The index, read plainly; where there is none, the message says how to make one.
 fn open_index(index: &Path, file: &Path, common: Common) -> Result<Input, Failure> {
     match common.open(index, How::Read) {
         Err(Failure::InputOutput { words, .. }) if !is_standard(index) && !index.exists() => {
-            let next = format!("make the index with `wakeluri index {}`", file.display());
+            let next = format!("make the index with `wakeluri index {}`", advice::word(&input::shown(file)));
             Err(Failure::InputOutput { words, next })
         }
         opened => opened,
@@ -238,13 +310,16 @@ fn read(words: &ArgMatches, turn: Turn, common: Common) -> Result<(), Failure> {
     let file = path(words, "file").unwrap_or(Path::new("-"));
     let sheet = open_sheet(words, file, common)?;
     let asked = asked(words, sheet.as_ref())?;
+    if asked.is_empty() {
+        return Err(Failure::Usage("no region is named: name one behind the index".to_string()));
+    }
     let fasta = common.open(file, common.how)?;
     answer(words, file, &fasta, asked, turn, common)
 }
 
 /// The index that is named, or the one beside the file, if there is one.
 fn index_beside(words: &ArgMatches, file: &Path, common: Common) -> Result<Option<Input>, Failure> {
-    match path(words, "index") {
+    match read_index(words) {
         Some(index) => open_index(index, file, common).map(Some),
         None if is_placeless(file) || !index_of(file).exists() => Ok(None),
         None => open_index(&index_of(file), file, common).map(Some),
@@ -253,13 +328,13 @@ fn index_beside(words: &ArgMatches, file: &Path, common: Common) -> Result<Optio
 
 fn warn_of_unchecked(index: &Input, fasta: &Input) {
     let (index, fasta) = (&index.shown, &fasta.shown);
-    let told = format!("{index} was not checked with {fasta}: if it is wrong, so are the bases");
-    let _ = writeln!(std::io::stderr(), "wakeluri: warning: {told}");
+    let words = format!("{index} was not checked with {fasta}: if it is wrong, so are the bases");
+    Warning::new(index, words).say();
 }
 
 /// Every record, where none is asked for.
-fn all_records<'a>(rows: &Table<'a>) -> Vec<Asked<'a>> {
-    let whole = |(row, text)| Asked { text, sheet: None, row: Some(row) };
+fn all_records<'a>(rows: &Table<'a>) -> AllAsked<'a> {
+    let whole = |(row, text)| Ok(Asked { row: Some(row), ..Asked::of(text) });
     rows.rows().zip(rows.records().map(|record| record.name)).map(whole).collect()
 }
 
@@ -268,18 +343,18 @@ fn answer(
     words: &ArgMatches,
     file: &Path,
     fasta: &Input,
-    asked: Vec<Asked<'_>>,
+    asked: AllAsked<'_>,
     turn: Turn,
     common: Common,
 ) -> Result<(), Failure> {
     let index = index_beside(words, file, common)?;
     let width = words.get_one::<usize>("width").copied().unwrap_or(60);
-    let form = Form { turn, width, json: common.json };
+    let form = Form { turn, width, json: common.json, strict: words.get_flag("strict"), rna: rna(words) };
     let rows = match &index {
         None => work::index(fasta, rule(words))?,
         Some(index) if words.get_flag("unchecked") => {
             warn_of_unchecked(index, fasta);
-            work::read_index(index)?
+            work::read_index(fasta, index)?
         }
         Some(index) => {
             work::check(fasta, index)?;
@@ -287,17 +362,17 @@ fn answer(
             if let Some(answered) = narrow.and_then(|narrow| narrow.answer(fasta, &asked, form)) {
                 return answered;
             }
-            work::read_index(index)?
+            work::read_index(fasta, index)?
         }
     };
     let asked = if asked.is_empty() { all_records(&rows) } else { asked };
     let source = Source { fasta, rows: &rows, numbers: None };
-    source.give(&source.regions(&asked)?, form)
+    source.give(&source.regions(asked)?, form)
 }
 
 /// The sheet of regions, if there is one.
-fn open_sheet(words: &ArgMatches, file: &Path, common: Common) -> Result<Option<Input>, Failure> {
-    let (sheet, index) = (path(words, "regions"), path(words, "index"));
+fn open_sheet(words: &ArgMatches, file: &Path, common: Common) -> Result<Option<Sheet>, Failure> {
+    let (sheet, index) = (path(words, "regions"), read_index(words));
     for (one, two, what) in [
         (Some(file), sheet, "the file and the sheet"),
         (Some(file), index, "the file and its index"),
@@ -307,25 +382,25 @@ fn open_sheet(words: &ArgMatches, file: &Path, common: Common) -> Result<Option<
             return Err(Failure::Usage(format!("{what} can't both come from standard input")));
         }
     }
-    sheet.map(|sheet| common.open(sheet, How::Read)).transpose()
+    if sheet.is_none() && words.get_flag("bed") {
+        return Err(Failure::Usage("--bed is said of a sheet: name it with --regions SHEET".to_string()));
+    }
+    let open = |sheet| {
+        let input = common.open(sheet, How::Read)?;
+        Sheet::new(&input.shown, input.bytes(), words.get_flag("bed"))
+    };
+    sheet.map(open).transpose()
 }
 
 /// The regions that are asked for, one by one and in a sheet.
-fn asked<'a>(words: &'a ArgMatches, sheet: Option<&'a Input>) -> Result<Vec<Asked<'a>>, Failure> {
+fn asked<'a>(words: &'a ArgMatches, sheet: Option<&'a Sheet>) -> Result<AllAsked<'a>, Failure> {
     let regions = words.get_many::<OsString>("region").unwrap_or_default();
-    let mut asked: Vec<Asked<'_>> =
-        regions.map(|region| Asked { text: region.as_bytes(), sheet: None, row: None }).collect();
+    let regions = regions.skip(usize::from(index_before_regions(words).is_some()));
+    let mut asked: AllAsked<'_> = regions.map(|region| Ok(Asked::of(region.as_bytes()))).collect();
     if let Some(sheet) = sheet {
-        // three bytes that some editors put before a text are no part of its first region
-        let text = sheet.bytes().strip_prefix(b"\xef\xbb\xbf").unwrap_or(sheet.bytes());
-        for (line, number) in text.split(|byte| *byte == b'\n').zip(1..) {
-            let text = line.trim_ascii();
-            if !text.is_empty() {
-                asked.push(Asked { text, sheet: Some((&sheet.shown, number)), row: None });
-            }
-        }
+        asked.extend(sheet.asked());
         if asked.is_empty() {
-            return Err(Failure::Usage(format!("{}: there is no region in it", sheet.shown)));
+            return Err(Failure::Usage(format!("{}: there is no region in it", sheet.shown())));
         }
     }
     Ok(asked)
@@ -336,11 +411,16 @@ fn complement(words: &ArgMatches, turn: Turn, common: Common) -> Result<(), Fail
     let sheet = open_sheet(words, file, common)?;
     let asked = asked(words, sheet.as_ref())?;
     let fasta = common.open(file, common.how)?;
-    if !asked.is_empty() || fasta.bytes().first() == Some(&b'>') {
+    let is_fasta = matches!(fasta.bytes(), [b'>', ..] | [0xef, 0xbb, 0xbf, b'>', ..]);
+    if !asked.is_empty() || is_fasta {
         return answer(words, file, &fasta, asked, turn, common);
     }
     // bases without a definition line
     let text = fasta.bytes();
+    if text.is_empty() {
+        work::warn_of_nothing(&fasta);
+        return Ok(());
+    }
     let lines: Vec<&[u8]> = text.strip_suffix(b"\n").unwrap_or(text).split(|byte| *byte == b'\n').collect();
     let lines: Vec<&[u8]> = lines.into_iter().map(|line| line.strip_suffix(b"\r").unwrap_or(line)).collect();
     let sequences = if words.get_flag("joined") {
@@ -356,7 +436,7 @@ fn complement(words: &ArgMatches, turn: Turn, common: Common) -> Result<(), Fail
     };
     let mut answer = vec![];
     for (line, bases) in sequences {
-        let turned = turn.turned(bases).map_err(|refusal| {
+        let turned = turn.turned(bases).map(|bases| letters::of_rna(bases, rna(words))).map_err(|refusal| {
             let words = format!("{}, line {line}: {}", fasta.shown, refusal.words());
             let next = "the letters that have one are ACGTU and MRWSYKVHDBN, small ones too".to_string();
             let place = None;
@@ -405,24 +485,32 @@ fn primer(words: &ArgMatches, common: Common) -> Result<(), Failure> {
         None => work::index(&fasta, rule(words))?,
         Some(index) if words.get_flag("unchecked") => {
             warn_of_unchecked(index, &fasta);
-            work::read_index(index)?
+            work::read_index(&fasta, index)?
         }
         Some(index) => {
             work::check(&fasta, index)?;
-            work::read_index(index)?
+            work::read_index(&fasta, index)?
         }
     };
     let asked = if asked.is_empty() { all_records(&rows) } else { asked };
     let source = Source { fasta: &fasta, rows: &rows, numbers: None };
-    source.find(&source.regions(&asked)?, &primer, form)
+    source.find(&source.regions(asked)?, &primer, form)
 }
 
 fn completions(words: &ArgMatches) -> Result<(), Failure> {
+    if warning::in_json() {
+        return Err(Failure::Usage("completions are a script for a shell: leave out --json".to_string()));
+    }
     let mut text = vec![];
     if let Some(shell) = words.get_one::<clap_complete::Shell>("shell") {
         clap_complete::generate(*shell, &mut arguments::command(), "wakeluri", &mut text);
     }
     write(&text)
+}
+
+/// A summary of what was done, if somebody wants it.
+fn report(text: &[u8]) -> Result<(), Failure> {
+    if warning::is_quiet() { Ok(()) } else { write(text) }
 }
 
 fn write(text: &[u8]) -> Result<(), Failure> {

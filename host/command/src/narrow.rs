@@ -9,8 +9,7 @@
 use crate::failure::Failure;
 use crate::input::Input;
 use crate::names::Sieve;
-use crate::read::{Asked, Form, Source};
-use crate::region::readings;
+use crate::read::{AllAsked, Form, Source};
 
 /// An index is long from so many bytes on.
 const LONG: usize = 1 << 16;
@@ -25,12 +24,16 @@ pub struct Narrow {
 
 impl Narrow {
     /// The lines that some regions ask for; none where it is as quick to read them all.
-    pub fn of(index: &Input, asked: &[Asked<'_>]) -> Option<Self> {
+    pub fn of(index: &Input, asked: &AllAsked<'_>) -> Option<Self> {
         let text = index.bytes();
         if text.len() < LONG || asked.is_empty() || asked.len() > text.len() / 64 {
             return None;
         }
-        let wanted = asked.iter().flat_map(|asked| readings(asked.text).map(|reading| reading.name));
+        // what is wrong is told with all names at hand
+        if asked.iter().any(Result::is_err) {
+            return None;
+        }
+        let wanted = asked.iter().flatten().flat_map(|asked| asked.names());
         Some(Self::of_names(text, &Sieve::new(wanted)))
     }
 
@@ -50,9 +53,10 @@ impl Narrow {
     }
 
     /// The answer to all regions; none where one can't be answered with these lines alone.
-    pub fn answer(&self, fasta: &Input, asked: &[Asked<'_>], form: Form) -> Option<Result<(), Failure>> {
+    pub fn answer(&self, fasta: &Input, asked: &AllAsked<'_>, form: Form) -> Option<Result<(), Failure>> {
         let rows = wakeluri::read_index(&self.text).ok()?;
         let source = Source { fasta, rows: &rows, numbers: Some(&self.numbers) };
+        let asked = asked.iter().flatten().copied().map(Ok).collect();
         let regions = source.regions(asked).ok()?;
         Some(source.give(&regions, form))
     }

@@ -2,12 +2,13 @@
 
 use crate::apart::{descriptor, folder, led_to};
 use crate::failure::Failure;
+use crate::place::quoted;
 use std::ffi::CString;
 use std::fs::{self, File, OpenOptions};
 use std::io::{self, Read, Write};
 use std::os::fd::{AsRawFd, FromRawFd, RawFd};
 use std::os::unix::ffi::OsStrExt;
-use std::os::unix::fs::{FileTypeExt, OpenOptionsExt};
+use std::os::unix::fs::{FileTypeExt, MetadataExt, OpenOptionsExt, chown};
 use std::path::{Path, PathBuf};
 
 /// Standard output, for everything at once.
@@ -135,13 +136,13 @@ impl Output {
             let mut to = io::BufWriter::with_capacity(1 << 16, file);
             fill(&mut to).and_then(|()| to.flush())
         });
-        let shown = self.path().map(|path| path.display().to_string()).unwrap_or_default();
+        let shown = self.path().map(|path| quoted(path.as_os_str().as_bytes())).unwrap_or_default();
         written.map_err(|error| Failure::system("it can't be written", &shown, &error, ""))
     }
 }
 
 fn no_place(path: &Path, what: &str, next: &str) -> Failure {
-    let words = format!("{}: this is a {what}", path.display());
+    let words = format!("{}: this is a {what}", quoted(path.as_os_str().as_bytes()));
     Failure::InputOutput { words, next: format!("{next} with --output") }
 }
 
@@ -172,10 +173,13 @@ fn other_than_index(path: &Path) -> Option<&'static str> {
 
 /// Writes a file so that its place holds the old one or the whole new one, whenever this is stopped.
 fn replace(path: &Path, what: &str, fill: Fill<'_>) -> Result<(), Failure> {
-    let shown = path.display().to_string();
+    let shown = quoted(path.as_os_str().as_bytes());
     // where a link leads, the file itself is replaced
     let place = led_to(path).map_err(|error| Failure::system("it can't be written", &shown, &error, ""))?;
     let written = write_beside(&place, fill).and_then(|beside| {
+        if let Ok(old) = fs::metadata(&place) {
+            as_the_old(&beside, &old);
+        }
         fs::rename(&beside, &place).inspect_err(|_| {
             let _ = fs::remove_file(&beside);
         })
@@ -201,6 +205,17 @@ fn replace(path: &Path, what: &str, fill: Fill<'_>) -> Result<(), Failure> {
         let _ = folder.sync_all();
     }
     Ok(())
+}
+
+/// Gives a new file the owner, the group and the mode of the one whose place it takes, as far as one may.
+fn as_the_old(new: &Path, old: &fs::Metadata) {
+    let own = fs::metadata(new);
+    let is_other = |own: fs::Metadata| (own.uid(), own.gid()) != (old.uid(), old.gid());
+    if own.is_ok_and(is_other) && chown(new, Some(old.uid()), Some(old.gid())).is_err() {
+        let _ = chown(new, None, Some(old.gid()));
+    }
+    // last, since a new owner takes bits away
+    let _ = fs::set_permissions(new, old.permissions());
 }
 
 /// So many names are tried for a file beside its place.

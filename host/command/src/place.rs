@@ -126,8 +126,36 @@ pub fn said([position, line_bases, line_width]: [u64; 3], base: u64) -> Option<u
 /// A name or some bytes in a message: letters as they are, all else escaped.
 pub fn quoted(bytes: &[u8]) -> String {
     match std::str::from_utf8(bytes) {
-        Ok(text) if !text.chars().any(char::is_control) => text.to_string(),
+        Ok(text) if !text.chars().any(is_unseen) => text.to_string(),
         _ => bytes.escape_ascii().to_string(),
+    }
+}
+
+/// Whether a letter is none that is seen, but changes how others are: a control byte, or a mark that turns or joins text.
+fn is_unseen(letter: char) -> bool {
+    let mark =
+        matches!(letter, '\u{200b}'..='\u{200f}' | '\u{2028}'..='\u{202e}' | '\u{2060}'..='\u{2069}' | '\u{feff}');
+    letter.is_control() || mark
+}
+
+/// A message, whose lines end in LF, without other letters that are not seen.
+pub fn seen(text: &str) -> String {
+    let escaped = |letter: char| letter.escape_default().collect::<String>();
+    text.chars()
+        .map(|letter| if letter != '\n' && is_unseen(letter) { escaped(letter) } else { letter.into() })
+        .collect()
+}
+
+/// A name or some bytes in a message, of which a person sees the start where they are long.
+pub fn short(bytes: &[u8]) -> String {
+    const SHOWN: usize = 100;
+    let all = quoted(bytes);
+    match all.char_indices().nth(SHOWN) {
+        None => all,
+        Some(_) => {
+            let start: String = all.chars().take(SHOWN * 3 / 4).collect();
+            format!("{start}.. ({})", count(bytes.len() as u64, "byte"))
+        }
     }
 }
 

@@ -99,7 +99,8 @@ fn not_taken(letters: &[u8], refusal: Refusal) -> Failure {
         _ => (format!("the primer '{shown}': {}", refusal.words()), String::new()),
     };
     let file = String::new();
-    Failure::Refused(Box::new(Refused { words, next, refusal, file, place: None, region: None, sheet: None }))
+    let shown = String::new();
+    Failure::Refused(Box::new(Refused { words, shown, next, refusal, file, place: None, region: None, sheet: None }))
 }
 
 /// How many sequences a primer stands for.

@@ -1,14 +1,16 @@
 //! Regions of a file, as they are, complemented or reversed and complemented.
 
-use crate::failure::{Failure, Refused};
+use crate::advice;
+use crate::failure::{Failure, Refused, Unreadable};
 use crate::input::Input;
 use crate::json::Object;
+use crate::letters::{Odd, of_rna};
 use crate::names::wanted_names;
 use crate::nearest::nearest;
 use crate::output::{Answers, failed};
-use crate::place::{commas, count, quoted};
+use crate::place::{commas, count, quoted, short};
 use crate::region::{Meaning, Number, Reading, Written, is_before_a_colon, meaning, plain_form, readings};
-use std::io::Write;
+use crate::warning::Warning;
 use std::ops::Range;
 use wakeluri::{Bounds, Call, Names, Refusal, Row, Table, Writer};
 
@@ -61,6 +63,51 @@ pub struct Asked<'a> {
     pub sheet: Option<(&'a str, u64)>,
     /// The row, where a record is meant and not a region in words.
     pub row: Option<Row>,
+    /// The name and the bases, where they stand apart.
+    pub named: Option<Named<'a>>,
+    /// What a sheet says behind the region.
+    pub label: Option<&'a [u8]>,
+}
+
+/// Bases of a name.
+#[derive(Clone, Copy, Debug)]
+pub struct Named<'a> {
+    /// The name, and nothing else.
+    pub name: &'a [u8],
+    /// The first base, counted from 1.
+    pub start: u64,
+    /// The last base.
+    pub end: u64,
+}
+
+/// Regions that are asked for, and why others can't be.
+pub type AllAsked<'a> = Vec<Result<Asked<'a>, Failure>>;
+
+/// Of so many regions that are refused it is looked for what may have been meant.
+const LOOKED_FOR: usize = 20;
+
+impl<'a> Asked<'a> {
+    /// A region in words.
+    pub fn of(text: &'a [u8]) -> Self {
+        Self { text, sheet: None, row: None, named: None, label: None }
+    }
+
+    /// The names that it may mean.
+    pub fn names(&self) -> impl Iterator<Item = &'a [u8]> + Clone + use<'a> {
+        let (of_words, of_name) = match (self.row, self.named) {
+            (Some(_), _) => (None, None),
+            (_, Some(named)) => (None, Some(named.name)),
+            (None, None) => (Some(self.text), None),
+        };
+        let of_words = of_words.into_iter().chain(self.second());
+        of_words.flat_map(readings).map(|reading| reading.name).chain(of_name)
+    }
+
+    /// What stands behind the region and may be one too.
+    fn second(&self) -> Option<&'a [u8]> {
+        let label = self.label.filter(|_| self.named.is_none())?;
+        label.split(u8::is_ascii_whitespace).next()
+    }
 }
 
 /// A region that is known to be good.
@@ -102,12 +149,21 @@ pub struct Form {
     pub width: usize,
     /// As JSON.
     pub json: bool,
+    /// U is written for the complement of A.
+    pub rna: bool,
+    /// Bytes that are no letters are refused.
+    pub strict: bool,
 }
 
 impl Source<'_> {
-    fn refused(self, asked: Asked<'_>, what: String, next: String, refusal: Refusal) -> Failure {
+    /// What was asked for, where, and what is wrong with it.
+    fn words(self, asked: Asked<'_>, what: &str) -> String {
         let whence = asked.sheet.map_or(String::new(), |(sheet, line)| format!("{sheet}, line {line}: "));
-        let words = format!("{whence}{}: {} was asked for, and {what}", self.fasta.shown, quoted(asked.text));
+        format!("{whence}{}: {} was asked for, and {what}", self.fasta.shown, short(asked.text))
+    }
+
+    fn refused(self, asked: Asked<'_>, what: String, next: String, refusal: Refusal) -> Failure {
+        let words = self.words(asked, &what);
         let file = self.fasta.shown.clone();
         let region = Some(quoted(asked.text));
         let sheet = asked.sheet.map(|(sheet, line)| (sheet.to_string(), line));
@@ -124,18 +180,25 @@ impl Source<'_> {
     }
 
     /// A region's row and bounds, or why it isn't good.
-    fn resolve<'a>(self, asked: Asked<'a>, names: &Names<'_, '_>) -> Result<Region<'a>, Failure> {
+    fn resolve<'a>(self, asked: Asked<'a>, names: &Names<'_, '_>, look: bool) -> Result<Region<'a>, Failure> {
         let no = |number, first| Refusal { number, first, second: 0, call: Call::ReadExact };
-        let meaning = match asked.row {
-            Some(row) => Meaning::Row(row, Written::default()),
-            None => meaning(asked.text, |name| names.get(name)),
+        let meaning = match (asked.row, asked.named) {
+            (Some(row), _) => Meaning::Row(row, Written::default()),
+            (_, Some(Named { name, start, end })) => {
+                let written = || Written::of(format!("{start}-{end}").as_bytes()).unwrap_or_default();
+                names.get(name).map_or(Meaning::NoName(name), |row| Meaning::Row(row, written()))
+            }
+            (None, None) => meaning_of(asked.text, names),
         };
         let (row, written) = match meaning {
             Meaning::Row(row, written) => (row, written),
-            Meaning::NoName(name) => return Err(self.no_name(asked, name, no(15, 0))),
-            Meaning::Bounds(row, why) => return Err(self.no_bounds(asked, row, &why, no(15, 0))),
+            Meaning::NoName(name) => return Err(self.no_name(asked, name, no(15, 0), look)),
+            Meaning::Bounds(row, why) => return Err(self.no_bounds(asked, row, &why)),
             Meaning::Several(ways) => return Err(self.several(asked, &ways, no(15, 0))),
         };
+        if asked.second().is_some_and(|second| !matches!(meaning_of(second, names), Meaning::NoName(_))) {
+            return Err(self.two_in_a_line(asked));
+        }
         let length = self.rows.record(row).map_or(0, |record| record.length);
         // of all records, one without bases is none the less one of them
         if asked.row.is_some() && length == 0 {
@@ -162,17 +225,37 @@ impl Source<'_> {
     }
 
     /// What follows a record's name is no region of it.
-    fn no_bounds(self, asked: Asked<'_>, row: Row, why: &str, refusal: Refusal) -> Failure {
-        let name = self.rows.record(row).map_or(String::new(), |record| quoted(record.name));
+    fn no_bounds(self, asked: Asked<'_>, row: Row, why: &str) -> Failure {
+        let name = self.rows.record(row).map_or(String::new(), |record| short(record.name));
         let what = format!("there is a record {name}, and what follows is no region of it: {why}");
-        self.refused(asked, what, format!("write it as {name}:5-9"), refusal)
+        self.unreadable(asked, &what, format!("write it as {name}:5-9"))
+    }
+
+    /// What stands behind a region is one too.
+    fn two_in_a_line(self, asked: Asked<'_>) -> Failure {
+        let what = format!("behind it stands '{}', which is a record too", short(asked.second().unwrap_or_default()));
+        self.unreadable(
+            asked,
+            &what,
+            "write each region in a line of its own, and labels that are no names".to_string(),
+        )
+    }
+
+    fn unreadable(self, asked: Asked<'_>, what: &str, next: String) -> Failure {
+        Failure::Unreadable(Box::new(Unreadable {
+            words: self.words(asked, what),
+            next,
+            file: Some(self.fasta.shown.clone()),
+            region: asked.text.to_vec(),
+            sheet: asked.sheet.map(|(sheet, line)| (sheet.to_string(), line)),
+        }))
     }
 
     /// More than one record may be meant: each way to read it, and a form that has no other.
     fn several(self, asked: Asked<'_>, ways: &[(Reading<'_>, Row)], refusal: Refusal) -> Failure {
         let told = |(reading, _): &(Reading<'_>, Row)| match reading.bounds {
-            None => format!("the whole of {}", quoted(reading.name)),
-            Some(bounds) => format!("'{}' of {}", quoted(bounds), quoted(reading.name)),
+            None => format!("the whole of {}", short(reading.name)),
+            Some(bounds) => format!("'{}' of {}", short(bounds), short(reading.name)),
         };
         let plain = |(reading, row): &(Reading<'_>, Row)| {
             let length = self.rows.record(*row).map_or(0, |record| record.length);
@@ -187,23 +270,27 @@ impl Source<'_> {
         self.refused(asked, what, format!("say which is meant: {}", forms.join(" or ")), refusal)
     }
 
-    fn no_name(self, asked: Asked<'_>, name: &[u8], refusal: Refusal) -> Failure {
+    fn no_name(self, asked: Asked<'_>, name: &[u8], refusal: Refusal, look: bool) -> Failure {
+        let what = format!("no record is named '{}'", short(name));
+        if !look {
+            return self.refused(asked, what, String::new(), refusal);
+        }
         // the longest name that stands before a colon, with something that is no bounds behind it
         let records = self.rows.rows().zip(self.rows.records());
-        let before = records.filter(|(_, record)| is_before_a_colon(record.name, asked.text));
+        let in_words = asked.named.is_none();
+        let before = records.filter(|(_, record)| in_words && is_before_a_colon(record.name, asked.text));
         if let Some((row, record)) =
             before.reduce(|one, two| if two.1.name.len() > one.1.name.len() { two } else { one })
         {
             let behind = asked.text.get(record.name.len() + 1..).unwrap_or_default();
             if let Err(why) = Written::of(behind) {
-                return self.no_bounds(asked, row, &why, refusal);
+                return self.no_bounds(asked, row, &why);
             }
         }
         let near = nearest(name, self.rows.records().map(|record| record.name));
         let near: Vec<String> = near.into_iter().map(quoted).collect();
-        let what = format!("no record is named '{}'", quoted(name));
         let next = if near.is_empty() {
-            let first: Vec<String> = self.rows.records().take(5).map(|record| quoted(record.name)).collect();
+            let first: Vec<String> = self.rows.records().take(5).map(|record| short(record.name)).collect();
             let more = if self.rows.len() > first.len() { ", .." } else { "" };
             format!("it has {}: {}{more}", count(self.rows.len() as u64, "record"), first.join(", "))
         } else {
@@ -214,7 +301,7 @@ impl Source<'_> {
 
     /// A refusal of a read, in words.
     fn not_read(self, asked: Asked<'_>, row: Row, written: &Written, refusal: Refusal) -> Failure {
-        let name = self.rows.record(row).map_or(String::new(), |record| quoted(record.name));
+        let name = self.rows.record(row).map_or(String::new(), |record| short(record.name));
         let length = self.rows.record(row).map_or(0, |record| record.length);
         let (what, next) = match refusal.number {
             16 => {
@@ -231,7 +318,9 @@ impl Source<'_> {
             17 if length == 0 => (format!("{name} has no bases"), String::new()),
             17 => {
                 let over = [&written.start, &written.end].into_iter().flatten().max();
-                let over = over.map_or(String::new(), |base| format!(": base {base} is past their end"));
+                let over = over.map_or(String::new(), |base| {
+                    format!(": base {} is past their end", short(base.to_string().as_bytes()))
+                });
                 let bits = written.over().map_or("", |_| " (and over 64 bits)");
                 let starts = written.start.as_ref().and_then(|start| start.value).unwrap_or(1);
                 let next = if starts <= length && written.start.as_ref().is_none_or(|start| start.value.is_some()) {
@@ -243,7 +332,7 @@ impl Source<'_> {
             }
             18 => (
                 format!("by the index base {} would lie where the file has no byte", commas(refusal.first)),
-                "the index is not right for this file: make it again with `wakeluri index`".to_string(),
+                format!("the index is not right for this file\n{}", advice::new_index(self.fasta)),
             ),
             14 => (
                 format!("{} of memory are needed for it, and not to be had", count(refusal.first, "byte")),
@@ -279,12 +368,17 @@ impl Source<'_> {
     }
 
     /// The pieces of a region, in the order that they are written in.
-    fn pieces(self, region: Region<'_>, turn: Turn) -> impl Iterator<Item = Result<Vec<u8>, Failure>> {
+    fn pieces(
+        self,
+        region: Region<'_>,
+        Form { turn, rna, .. }: Form,
+    ) -> impl Iterator<Item = Result<Vec<u8>, Failure>> {
         let pieces = region.bases().div_ceil(PIECE);
         (0..pieces).map(move |number| {
             let number = if turn == Turn::Reverse { pieces - 1 - number } else { number };
             let from = region.start + number * PIECE;
-            self.piece(region, from, region.end.min(from.saturating_add(PIECE - 1)), turn)
+            let bases = self.piece(region, from, region.end.min(from.saturating_add(PIECE - 1)), turn);
+            bases.map(|bases| of_rna(bases, rna))
         })
     }
 
@@ -306,54 +400,69 @@ impl Source<'_> {
         let mut more = 0;
         for (told, (row, twin, name)) in twins.enumerate() {
             if told < TWINS {
-                let (name, first, second) = (quoted(name), commas(number(row)), commas(number(twin)));
+                let (name, first, second) = (short(name), commas(number(row)), commas(number(twin)));
                 let told = format!("records {first} and {second} of {file} are both named {name}: the first is read");
-                let _ = writeln!(std::io::stderr(), "wakeluri: warning: {told}");
+                Warning::new(file, told).say();
             } else {
                 more += 1;
             }
         }
         if more > 0 {
             let told = format!("so it is with {} of {file}", count(more, "more name"));
-            let _ = writeln!(std::io::stderr(), "wakeluri: warning: {told}");
+            Warning::new(file, told).say();
         }
     }
 
     /// The regions that are asked for, if all of them are good.
-    pub fn regions<'a>(self, asked: &[Asked<'a>]) -> Result<Vec<Region<'a>>, Failure> {
-        let wanted = asked.iter().filter(|asked| asked.row.is_none());
-        let names = wanted_names(self.rows, wanted.flat_map(|asked| readings(asked.text).map(|reading| reading.name)));
-        let regions: Vec<Region<'_>> =
-            asked.iter().map(|asked| self.resolve(*asked, &names)).collect::<Result<_, _>>()?;
+    pub fn regions<'a>(self, asked: AllAsked<'a>) -> Result<Vec<Region<'a>>, Failure> {
+        let names = wanted_names(self.rows, asked.iter().flatten().flat_map(|asked| asked.names()));
+        let (mut regions, mut faults) = (vec![], vec![]);
+        for asked in asked {
+            match asked.and_then(|asked| self.resolve(asked, &names, faults.len() < LOOKED_FOR)) {
+                Ok(region) => regions.push(region),
+                Err(fault) => faults.push(fault),
+            }
+        }
+        all_of(faults)?;
         self.warn_of_twins(&regions, &names);
         Ok(regions)
     }
 
     /// Reads all regions, and only then writes them.
     pub fn give(self, regions: &[Region<'_>], form: Form) -> Result<(), Failure> {
-        let mut kept = vec![];
+        let (mut kept, mut faults, mut odd) = (vec![], vec![], Odd::default());
         let mut places: Vec<Option<Range<usize>>> = Vec::with_capacity(regions.len());
         for region in regions {
             let start = kept.len();
             let keep = region.bases() <= KEPT - start as u64;
-            for piece in self.pieces(*region, form.turn) {
+            let mut from = region.start;
+            let read = self.pieces(*region, form).try_for_each(|piece| {
                 let piece = piece?;
+                // what is turned has letters alone
+                if form.turn == Turn::AsIs {
+                    odd.of_bases(&piece, self.rows.record(region.row), from);
+                    from += piece.len() as u64;
+                }
                 if !form.json {
                     self.writable(*region, &piece)?;
                 }
                 if keep {
                     kept.extend_from_slice(&piece);
                 }
-            }
+                Ok(())
+            });
+            faults.extend(read.err());
             places.push(keep.then_some(start..kept.len()));
         }
+        all_of(faults)?;
         self.fasta.unchanged()?;
+        odd.tell(self.fasta, form.strict)?;
 
         let mut answers = Answers::new();
         for (region, place) in regions.iter().zip(&places) {
             match place.clone().and_then(|place| kept.get(place)) {
                 Some(bases) => self.write(*region, [Ok(bases)], form, &mut answers)?,
-                None => self.write(*region, self.pieces(*region, form.turn), form, &mut answers)?,
+                None => self.write(*region, self.pieces(*region, form), form, &mut answers)?,
             }
         }
         if places.iter().any(Option::is_none) {
@@ -382,6 +491,9 @@ impl Source<'_> {
             if let Some(turned) = form.turn.said() {
                 object.bytes("turned", turned);
             }
+            if let Some(label) = region.asked.label {
+                object.bytes("label", label);
+            }
             object.bytes("bases", &bases);
             return answers.write(object.line().as_bytes());
         }
@@ -391,7 +503,9 @@ impl Source<'_> {
             Ok(refusal) => self.not_written(region, refusal),
             Err(error) => failed(&error),
         };
-        writer.begin(region.asked.text, form.turn.said()).map_err(said)?;
+        let said_of_it: Vec<&[u8]> = form.turn.said().into_iter().chain(region.asked.label).collect();
+        let description = said_of_it.join(&b' ');
+        writer.begin(region.asked.text, (!description.is_empty()).then_some(&description)).map_err(said)?;
         for piece in pieces {
             writer.push(piece?.as_ref()).map_err(said)?;
         }
@@ -401,7 +515,7 @@ impl Source<'_> {
     /// Bases of a region, and its text as a name, are judged before anything is written.
     fn writable(self, region: Region<'_>, bases: &[u8]) -> Result<(), Failure> {
         let judged = [
-            wakeluri::write_record_into(region.asked.text, None, &[], 1, &mut []),
+            wakeluri::write_record_into(region.asked.text, region.asked.label, &[], 1, &mut []),
             wakeluri::write_sequence_into(bases, 1, &mut []),
         ];
         match judged.into_iter().filter_map(Result::err).find(|refusal| refusal.number != 14) {
@@ -418,5 +532,19 @@ impl Source<'_> {
             _ => refusal.words(),
         };
         self.refused(region.asked, what, "with --json the bases are written as they are".to_string(), refusal)
+    }
+}
+
+/// What a region means among some names.
+fn meaning_of<'r>(region: &'r [u8], names: &Names<'_, '_>) -> Meaning<'r> {
+    meaning(region, |name| names.get(name))
+}
+
+/// Fails with all of some faults, if there is one.
+fn all_of(mut faults: Vec<Failure>) -> Result<(), Failure> {
+    match faults.len() {
+        0 => Ok(()),
+        1 => faults.pop().map_or(Ok(()), Err),
+        _ => Err(Failure::Several(faults)),
     }
 }

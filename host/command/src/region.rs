@@ -4,6 +4,7 @@
 //! name with bounds behind its last colon. It is answered where one of them leads to a record that exists. Where more than one does,
 //! nobody can know which is meant, and it is refused.
 
+use crate::place::short;
 use std::cmp::Ordering;
 use wakeluri::Row;
 
@@ -23,10 +24,10 @@ impl Number {
         let rest: Vec<&str> = groups.collect();
         let all_digits = |part: &str| !part.is_empty() && part.bytes().all(|byte| byte.is_ascii_digit());
         if !all_digits(first) || !rest.iter().all(|group| all_digits(group)) {
-            return Err(format!("'{text}' is no number"));
+            return Err(format!("'{}' is no number", short(text.as_bytes())));
         }
         if !rest.is_empty() && (first.len() > 3 || rest.iter().any(|group| group.len() != 3)) {
-            return Err(format!("the commas of '{text}' don't part its digits in threes"));
+            return Err(format!("the commas of '{}' don't part its digits in threes", short(text.as_bytes())));
         }
         let digits = text.replace(',', "");
         let digits = digits.trim_start_matches('0');

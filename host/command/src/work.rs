@@ -4,7 +4,7 @@ use crate::failure::Failure;
 use crate::faults;
 use crate::input::Input;
 use crate::progress::Progress;
-use std::io::Write;
+use crate::warning::Warning;
 use wakeluri::Table;
 
 /// By which rule a file is indexed.
@@ -19,6 +19,7 @@ pub enum Rule {
 /// The rows of a file, or why there are none, and where.
 pub fn index(fasta: &Input, rule: Rule) -> Result<Table<'_>, Failure> {
     let file = fasta.bytes();
+    warn_of_nothing(fasta);
     let progress = Progress::working("indexing", &fasta.shown, file.len() as u64, fasta.is_mapped());
     let (rows, refusal) = match rule {
         Rule::Complete => wakeluri::index_until_refused(file),
@@ -28,7 +29,7 @@ pub fn index(fasta: &Input, rule: Rule) -> Result<Table<'_>, Failure> {
     match refusal {
         None => {
             if let Some(warning) = faults::lines_of_cr(fasta, &rows) {
-                let _ = writeln!(std::io::stderr(), "wakeluri: warning: {warning}");
+                warning.say();
             }
             Ok(rows)
         }
@@ -36,9 +37,17 @@ pub fn index(fasta: &Input, rule: Rule) -> Result<Table<'_>, Failure> {
     }
 }
 
+/// A file without a byte is a file without records, and seldom what was meant.
+pub fn warn_of_nothing(fasta: &Input) {
+    if fasta.bytes().is_empty() {
+        Warning::new(&fasta.shown, format!("{}: it is empty: there is no record in it", fasta.shown)).say();
+    }
+}
+
 /// Whether an index is right for a file; if not, the first fault in words.
 pub fn check(fasta: &Input, index: &Input) -> Result<(), Failure> {
     let file = fasta.bytes();
+    warn_of_nothing(fasta);
     let progress = Progress::working("checking", &fasta.shown, file.len() as u64, fasta.is_mapped());
     let answer = wakeluri::check(file, index.bytes());
     drop(progress);
@@ -46,6 +55,6 @@ pub fn check(fasta: &Input, index: &Input) -> Result<(), Failure> {
 }
 
 /// An index text that is used unchecked, or why it can't be read.
-pub fn read_index(index: &Input) -> Result<Table<'_>, Failure> {
-    wakeluri::read_index(index.bytes()).map_err(|refusal| faults::not_read(index, refusal))
+pub fn read_index<'i>(fasta: &Input, index: &'i Input) -> Result<Table<'i>, Failure> {
+    wakeluri::read_index(index.bytes()).map_err(|refusal| faults::not_read(fasta, index, refusal))
 }

@@ -16,7 +16,8 @@ const GATHERED: usize = 1 << 20;
 
 /// What a line of a file is.
 enum Part<'p> {
-    Definition(Definition<'p>),
+    /// And whether it was mended.
+    Definition(Definition<'p>, bool),
     Bases(&'p [u8]),
 }
 
@@ -27,6 +28,8 @@ pub struct Size {
     pub records: u64,
     /// Their bases.
     pub bases: u64,
+    /// The records whose definition lines were mended.
+    pub mended: u64,
 }
 
 /// A file, and how wide its lines become.
@@ -36,6 +39,8 @@ pub struct Wrapping<'w> {
     pub fasta: &'w Input,
     /// Bases to a line.
     pub width: u64,
+    /// Whether a definition line is mended where that can be done.
+    pub repair: bool,
 }
 
 impl<'w> Wrapping<'w> {
@@ -58,7 +63,13 @@ impl<'w> Wrapping<'w> {
         let file = self.fasta.bytes();
         let Some((content, next)) = wakeluri::read_line(file, at)? else { return Ok(None) };
         if at == 0 || content.first() == Some(&b'>') {
-            return Ok(Some((Part::Definition(wakeluri::definition_content(content)?), next)));
+            return match wakeluri::definition_content(content) {
+                Ok(definition) => Ok(Some((Part::Definition(definition, false), next))),
+                Err(refusal) => match mended(content).filter(|_| self.repair) {
+                    Some(definition) => Ok(Some((Part::Definition(definition, true), next))),
+                    None => Err(refusal),
+                },
+            };
         }
         // a CR at the end of a last line without LF is no base either
         let ended = next < file.len() as u64 || file.last() == Some(&b'\n');
@@ -73,12 +84,12 @@ impl<'w> Wrapping<'w> {
         let mut at = 0;
         while let Some((part, next)) = self.part(at).map_err(io::Error::other)? {
             let full = gathered.len() >= GATHERED;
-            if full || matches!(part, Part::Definition(_)) && !gathered.is_empty() {
+            if full || matches!(part, Part::Definition(..)) && !gathered.is_empty() {
                 writer.push(&gathered)?;
                 gathered.clear();
             }
             match part {
-                Part::Definition(definition) => writer.begin(definition.name, definition.description)?,
+                Part::Definition(definition, _) => writer.begin(definition.name, definition.description)?,
                 Part::Bases(bases) => gathered.extend_from_slice(bases),
             }
             at = next;
@@ -90,14 +101,27 @@ impl<'w> Wrapping<'w> {
     }
 
     /// Fails at the first line that can't be written.
-    fn judge(self) -> Result<Size, Failure> {
+    pub fn judge(self) -> Result<Size, Failure> {
+        self.judged().map_err(|(at, number, refusal)| self.refused(at, number, refusal))
+    }
+
+    /// Whether every line can be written.
+    pub fn is_good(self) -> bool {
+        self.judged().is_ok()
+    }
+
+    /// How much there is to write, or the first line that can't be: its offset, its number and why.
+    fn judged(self) -> Result<Size, (u64, u64, Refusal)> {
         let mut size = Size::default();
         let (mut at, mut number) = (0, 1);
         loop {
             let judged = self.part(at).and_then(|part| {
                 let Some((part, next)) = part else { return Ok(None) };
                 match part {
-                    Part::Definition(_) => size.records += 1,
+                    Part::Definition(_, mended) => {
+                        size.records += 1;
+                        size.mended += u64::from(mended);
+                    }
                     Part::Bases(bases) => {
                         // with no room, what is good is refused with 14
                         match wakeluri::write_sequence_into(bases, self.width, &mut []) {
@@ -111,7 +135,7 @@ impl<'w> Wrapping<'w> {
             match judged {
                 Ok(Some(next)) => (at, number) = (next, number + 1),
                 Ok(None) => return Ok(size),
-                Err(refusal) => return Err(self.refused(at, number, refusal)),
+                Err(refusal) => return Err((at, number, refusal)),
             }
         }
     }
@@ -123,4 +147,21 @@ impl<'w> Wrapping<'w> {
         let line = Line { number, start, width: next - start, bases: 0 };
         faults::not_wrapped(self.fasta, line, refusal)
     }
+}
+
+/// The definition line that was meant where blanks stand between '>' and the name.
+fn mended(content: &[u8]) -> Option<Definition<'_>> {
+    let rest = content.strip_prefix(b">")?.trim_ascii_start();
+    let meant = [b">", rest].concat();
+    let Definition { name, description } = wakeluri::definition_content(&meant).ok()?;
+    // the same parts of the line itself, which lies one byte behind
+    let part = |part: &[u8]| {
+        let start = (part.as_ptr().addr() - meant.as_ptr().addr()).checked_sub(1)?;
+        rest.get(start..start + part.len())
+    };
+    let description = match description {
+        Some(description) => Some(part(description)?),
+        None => None,
+    };
+    Some(Definition { name: part(name)?, description })
 }

@@ -59,14 +59,20 @@ fn in_a_sheet_too() {
 #[test]
 fn what_cannot_be_seen_in_a_sheet() {
     let folder = folder("unseen", &["a", "b"]);
-    for sheet in ["\u{feff}a\nb:1-1\n", "a\r\nb:1-1\r\n", "\n\n  a\t\n\n b:1-1", "\u{feff}\r\na\nb:1-1"] {
+    for sheet in ["\u{feff}a\nb:1-1\n", "a\r\nb:1-1\r\n", "\n\n  a\t\n\n b:1-1", "\u{feff}\r\na\nb:1-1", "a\rb:1-1\r"] {
         folder.write("sheet.txt", sheet);
         folder.run(&["read", "f.fa", "-r", "sheet.txt"]).gave(">a\nA\n>b:1-1\nC\n");
     }
     // what parts a line in another way is no region
-    for sheet in ["a\rb:1-1\r", "a b", "a\t1\t1", "a,b", "#a", "a:1 - 1", "a: 1", "a:1–1", "a:1:1", "a\0"] {
+    for sheet in ["a b", "a b:1-1", "a\t1\t1", "a:1 - 1", "a: 1", "a:1–1", "a:1:1"] {
         folder.write("sheet.txt", sheet);
-        folder.run(&["read", "f.fa", "-r", "sheet.txt"]).refused("refused 15", &["sheet.txt, line 1: "]);
+        folder.run(&["read", "f.fa", "-r", "sheet.txt"]).failed(2, &["sheet.txt, line 1: "]);
+    }
+    folder.write("sheet.txt", "a,b");
+    folder.run(&["read", "f.fa", "-r", "sheet.txt"]).refused("refused 15", &["sheet.txt, line 1: "]);
+    for sheet in ["#a", "a\0"] {
+        folder.write("sheet.txt", sheet);
+        folder.run(&["read", "f.fa", "-r", "sheet.txt"]).failed(2, &["sheet.txt: "]);
     }
 }
 

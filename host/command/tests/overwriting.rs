@@ -160,7 +160,8 @@ fn a_named_pipe_that_is_both() {
 #[test]
 fn devices_folders_and_places_that_are_free() {
     let folder = folder("devices");
-    shell(&folder, "wakeluri revcomp < /dev/null > /dev/null").gave("");
+    let answer = shell(&folder, "wakeluri revcomp < /dev/null > /dev/null");
+    assert_eq!((answer.status, answer.out.as_str()), (Some(0), ""), "{answer:?}");
     folder.run(&["index", "f.fa", "-o", "/dev/null"]).gave("/dev/null: 2 records, 8 bases\n");
     folder.run(&["index", "f.fa", "-o", "/"]).failed(3, &["/: this is a folder, and what is written is a file"]);
     fs::create_dir(folder.at("g.fa.fai")).unwrap();

@@ -1,0 +1,183 @@
+//! Bytes among the bases that are no letters of a sequence: a blank, a digit, a carriage return inside a line. Each counts as a base,
+//! as the proved rules have it, and the answers stay as they are; but whoever did not mean it is told, or with `--strict` refused.
+//!
+//! Letters are the bytes that have a complement, which the proved call is asked for, and '-' and '*'.
+
+use crate::failure::{Failure, NotLetters};
+use crate::input::Input;
+use crate::place::{self, commas};
+use crate::warning::Warning;
+use std::sync::OnceLock;
+use wakeluri::Record;
+
+/// 1 for each byte that is no letter.
+static ODD: OnceLock<[u8; 256]> = OnceLock::new();
+
+fn odd() -> &'static [u8; 256] {
+    ODD.get_or_init(|| {
+        std::array::from_fn(|number| {
+            let byte = u8::try_from(number).unwrap_or_default();
+            u8::from(wakeluri::complement(&[byte]).is_err() && !b"-*".contains(&byte))
+        })
+    })
+}
+
+/// So many bytes are looked at together.
+const CHUNK: usize = 64;
+
+/// Whether some bytes are the most common letters and ends of lines, and nothing else; one more is looked at, which may follow a CR.
+/// It is written so that the machine does many bytes at once.
+fn is_plain(bytes: &[u8; CHUNK + 1]) -> bool {
+    let mut all = true;
+    for place in 0..CHUNK {
+        let (byte, next) = (bytes[place], bytes[place + 1]);
+        let small = byte | 0x20;
+        let letter = (small == b'a') | (small == b'c') | (small == b'g') | (small == b't') | (small == b'n');
+        all &= letter | (byte == b'\n') | ((byte == b'\r') & (next == b'\n'));
+    }
+    all
+}
+
+/// How many bytes are no letters, and where the first lies.
+#[derive(Clone, Copy, Debug, Default, Eq, PartialEq)]
+pub struct Odd {
+    bytes: u64,
+    first: Option<usize>,
+}
+
+impl Odd {
+    /// Those of a whole file.
+    pub fn of_file(file: &[u8]) -> Self {
+        // the ends of lines are looked at one by one only where CR stands among them
+        let mut table = *odd();
+        table[usize::from(b'\n')] = 0;
+        let is_odd = |byte: u8| table[usize::from(byte)] == 1;
+        let mut found = Self::default();
+        // the first line is a definition line, whatever it holds
+        let mut at = line_end(file, 0);
+        while at < file.len() {
+            if file.get(at..).and_then(<[u8]>::first_chunk).is_some_and(is_plain) {
+                at += CHUNK;
+                continue;
+            }
+            let end = file.len().min(at + CHUNK);
+            while let Some(byte) = file.get(at).filter(|_| at < end) {
+                match byte {
+                    byte if !is_odd(*byte) => at += 1,
+                    b'>' if file.get(at - 1) == Some(&b'\n') => at = line_end(file, at),
+                    b'\r' if matches!(file.get(at + 1), None | Some(b'\n')) => at += 1,
+                    _ => {
+                        found.add(at);
+                        at += 1;
+                    }
+                }
+            }
+        }
+        found
+    }
+
+    fn add(&mut self, at: usize) {
+        self.bytes += 1;
+        self.first = self.first.or(Some(at));
+    }
+
+    /// Those of some bases of a record, from one on.
+    pub fn of_bases(&mut self, bases: &[u8], record: Option<Record<'_>>, from: u64) {
+        let table = odd();
+        let number = bases.iter().map(|byte| u64::from(table[usize::from(*byte)])).sum::<u64>();
+        if number == 0 {
+            return;
+        }
+        self.bytes += number;
+        if self.first.is_none() {
+            let place = bases.iter().position(|byte| table[usize::from(*byte)] == 1).unwrap_or(0);
+            self.first = record.and_then(|record| offset(&record, from - 1 + place as u64));
+        }
+    }
+
+    /// Says it, or with `--strict` fails.
+    pub fn tell(self, fasta: &Input, strict: bool) -> Result<(), Failure> {
+        let Some(at) = self.first else { return Ok(()) };
+        let file = fasta.bytes();
+        let line = place::line_number(file, at);
+        let before = file.get(..at).unwrap_or_default().iter().rev().take_while(|byte| **byte != b'\n').count();
+        let (place, byte) = ((line, before as u64 + 1), file.get(at).copied().unwrap_or_default());
+        let all = if self.bytes > 1 { format!("; there are {} such bytes", commas(self.bytes)) } else { String::new() };
+        let words = format!(
+            "{}, line {}, column {}: '{}' stands among the bases, and is no letter of one{all}",
+            fasta.shown,
+            commas(line),
+            commas(place.1),
+            byte.escape_ascii()
+        );
+        let next = "each counts as a base: take out what is none".to_string();
+        if strict {
+            return Err(Failure::NotLetters(Box::new(NotLetters { words, next, file: fasta.shown.clone(), place })));
+        }
+        Warning { next, place: Some(place), ..Warning::new(&fasta.shown, words) }.say();
+        Ok(())
+    }
+}
+
+/// Complements as RNA has them: what comes of A is U. Nothing else becomes T, so each T is such a one.
+pub fn of_rna(mut turned: Vec<u8>, rna: bool) -> Vec<u8> {
+    if rna {
+        for base in &mut turned {
+            *base = match *base {
+                b'T' => b'U',
+                b't' => b'u',
+                other => other,
+            };
+        }
+    }
+    turned
+}
+
+/// Where a line ends, its LF with it.
+fn line_end(file: &[u8], at: usize) -> usize {
+    let rest = file.get(at..).unwrap_or_default();
+    // SAFETY: the call only reads the bytes of `rest`.
+    let found = unsafe { libc::memchr(rest.as_ptr().cast(), i32::from(b'\n'), rest.len()) };
+    if found.is_null() { file.len() } else { at + (found.addr() - rest.as_ptr().addr()) + 1 }
+}
+
+/// Where a base lies by a record's row, the bases before it counted.
+fn offset(record: &Record<'_>, before: u64) -> Option<usize> {
+    let lines = before.checked_div(record.line_bases)?.checked_mul(record.line_width)?;
+    let offset = record.position.checked_add(lines)?.checked_add(before.checked_rem(record.line_bases)?)?;
+    usize::try_from(offset).ok()
+}
+
+#[cfg(test)]
+mod tests {
+    use super::*;
+
+    /// The same found line by line.
+    fn by_lines(file: &[u8]) -> Odd {
+        let mut found = Odd::default();
+        for line in place::lines(file, 0, 1).filter(|line| line.start > 0 && file[line.start] != b'>') {
+            let bases = line.start..line.start + line.bases;
+            bases.filter(|at| odd()[usize::from(file[*at])] == 1).for_each(|at| found.add(at));
+        }
+        found
+    }
+
+    #[test]
+    fn as_line_by_line() {
+        let mut state = 7_u64;
+        let mut below = |limit: usize| {
+            state = state.wrapping_mul(6364136223846793005).wrapping_add(1442695040888963407);
+            (state >> 33) as usize % limit
+        };
+        for _ in 0..3000 {
+            let letters: &[u8] =
+                if below(2) == 0 { b"ACGTn-*\n\r> 1" } else { b"ACGTACGTACGTACGTACGTACGTACGTACGTn-*\n\r>x" };
+            let file: Vec<u8> =
+                b">s\n".iter().copied().chain((0..below(300)).map(|_| letters[below(letters.len())])).collect();
+            assert_eq!(Odd::of_file(&file), by_lines(&file), "{}", file.escape_ascii());
+        }
+        assert_eq!(Odd::of_file(b""), Odd::default());
+        let letters: Vec<u8> = (0..=255).filter(|byte| odd()[usize::from(*byte)] == 0).collect();
+        assert_eq!(letters, b"*-ABCDGHKMNRSTUVWYabcdghkmnrstuvwy");
+    }
+}

@@ -1,0 +1,214 @@
+//! Sheets of regions, as editors, spreadsheets and other tools write them.
+//!
+//! A line holds a region, and behind a blank or a tab a label may follow, which is kept in the answer. Lines that begin with '#' and
+//! blank lines are passed over. What may be a region written in another way is never taken for a label: it is a fault, and told.
+
+use crate::failure::{Failure, Unreadable};
+use crate::place::short;
+use crate::read::{Asked, Named};
+use crate::warning::Warning;
+use std::borrow::Cow;
+
+/// The lines of a sheet.
+#[derive(Debug)]
+pub struct Sheet {
+    /// The name for messages.
+    shown: String,
+    text: Vec<u8>,
+    /// Whether its lines are BED.
+    bed: bool,
+    /// Regions as they are shown, where lines don't hold them.
+    regions: Vec<Vec<u8>>,
+}
+
+/// A line of BED: a name, and bases counted from 1.
+struct Bed<'b> {
+    named: Named<'b>,
+    label: Option<&'b [u8]>,
+    is_reverse: bool,
+}
+
+impl Sheet {
+    /// Of the bytes of a file.
+    pub fn new(shown: &str, bytes: &[u8], bed: bool) -> Result<Self, Failure> {
+        let text = plain(bytes).map_err(|why| Failure::Usage(format!("{shown}: {why}")))?.into_owned();
+        let mut sheet = Self { shown: shown.to_string(), text, bed, regions: vec![] };
+        if bed {
+            let shown = |(_, line)| match bed_line(line) {
+                Ok(Bed { named: Named { name, start, end }, .. }) => {
+                    [name, format!(":{start}-{end}").as_bytes()].concat()
+                }
+                Err(_) => line.to_vec(),
+            };
+            sheet.regions = sheet.lines().map(shown).collect();
+        }
+        Ok(sheet)
+    }
+
+    /// Its name for messages.
+    pub fn shown(&self) -> &str {
+        &self.shown
+    }
+
+    /// The lines that hold something, with their numbers.
+    fn lines(&self) -> impl Iterator<Item = (u64, &[u8])> {
+        let is_passed_over = |line: &[u8]| {
+            line.is_empty()
+                || line.starts_with(b"#")
+                || self.bed && matches!(fields(line).next(), Some(b"track" | b"browser"))
+        };
+        let trimmed = lines(&self.text).zip(1..).map(|(line, number)| (number, line.trim_ascii()));
+        trimmed.filter(move |(_, line)| !is_passed_over(line))
+    }
+
+    /// The regions that it asks for, and what is wrong with the other lines.
+    pub fn asked(&self) -> Vec<Result<Asked<'_>, Failure>> {
+        let asked: Vec<_> = if self.bed {
+            self.lines().zip(&self.regions).map(|((number, line), region)| self.of_bed(number, line, region)).collect()
+        } else {
+            self.lines().map(|(number, line)| self.of_line(number, line)).collect()
+        };
+        self.warn_of_strands();
+        asked
+    }
+
+    fn of_line<'s>(&'s self, number: u64, line: &'s [u8]) -> Result<Asked<'s>, Failure> {
+        let end = line.iter().position(u8::is_ascii_whitespace).unwrap_or(line.len());
+        let (text, label) = line.split_at(end);
+        let label = Some(label.trim_ascii()).filter(|label| !label.is_empty());
+        let asked = Asked { text, sheet: Some((&self.shown, number)), row: None, named: None, label };
+        match label.and_then(|label| not_a_label(text, label)) {
+            None => Ok(asked),
+            Some((what, next)) => Err(self.unreadable(number, line, &what, next)),
+        }
+    }
+
+    fn of_bed<'s>(&'s self, number: u64, line: &'s [u8], region: &'s [u8]) -> Result<Asked<'s>, Failure> {
+        let Bed { named, label, .. } =
+            bed_line(line).map_err(|(what, next)| self.unreadable(number, line, &what, next))?;
+        Ok(Asked { text: region, sheet: Some((&self.shown, number)), row: None, named: Some(named), label })
+    }
+
+    fn unreadable(&self, number: u64, line: &[u8], what: &str, next: String) -> Failure {
+        Failure::Unreadable(Box::new(Unreadable {
+            words: format!("{}, line {number}: '{}': {what}", self.shown, short(line)),
+            next,
+            file: None,
+            region: line.to_vec(),
+            sheet: Some((self.shown.clone(), number)),
+        }))
+    }
+
+    /// Bases are read as they stand in the file, whatever strand a line names.
+    fn warn_of_strands(&self) {
+        let is_reverse = |line| bed_line(line).is_ok_and(|bed| bed.is_reverse);
+        let Some((number, _)) = self.lines().find(|(_, line)| self.bed && is_reverse(line)) else { return };
+        let words = format!("{}, line {number}: the strand '-' is passed over", self.shown);
+        let next = "bases are read as they stand in the file; `wakeluri revcomp` turns them".to_string();
+        Warning { next, place: Some((number, 1)), ..Warning::new(&self.shown, words) }.say();
+    }
+}
+
+/// The text of a sheet without marks before it, and of one byte to a letter.
+fn plain(bytes: &[u8]) -> Result<Cow<'_, [u8]>, String> {
+    let wide = |rest: &[u8], unit: fn([u8; 2]) -> u16| {
+        let units: Vec<u16> = rest.chunks(2).map(|pair| pair.try_into().map_or(0xd800, unit)).collect();
+        let text = String::from_utf16(&units).map_err(|_| "it begins as UTF-16, and is broken".to_string())?;
+        Ok(Cow::Owned(text.into_bytes()))
+    };
+    match bytes {
+        [0xef, 0xbb, 0xbf, rest @ ..] => Ok(Cow::Borrowed(rest)),
+        [0xff, 0xfe, rest @ ..] => wide(rest, u16::from_le_bytes),
+        [0xfe, 0xff, rest @ ..] => wide(rest, u16::from_be_bytes),
+        _ if bytes.contains(&0) => {
+            Err("it holds zero bytes: save the sheet as plain text, or as UTF-16 with a byte order mark".to_string())
+        }
+        _ => Ok(Cow::Borrowed(bytes)),
+    }
+}
+
+/// The lines of a text, which end in LF, in CR and LF, or in CR alone.
+fn lines(text: &[u8]) -> impl Iterator<Item = &[u8]> {
+    let mut rest = Some(text);
+    std::iter::from_fn(move || {
+        let text = rest?;
+        let Some(end) = text.iter().position(|byte| matches!(byte, b'\n' | b'\r')) else {
+            rest = None;
+            return Some(text);
+        };
+        let width = if text.get(end..end + 2) == Some(b"\r\n") { 2 } else { 1 };
+        rest = text.get(end + width..);
+        text.get(..end)
+    })
+}
+
+fn fields(line: &[u8]) -> impl Iterator<Item = &[u8]> {
+    line.split(u8::is_ascii_whitespace).filter(|field| !field.is_empty())
+}
+
+/// Why what follows a region may be meant as a part of it, and what to write.
+fn not_a_label(region: &[u8], label: &[u8]) -> Option<(String, String)> {
+    let first = fields(label).next()?;
+    let like_bounds = first.iter().all(|byte| byte.is_ascii_digit() || b",-+.:".contains(byte));
+    let open = region.last().is_some_and(|byte| b":,-".contains(byte));
+    if !like_bounds && !open && first.first() != Some(&b':') {
+        return None;
+    }
+    let numbers = fields(label).take(2).all(|field| field.iter().all(u8::is_ascii_digit));
+    let next = if numbers && fields(label).nth(1).is_some() {
+        "of BED, which counts from 0, say so with --bed; else write it as name:5-9"
+    } else {
+        "write a region without blanks, as name:5-9; a label behind it begins with a letter"
+    };
+    Some(("what follows the blank is no label, but may be a part of the region".to_string(), next.to_string()))
+}
+
+/// A line of BED, half open from 0, or what is wrong with it.
+fn bed_line(line: &[u8]) -> Result<Bed<'_>, (String, String)> {
+    let wrong = |what: &str| {
+        (what.to_string(), "a line of BED has a name, a start from 0 and an end, which is not included".to_string())
+    };
+    let by_tabs = line.contains(&b'\t');
+    let columns: Vec<&[u8]> = if by_tabs {
+        line.split(|byte| *byte == b'\t').map(<[u8]>::trim_ascii).collect()
+    } else {
+        fields(line).collect()
+    };
+    let [name, start, end, more @ ..] = columns.as_slice() else {
+        return Err(wrong("it has fewer than three columns"));
+    };
+    let number = |text: &[u8]| {
+        let digits = std::str::from_utf8(text).ok().filter(|text| text.bytes().all(|byte| byte.is_ascii_digit()));
+        digits.and_then(|digits| digits.parse::<u64>().ok())
+    };
+    let start = number(start).and_then(|start| start.checked_add(1)).ok_or(wrong("its start is no number"))?;
+    let end = number(end).ok_or(wrong("its end is no number"))?;
+    if end < start {
+        return Err(wrong("its end is not behind its start, so that it has no bases"));
+    }
+    let label = more.first().copied().filter(|label| !matches!(*label, b"" | b"."));
+    Ok(Bed { named: Named { name, start, end }, label, is_reverse: more.get(2) == Some(&&b"-"[..]) })
+}
+
+#[cfg(test)]
+mod tests {
+    use super::*;
+
+    #[test]
+    fn ends_of_lines() {
+        let all: Vec<&[u8]> = lines(b"a\rb\r\nc\n\rd").collect();
+        assert_eq!(all, [&b"a"[..], b"b", b"c", b"", b"d"]);
+    }
+
+    #[test]
+    fn what_is_no_label() {
+        for line in ["s:1 -5", "s:100 - 200", "s:1 000-2 000", "s 5 9", "s :5", "s: 5", "s:5- 9", "s:5-9 +", "s:5, 6"] {
+            let (region, label) = line.split_once(' ').unwrap();
+            assert!(not_a_label(region.as_bytes(), label.as_bytes()).is_some(), "{line}");
+        }
+        for line in ["s:1-5 first primer", "s 5prime", "s:5 T7", "s exon-1"] {
+            let (region, label) = line.split_once(' ').unwrap();
+            assert!(not_a_label(region.as_bytes(), label.as_bytes()).is_none(), "{line}");
+        }
+    }
+}
