@@ -142,7 +142,7 @@ fn regions() -> Arg {
 }
 
 fn reading(command: Command) -> Command {
-    searching(command).arg(
+    searching(command).arg(bed_sheet()).arg(
         Arg::new("width")
             .long("width")
             .short('w')
@@ -151,6 +151,12 @@ fn reading(command: Command) -> Command {
             .value_parser(value_parser!(usize))
             .default_value("60"),
     )
+}
+
+/// Said of a sheet.
+fn bed_sheet() -> Arg {
+    let help = "the sheet is BED: name, start from 0, end that is not included";
+    Arg::new("bed-sheet").long("bed").action(ArgAction::SetTrue).help(help)
 }
 
 /// What regions are looked for in.
@@ -165,7 +171,6 @@ fn searching(command: Command) -> Command {
                 .value_parser(value_parser!(PathBuf))
                 .value_hint(ValueHint::FilePath),
         )
-        .arg(flag("bed").help("the sheet is BED: name, start from 0, end that is not included"))
         .arg(index_option())
         .arg(flag("unchecked").help("use the index as it is, without checking it with the file"))
         .arg(strict())

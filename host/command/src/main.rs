@@ -144,9 +144,9 @@ fn rule(words: &ArgMatches) -> Rule {
     if words.get_flag("strict") { Rule::Strict } else { Rule::Complete }
 }
 
-/// Whether the answer is RNA; `read` has no such word.
-fn rna(words: &ArgMatches) -> bool {
-    words.try_get_one::<bool>("rna").ok().flatten().copied().unwrap_or(false)
+/// Whether a word is said that not all commands have.
+fn said(words: &ArgMatches, word: &str) -> bool {
+    words.try_get_one::<bool>(word).ok().flatten().copied().unwrap_or(false)
 }
 
 /// FILE.fai.
@@ -328,8 +328,8 @@ fn index_beside(words: &ArgMatches, file: &Path, common: Common) -> Result<Optio
 
 fn warn_of_unchecked(index: &Input, fasta: &Input) {
     let (index, fasta) = (&index.shown, &fasta.shown);
-    let words = format!("{index} was not checked with {fasta}: if it is wrong, so are the bases");
-    Warning::new(index, words).say();
+    let told = format!("{index} was not checked with {fasta}: if it is wrong, so are the bases");
+    Warning::new(index, told).say();
 }
 
 /// Every record, where none is asked for.
@@ -349,7 +349,7 @@ fn answer(
 ) -> Result<(), Failure> {
     let index = index_beside(words, file, common)?;
     let width = words.get_one::<usize>("width").copied().unwrap_or(60);
-    let form = Form { turn, width, json: common.json, strict: words.get_flag("strict"), rna: rna(words) };
+    let form = Form { turn, width, json: common.json, strict: words.get_flag("strict"), rna: said(words, "rna") };
     let rows = match &index {
         None => work::index(fasta, rule(words))?,
         Some(index) if words.get_flag("unchecked") => {
@@ -382,12 +382,12 @@ fn open_sheet(words: &ArgMatches, file: &Path, common: Common) -> Result<Option<
             return Err(Failure::Usage(format!("{what} can't both come from standard input")));
         }
     }
-    if sheet.is_none() && words.get_flag("bed") {
+    if sheet.is_none() && said(words, "bed-sheet") {
         return Err(Failure::Usage("--bed is said of a sheet: name it with --regions SHEET".to_string()));
     }
     let open = |sheet| {
         let input = common.open(sheet, How::Read)?;
-        Sheet::new(&input.shown, input.bytes(), words.get_flag("bed"))
+        Sheet::new(&input.shown, input.bytes(), said(words, "bed-sheet"))
     };
     sheet.map(open).transpose()
 }
@@ -436,7 +436,7 @@ fn complement(words: &ArgMatches, turn: Turn, common: Common) -> Result<(), Fail
     };
     let mut answer = vec![];
     for (line, bases) in sequences {
-        let turned = turn.turned(bases).map(|bases| letters::of_rna(bases, rna(words))).map_err(|refusal| {
+        let turned = turn.turned(bases).map(|bases| letters::of_rna(bases, said(words, "rna"))).map_err(|refusal| {
             let words = format!("{}, line {line}: {}", fasta.shown, refusal.words());
             let next = "the letters that have one are ACGTU and MRWSYKVHDBN, small ones too".to_string();
             let place = None;

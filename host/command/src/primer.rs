@@ -99,8 +99,16 @@ fn not_taken(letters: &[u8], refusal: Refusal) -> Failure {
         _ => (format!("the primer '{shown}': {}", refusal.words()), String::new()),
     };
     let file = String::new();
-    let shown = String::new();
-    Failure::Refused(Box::new(Refused { words, shown, next, refusal, file, place: None, region: None, sheet: None }))
+    Failure::Refused(Box::new(Refused {
+        words,
+        shown: String::new(),
+        next,
+        refusal,
+        file,
+        place: None,
+        region: None,
+        sheet: None,
+    }))
 }
 
 /// How many sequences a primer stands for.
