@@ -4,3 +4,4 @@ pub mod Primers
 pub mod Laws
 pub mod PlainAgainLaws
 pub mod PlainAgain
+pub mod Course
