@@ -1,0 +1,131 @@
+// Entry points of the course: exercises read and written, and what was typed counted against a key.
+use crate::answer;
+use crate::answer::Answer;
+use exercise::ExerciseRead;
+use scoring::Scored;
+ghost use mathlib.Core.Path.{_≡_};
+ghost use Rattle.output.specs.Outcome.{leaves};
+ghost use Rattle.exercise.specs.Reading.{readAs};
+ghost use Rattle.exercise.specs.Writing.{writtenAs};
+ghost use Rattle.scoring.specs.Places.{scoredAs};
+ghost use Rattle.wakeluri.specs.Told.{writtenTold};
+ghost use Rattle.wakeluri.specs.Course.{exerciseAnswer, scoreAnswer};
+
+// An exercise: where its name lies in its bytes, its first and last base, and its edition.
+#[repr(C)]
+pub struct ExerciseAnswer {
+    pub refusal: u64,
+    pub first: u64,
+    pub second: u64,
+    pub name_start: u64,
+    pub name_length: u64,
+    pub start: u64,
+    pub end: u64,
+    pub edition: u64,
+}
+
+// The counts over a key's places, the typed bytes past it, and the score in tenths of a percent.
+#[repr(C)]
+pub struct ScoreAnswer {
+    pub refusal: u64,
+    pub first: u64,
+    pub second: u64,
+    pub right: u64,
+    pub wrong: u64,
+    pub missing: u64,
+    pub surplus: u64,
+    pub score: u64,
+}
+
+// What an exercise says.
+fn exercise_answer(r: ExerciseRead) -> ExerciseAnswer
+    ensures { λ a. ⌜ a ≡ exerciseAnswer r ⌝ }
+{
+    match r {
+        ExerciseRead::Read(x) => ExerciseAnswer {
+            refusal: 0,
+            first: 0,
+            second: 0,
+            name_start: x.name_start as u64,
+            name_length: x.name_length as u64,
+            start: x.start,
+            end: x.end,
+            edition: x.edition,
+        },
+        ExerciseRead::Refused(f) => {
+            let n = f.numbers();
+            ExerciseAnswer {
+                refusal: n.refusal,
+                first: n.first,
+                second: n.second,
+                name_start: 0,
+                name_length: 0,
+                start: 0,
+                end: 0,
+                edition: 0,
+            }
+        }
+    }
+}
+
+// How a key and what was typed compare.
+fn score_answer(r: Scored) -> ScoreAnswer
+    ensures { λ a. ⌜ a ≡ scoreAnswer r ⌝ }
+{
+    match r {
+        Scored::Score(s) => ScoreAnswer {
+            refusal: 0,
+            first: 0,
+            second: 0,
+            right: s.right,
+            wrong: s.wrong,
+            missing: s.missing,
+            surplus: s.surplus,
+            score: s.score,
+        },
+        Scored::Refused(f) => {
+            let n = f.numbers();
+            ScoreAnswer {
+                refusal: n.refusal,
+                first: n.first,
+                second: n.second,
+                right: 0,
+                wrong: 0,
+                missing: 0,
+                surplus: 0,
+                score: 0,
+            }
+        }
+    }
+}
+
+// What the bytes of an exercise say.
+#[no_mangle]
+pub extern "C" fn wakeluri_read_exercise(exercise: &[u8]) -> ExerciseAnswer
+    ensures { λ a. ⌜ a ≡ exerciseAnswer (readAs 2 (now (exercise .entry))) ⌝ }
+{
+    exercise_answer(exercise::read_exercise(exercise))
+}
+
+// The bytes of an exercise.
+#[no_mangle]
+pub extern "C" fn wakeluri_write_exercise(
+    name: &[u8],
+    start: u64,
+    end: u64,
+    edition: u64,
+    out: &mut [u8],
+) -> Answer
+    ensures { λ a. ⌜ leaves a (now (out .exit)) ≡ writtenTold (writtenAs 2 (now (name .entry)) start end edition (now (out .entry))) ⌝ }
+{
+    let written = exercise::write_exercise(name, start, end, edition, out);
+    answer::written_answer(written)
+}
+
+// What was typed against a key, by the rules of an edition.
+#[no_mangle]
+pub extern "C" fn wakeluri_score_typed(key: &[u8], typed: &[u8], edition: u64) -> ScoreAnswer
+    ensures { λ a. ⌜ a ≡ scoreAnswer (scoredAs (now (key .entry)) (now (typed .entry)) edition) ⌝ }
+{
+    score_answer(scoring::score_typed(key, typed, edition))
+}
