@@ -1,7 +1,10 @@
 // Entry points of the course: exercises read and written, and what was typed counted against a key.
 use crate::answer;
 use crate::answer::Answer;
+use exercise::Exercise;
 use exercise::ExerciseRead;
+use refusal::Numbers;
+use scoring::Score;
 use scoring::Scored;
 ghost use mathlib.Core.Path.{_≡_};
 ghost use Rattle.output.specs.Outcome.{leaves};
@@ -9,7 +12,7 @@ ghost use Rattle.exercise.specs.Reading.{readAs};
 ghost use Rattle.exercise.specs.Writing.{writtenAs};
 ghost use Rattle.scoring.specs.Places.{scoredAs};
 ghost use Rattle.wakeluri.specs.Told.{writtenTold};
-ghost use Rattle.wakeluri.specs.Course.{exerciseAnswer, scoreAnswer};
+ghost use Rattle.wakeluri.specs.Course.{noExercise, noScore, exerciseTold, scoreTold, exerciseAnswer, scoreAnswer};
 
 // An exercise: where its name lies in its bytes, its first and last base, and its edition.
 #[repr(C)]
@@ -37,34 +40,69 @@ pub struct ScoreAnswer {
     pub score: u64,
 }
 
+// No exercise, and no score.
+fn no_exercise() -> Exercise
+    ensures { λ r. ⌜ r ≡ noExercise ⌝ }
+{
+    Exercise {
+        name_start: 0,
+        name_length: 0,
+        start: 0,
+        end: 0,
+        edition: 0,
+    }
+}
+
+fn no_score() -> Score
+    ensures { λ r. ⌜ r ≡ noScore ⌝ }
+{
+    Score {
+        right: 0,
+        wrong: 0,
+        missing: 0,
+        surplus: 0,
+        score: 0,
+    }
+}
+
+// The two structs, field by field.
+fn exercise_told(n: Numbers, x: Exercise) -> ExerciseAnswer
+    ensures { λ a. ⌜ a ≡ exerciseTold n x ⌝ }
+{
+    ExerciseAnswer {
+        refusal: n.refusal,
+        first: n.first,
+        second: n.second,
+        name_start: x.name_start as u64,
+        name_length: x.name_length as u64,
+        start: x.start,
+        end: x.end,
+        edition: x.edition,
+    }
+}
+
+fn score_told(n: Numbers, s: Score) -> ScoreAnswer
+    ensures { λ a. ⌜ a ≡ scoreTold n s ⌝ }
+{
+    ScoreAnswer {
+        refusal: n.refusal,
+        first: n.first,
+        second: n.second,
+        right: s.right,
+        wrong: s.wrong,
+        missing: s.missing,
+        surplus: s.surplus,
+        score: s.score,
+    }
+}
+
 // What an exercise says.
 fn exercise_answer(r: ExerciseRead) -> ExerciseAnswer
     ensures { λ a. ⌜ a ≡ exerciseAnswer r ⌝ }
 {
     match r {
-        ExerciseRead::Read(x) => ExerciseAnswer {
-            refusal: 0,
-            first: 0,
-            second: 0,
-            name_start: x.name_start as u64,
-            name_length: x.name_length as u64,
-            start: x.start,
-            end: x.end,
-            edition: x.edition,
-        },
-        ExerciseRead::Refused(f) => {
-            let n = f.numbers();
-            ExerciseAnswer {
-                refusal: n.refusal,
-                first: n.first,
-                second: n.second,
-                name_start: 0,
-                name_length: 0,
-                start: 0,
-                end: 0,
-                edition: 0,
-            }
-        }
+        ExerciseRead::Read(x) => exercise_told(answer::fine(), x),
+        ExerciseRead::Refused(f) => exercise_told(f.numbers(), no_exercise()),
     }
 }
 
@@ -73,29 +111,8 @@ fn score_answer(r: Scored) -> ScoreAnswer
     ensures { λ a. ⌜ a ≡ scoreAnswer r ⌝ }
 {
     match r {
-        Scored::Score(s) => ScoreAnswer {
-            refusal: 0,
-            first: 0,
-            second: 0,
-            right: s.right,
-            wrong: s.wrong,
-            missing: s.missing,
-            surplus: s.surplus,
-            score: s.score,
-        },
-        Scored::Refused(f) => {
-            let n = f.numbers();
-            ScoreAnswer {
-                refusal: n.refusal,
-                first: n.first,
-                second: n.second,
-                right: 0,
-                wrong: 0,
-                missing: 0,
-                surplus: 0,
-                score: 0,
-            }
-        }
+        Scored::Score(s) => score_told(answer::fine(), s),
+        Scored::Refused(f) => score_told(f.numbers(), no_score()),
     }
 }
 
