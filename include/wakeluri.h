@@ -54,6 +54,18 @@ struct wakeluri_row {
     uint64_t description_start, description_length;
 };
 
+/* An exercise: where its name lies in its bytes, its first and last base, and its edition. */
+struct wakeluri_exercise {
+    uint64_t refusal, first, second;
+    uint64_t name_start, name_length, start, end, edition;
+};
+
+/* The places of a key that are right, wrong and missing, the typed bytes past it, and the score in tenths of a percent of what was asked. */
+struct wakeluri_score {
+    uint64_t refusal, first, second;
+    uint64_t right, wrong, missing, surplus, score;
+};
+
 /* What a definition line says, given with its end. Refuses 1 to 4; the line begins at 0, so `first` is the place in it. */
 struct wakeluri_definition wakeluri_definition_line(const uint8_t *line, size_t line_length);
 
@@ -124,6 +136,15 @@ struct wakeluri_answer wakeluri_degeneracy(const uint8_t *primer, size_t primer_
 /* The first place of a primer in a text that is not before `from`: each text letter's bases lie among those of its primer letter. `count` is
  * 1 and `next` the place, or `count` is 0 where there is none. A byte without a code is in no match. Refuses 1, 36, 37. */
 struct wakeluri_answer wakeluri_find_primer(const uint8_t *primer, size_t primer_length, const uint8_t *text, size_t text_length, uint64_t from);
+
+/* What the bytes of an exercise say. Refuses 1, and from the front, with the offset of the field, 31, 32, 33. */
+struct wakeluri_exercise wakeluri_read_exercise(const uint8_t *exercise, size_t exercise_length);
+
+/* The bytes of an exercise at the front of `out`; tells how many bytes. The bounds are not judged. Refuses 1, 31, 33, 14. */
+struct wakeluri_answer wakeluri_write_exercise(const uint8_t *name, size_t name_length, uint64_t start, uint64_t end, uint64_t edition, uint8_t *out, size_t out_length);
+
+/* What was typed against a key, by the rules of edition 1 or 2. Right, wrong and missing together are the key's length. Refuses 1, 33. */
+struct wakeluri_score wakeluri_score_typed(const uint8_t *key, size_t key_length, const uint8_t *typed, size_t typed_length, uint64_t edition);
 
 /* Accepts a FASTA file and an index of any program exactly if the index leads to every base. Refuses 1, 2 to 4, 19, 9 to 12, 21 to 23, 20. */
 struct wakeluri_answer wakeluri_check(const uint8_t *fasta, size_t fasta_length, const uint8_t *index, size_t index_length);

@@ -114,6 +114,25 @@ impl Speaker for Library {
                 counted(entry::write_record(name, description.as_deref(), bases, *width, out))
             }
             ("wsq", [Bytes(bases), Number(width), Output(out)]) => counted(entry::write_sequence(bases, *width, out)),
+            ("exw", [Bytes(name), Number(start), Number(end), Number(edition), Output(out)]) => {
+                counted(entry::write_exercise(name, *start, *end, *edition, out))
+            }
+            ("exd", [Bytes(bytes)]) => {
+                let exercise = entry::read_exercise(bytes);
+                let name = bytes.get(exercise.name_start as usize..)?.get(..exercise.name_length as usize)?;
+                let numbers = [exercise.start, exercise.end, exercise.edition].map(Number);
+                match exercise.no() {
+                    Some(no) => told(Some(no), ()),
+                    None => told(None, [Bytes(name.to_vec())].into_iter().chain(numbers).collect::<Vec<_>>()),
+                }
+            }
+            ("sco", [Bytes(key), Bytes(typed), Number(edition)]) => {
+                let score = entry::score_typed(key, typed, *edition);
+                match score.no() {
+                    Some(no) => told(Some(no), ()),
+                    None => told(None, score.numbers()),
+                }
+            }
             ("chk", [Bytes(fasta), Bytes(index)]) => told(entry::check(fasta, index).no(), ()),
             ("prg", [Bytes(input)]) => told(None, vec![Bytes(output(self.program.as_ref()?, input)?)]),
             _ => return None,

@@ -5,6 +5,7 @@
 
 mod checker;
 mod complete;
+mod course;
 mod lines;
 mod primers;
 mod reads;
@@ -97,6 +98,15 @@ impl Speaker for Model {
                 write_record(name, description.as_deref(), bases, *width, out).into()
             }
             ("wsq", [Bytes(bases), Number(width), Output(out)]) => write_sequence(bases, *width, out).into(),
+            ("exw", [Bytes(name), Number(start), Number(end), Number(edition), Output(out)]) => {
+                course::write_exercise(name, *start, *end, *edition, out).into()
+            }
+            ("exd", [Bytes(bytes)]) => {
+                let read = course::read_exercise(bytes);
+                read.map(|(name, numbers)| [Bytes(name)].into_iter().chain(numbers.map(Number)).collect::<Vec<_>>())
+                    .into()
+            }
+            ("sco", [Bytes(key), Bytes(typed), Number(edition)]) => course::score(key, typed, *edition).into(),
             ("chk", [Bytes(fasta), Bytes(index)]) => check(fasta, index).into(),
             ("prg", [Bytes(input)]) => Ok(vec![Bytes(program(input))]).into(),
             _ => return None,

@@ -4,7 +4,7 @@ use crate::{n, no};
 use questions::form::No;
 
 /// The bases that a byte stands for; none where it has no code.
-fn bases(byte: u8) -> &'static str {
+pub(crate) fn bases(byte: u8) -> &'static str {
     match byte.to_ascii_uppercase() {
         b'A' => "A",
         b'C' => "C",

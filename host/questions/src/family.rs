@@ -120,6 +120,10 @@ pub const FAMILIES: &[Family] = &[
     // a record that is written, and bases alone: its bytes
     asks("wfa", &[Bytes, MaybeBytes, Bytes, Number, Output], Always(&[Number]), &[14, 27, 28, 29, 30], Refusals),
     asks("wsq", &[Bytes, Number, Output], Always(&[Number]), &[14, 27, 30], Lacks),
+    // the course: an exercise's bytes; its name, bounds and edition; right, wrong, missing, surplus and score
+    asks("exw", &[Bytes, Number, Number, Number, Output], Always(&[Number]), &[14, 31, 33], Lacks),
+    asks("exd", &[Bytes], IfOk(&[Bytes, Number, Number, Number]), &[31, 32, 33], Lacks),
+    asks("sco", &[Bytes, Bytes, Number], Bare(&[Number, Number, Number, Number, Number]), &[33], Lacks),
     // the checker; the program's output
     asks("chk", &[Bytes, Bytes], IfOk(&[]), &[2, 3, 4, 9, 10, 11, 12, 19, 20, 21, 22, 23], Lacks),
     asks("prg", &[Bytes], Bare(&[Bytes]), &[], Refusals),
@@ -188,6 +192,18 @@ wfa x730b x0b x413e 1 x => no 30 0 0 0 x
 wsq x4143475441 3 x2e2e2e2e2e2e2e2e => ok 7 x4143470a54410a2e
 wsq x 3 x => ok 0 x
 wsq x 0 x => no 27 0 0 0 x
+exw x73 1 2 1 x2e2e2e2e2e2e2e2e2e2e2e2e2e2e2e2e2e2e2e2e2e2e2e2e2e2e2e2e2e2e2e => ok 30 x0100017302000800000000000000010300080000000000000002040001012e
+exw x73 1 2 3 x => no 33 26 0 0 x
+exw x73 0 0 2 x => no 14 30 0 0 x
+exd x010001730200080000000000000001030008000000000000000204000101 => ok x73 1 2 1
+exd x0200080000000000000001 => no 31 0 0
+exd x80 => no 32 0 0
+exd x01000002000800000000000000010300080000000000000002040001050600 => no 33 25 0
+sco x41434754 x614354 1 => 2 1 1 0 500
+sco x4e54 x5255 2 => 2 0 0 0 1000
+sco x4e54 x5255 1 => 0 2 0 0 0
+sco x x41 1 => 0 0 0 1 0
+sco x41 x41 3 => no 33 0 0
 wsq x410d 1 x => no 30 0 0 0 x
 wsq x41 1 x2e => no 14 2 0 0 x2e
 chk x3e730a414347540a41430a x730936093309340936 => no 23 1 5

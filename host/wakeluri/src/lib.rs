@@ -33,6 +33,7 @@
 #![deny(unsafe_code)]
 
 mod bounds;
+mod course;
 #[allow(unsafe_code)]
 pub mod entry;
 mod list;
@@ -45,6 +46,7 @@ mod text;
 mod writer;
 
 pub use bounds::Bounds;
+pub use course::{Exercise, Score, read_exercise, score_typed, write_exercise};
 pub use names::Names;
 pub use primer::{Places, degeneracy, find_primer, find_primer_from, primer_places};
 pub use refusal::{Call, Refusal};

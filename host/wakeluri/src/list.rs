@@ -90,6 +90,15 @@ macro_rules! entry_points {
             /// where there is none. Refuses as `degeneracy`.
             fn find_primer(primer: bytes, text: bytes, from: number) -> Answer;
 
+            /// What the bytes of an exercise say. Refuses 1, and from the front, with the offset of the field, 31, 32, 33.
+            fn read_exercise(exercise: bytes) -> Exercise;
+
+            /// The bytes of an exercise at the front of `out`; tells how many bytes. Refuses 1, 31, 33, 14.
+            fn write_exercise(name: bytes, start: number, end: number, edition: number, out: output) -> Answer;
+
+            /// What was typed against a key, by the rules of edition 1 or 2. Refuses 1, 33.
+            fn score_typed(key: bytes, typed: bytes, edition: number) -> Score;
+
             /// Accepts a FASTA file and an index of any program exactly if the index leads to every base. Refuses 1, 2 to 4, 19, 9
             /// to 12, 21 to 23, 20.
             fn check(fasta: bytes, index: bytes) -> Answer;
@@ -118,6 +127,12 @@ macro_rules! answers {
                 found, next, plain,
                 name_start, name_length, length, position, line_bases, line_width, description_start, description_length
             }
+
+            /// An exercise: where its name lies in its bytes, its first and last base, and its edition.
+            struct Exercise { name_start, name_length, start, end, edition }
+
+            /// The places of a key that are right, wrong and missing, the typed bytes past it, and the score in tenths of a percent.
+            struct Score { right, wrong, missing, surplus, score }
         }
     };
 }

@@ -29,6 +29,10 @@ pub enum Call {
     Complement,
     /// Writing a FASTA record.
     WriteRecord,
+    /// Reading or writing an exercise.
+    Exercise,
+    /// Counting what was typed against a key.
+    Score,
     /// Counting a primer's sequences, or finding it.
     Primer,
 }
@@ -138,6 +142,11 @@ impl Refusal {
             30 => "a base is a line feed, a carriage return or '>', and can't be written".to_string(),
             36 => "a primer has 1 to 31 letters".to_string(),
             37 => format!("the primer's letter at place {first} stands for no bases"),
+            31 => format!(
+                "the exercise has no good field at offset {first}, where one of name, start, end and edition should stand"
+            ),
+            32 => format!("the exercise has a field at offset {first} that has to be understood, and isn't known"),
+            33 => format!("the edition of the exercise (offset {first}) is neither 1 nor 2"),
             42 => format!(
                 "no index line can lead to base {second} of a record, which lies at offset {first}, and to those before it"
             ),
@@ -175,6 +184,7 @@ impl Refusal {
             23 => format!("refused {number} (record {first}, base {second})"),
             24 => format!("refused {number} (place {first}, byte {second})"),
             25 => format!("refused {number} (row {first})"),
+            31..=33 => format!("refused {number} (offset {first})"),
             42 => format!("refused {number} (offset {first}, base {second})"),
             _ => format!("refused {number} ({first}, {second})"),
         }

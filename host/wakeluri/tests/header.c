@@ -107,6 +107,12 @@ static void ordinary_calls(void) {
     a = wakeluri_reverse_complement(BYTES("AXCX"), out, sizeof out);
     MUST(a.refusal == 24 && a.first == 3 && a.second == 'X');
 
+    a = wakeluri_write_exercise(BYTES("s"), 1, 100, 1, out, sizeof out);
+    MUST(a.refusal == 0 && a.count == 30 && out[3] == 's' && out[29] == 1);
+    struct wakeluri_exercise x = wakeluri_read_exercise(out, 30);
+    MUST(x.refusal == 0 && x.name_start == 3 && x.name_length == 1 && x.start == 1 && x.end == 100 && x.edition == 1);
+    struct wakeluri_score mark = wakeluri_score_typed(BYTES("ACGT"), BYTES("acT"), 1);
+    MUST(mark.refusal == 0 && mark.right == 2 && mark.wrong == 1 && mark.missing == 1 && mark.surplus == 0 && mark.score == 500);
     a = wakeluri_degeneracy(BYTES("ARN"));
     MUST(a.refusal == 0 && a.count == 8);
     a = wakeluri_find_primer(BYTES("RY"), BYTES("CCACAC"), 3);
@@ -159,6 +165,10 @@ static void beyond_the_limit(void) {
     REFUSED(wakeluri_write_record(out, 0, 0, big, n, out, 0, 0, out, 0));
     REFUSED(wakeluri_write_record(out, 0, 0, out, 0, big, n, 0, out, 0));
     REFUSED(wakeluri_write_sequence(big, n, 0, out, 0));
+    REFUSED(wakeluri_read_exercise(big, n));
+    REFUSED(wakeluri_write_exercise(big, n, 1, 1, 9, out, 0));
+    REFUSED(wakeluri_score_typed(big, n, out, 0, 9));
+    REFUSED(wakeluri_score_typed(out, 0, big, n, 9));
     REFUSED(wakeluri_degeneracy(big, n));
     REFUSED(wakeluri_find_primer(big, n, out, 0, 0));
     REFUSED(wakeluri_find_primer(out, 0, big, n, 0));

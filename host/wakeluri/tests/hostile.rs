@@ -98,7 +98,8 @@ impl Hostile {
             "line" | "content" if chance.once_in(2) => index(chance),
             "file" | "fasta" | "names" | "line" | "content" => fasta(chance),
             "index" => index(chance),
-            "bases" => bytes(chance, b"ACGTN"),
+            "bases" | "key" | "typed" => bytes(chance, b"ACGTN"),
+            "exercise" => bytes(chance, b"\x01\x00\x01\x02\x00\x08\x03\x04"),
             "primer" | "text" => bytes(chance, b"ACGTRYN"),
             "table" => {
                 let table = table(chance);
@@ -146,6 +147,19 @@ impl Judged for entry::Span {
 impl Judged for entry::Row {
     fn told(&self) -> (u64, usize, u64) {
         (self.refusal, 0, end(self.name_start, self.name_length))
+    }
+}
+
+impl Judged for entry::Exercise {
+    fn told(&self) -> (u64, usize, u64) {
+        (self.refusal, 0, end(self.name_start, self.name_length))
+    }
+}
+
+impl Judged for entry::Score {
+    fn told(&self) -> (u64, usize, u64) {
+        assert!(self.score <= 1000);
+        (self.refusal, 0, 0)
     }
 }
 

@@ -97,6 +97,31 @@ pub(super) fn index() -> Source {
 /// Letters of each kind: plain, of two bases, of all, and a byte that is none.
 const CODES: &[u8] = b"ACGTRYN-";
 
+/// Short strings of tags, lengths and values.
+pub(super) fn exercise() -> Source {
+    Box::new(strings(b"\x00\x01\x02\x03\x04\x05\x80", 6).map(|bytes| vec![Bytes(bytes)]))
+}
+
+pub(super) fn written_exercise() -> Source {
+    const NUMBERS: [u64; 5] = [0, 1, 2, 255, u64::MAX];
+    let cases = (0..5 * 5 * 5).flat_map(|k| [29, 30, 31, 32].map(|space| (k, space)));
+    Box::new(cases.map(|(k, space)| {
+        let numbers = [k % 5, k / 5 % 5, k / 25].map(|k| Number(NUMBERS[k]));
+        let [start, end, edition] = numbers;
+        vec![Bytes(b"s".to_vec()), start, end, edition, Output(room(space))]
+    }))
+}
+
+/// Every byte against every byte, and short texts against each other.
+pub(super) fn typed() -> Source {
+    let pairs = (0..=65_535u16).map(|k| k.to_be_bytes());
+    let pairs = pairs.flat_map(|[key, typed]| [1, 2].map(|edition| (vec![key], vec![typed], edition)));
+    let keys = strings(b"ANt-", 2);
+    let texts = keys.flat_map(|key| strings(b"AuN-[", 3).map(move |typed| (key.clone(), typed)));
+    let texts = texts.flat_map(|(key, typed)| [0, 1, 2, 3].map(|edition| (key.clone(), typed.clone(), edition)));
+    Box::new(pairs.chain(texts).map(|(key, typed, edition)| vec![Bytes(key), Bytes(typed), Number(edition)]))
+}
+
 pub(super) fn primer() -> Source {
     Box::new(strings(b"ATUrYNv-", 5).map(|primer| vec![Bytes(primer)]))
 }

@@ -55,6 +55,9 @@ pub(super) const MAKERS: &[Maker] = &[
     maker("prn", 16, primer_text_and_place, &[every::primer_text_and_place]),
     maker("wfa", 32, written_record, &[every::written_name, every::written_description, every::written_bases]),
     maker("wsq", 16, written_sequence, &[every::written_sequence]),
+    maker("exw", 16, written_exercise, &[every::written_exercise]),
+    maker("exd", 32, exercise, &[every::exercise]),
+    maker("sco", 32, typed, &[every::typed]),
     maker("chk", 32, pair, &[every::check]),
     maker("prg", 1, program, &[every::program_limits]),
 ];
@@ -294,6 +297,73 @@ fn written_record(chance: &mut Chance) -> Vec<Value> {
 /// The bases and the width of a record that is written, alone.
 fn written_sequence(chance: &mut Chance) -> Vec<Value> {
     without_definition(written_record(chance))
+}
+
+/// The bytes of an exercise, as they should be.
+fn exercise_bytes(name: &[u8], start: u64, end: u64, edition: u8) -> Vec<u8> {
+    let name_length = (name.len() as u16).to_be_bytes();
+    let numbers = [&[2, 0, 8][..], &start.to_be_bytes(), &[3, 0, 8], &end.to_be_bytes(), &[4, 0, 1, edition]].concat();
+    [&[1][..], &name_length, name, &numbers].concat()
+}
+
+fn edition(chance: &mut Chance) -> u64 {
+    if chance.once_in(8) { about(chance, 2) } else { 1 + chance.below(2) as u64 }
+}
+
+fn written_exercise(chance: &mut Chance) -> Vec<Value> {
+    // at times a name as long as a field can be, or longer
+    let name = if chance.once_in(40) { vec![b'n'; 65_534 + chance.below(4)] } else { name(chance) };
+    let (start, end, edition) = (about(chance, 5), about(chance, 9), edition(chance));
+    let room = some_room(chance, name.len() as u64 + 29);
+    vec![Bytes(name), Number(start), Number(end), Number(edition), Output(room)]
+}
+
+/// An exercise, with other fields between those that are wanted, and damaged at times.
+fn exercise(chance: &mut Chance) -> Vec<Value> {
+    let (name, start, end) = (name(chance), about(chance, 5), about(chance, 9));
+    let edition = if chance.once_in(6) { chance.number() as u8 } else { 1 + chance.below(2) as u8 };
+    let mut bytes = exercise_bytes(&name, start, end, edition);
+    let fields = [0, 3 + name.len(), 14 + name.len(), 25 + name.len(), bytes.len()];
+    if chance.once_in(3) {
+        let at = chance.one_of(&fields);
+        let more = chance.one_of(&[
+            &[0, 0, 0][..],
+            &[5, 0, 1, 1],
+            &[127, 0, 2, 0, 128],
+            &[128],
+            &[255, 0, 0],
+            &[1, 0, 0],
+            &[4, 0, 1, 1],
+        ]);
+        bytes.splice(at..at, more.iter().copied());
+    }
+    if chance.once_in(3) {
+        let at = chance.below(bytes.len());
+        match chance.below(3) {
+            0 => bytes.truncate(at),
+            1 => bytes[at] = chance.one_of(&[0, 1, 2, 3, 4, 8, 127, 128, 255]),
+            _ => {
+                bytes.remove(at);
+            }
+        }
+    }
+    vec![Bytes(bytes)]
+}
+
+/// A key, and what was typed of it: the same but for some places, shorter, or longer.
+fn typed(chance: &mut Chance) -> Vec<Value> {
+    let key = some_bases(chance);
+    let mut typed = key.clone();
+    for _ in 0..chance.below(4).min(typed.len()) {
+        let at = chance.below(typed.len());
+        typed[at] = if chance.once_in(4) { chance.one_of(b"-[{@`.\xff") } else { chance.one_of(LETTERS) };
+    }
+    match chance.below(4) {
+        0 => typed.truncate(chance.below(key.len() + 1)),
+        1 => typed.extend(some_bases(chance)),
+        _ => {}
+    }
+    vec![Bytes(key), Bytes(typed), Number(edition(chance))]
 }
 
 fn pair(chance: &mut Chance) -> Vec<Value> {
