@@ -24,15 +24,15 @@ fn every_refusal_of_every_family_is_reached() {
         let mut words = answer.split(' ');
         let number = match words.next() {
             Some("no") => words.next().expect("a number").parse().expect("a number"),
-            Some("ok") => 0,
-            _ => continue,
+            Some("skip") | None => panic!("{question}: the model has no answer"),
+            // some families tell their answer without an `ok`; the program tells refusals in its output
+            Some(_) => 0,
         };
         reached.insert((family, number));
     }
     for family in FAMILIES {
         let found: Vec<u64> = reached.iter().filter(|(name, _)| name == family.name).map(|(_, n)| *n).collect();
-        // the program tells refusals in its output
-        let expected = if family.name == "prg" { vec![] } else { [&[0], family.refuses].concat() };
+        let expected = [&[0], family.refuses].concat();
         assert_eq!(found, expected, "{}", family.name);
     }
 }
