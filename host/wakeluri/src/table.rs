@@ -473,6 +473,17 @@ pub(crate) fn with_room(likely: u64, read: impl Fn(&mut [u8]) -> Result<usize, R
     Ok(out)
 }
 
+/// The same where it is known how much is needed: it is made at once.
+pub(crate) fn with_known_room(
+    bytes: u64,
+    write: impl Fn(&mut [u8]) -> Result<usize, Refusal>,
+) -> Result<Vec<u8>, Refusal> {
+    let Some(mut out) = room(bytes) else { return with_room(0, write) };
+    let count = write(&mut out)?;
+    out.truncate(count);
+    Ok(out)
+}
+
 /// So many bytes, if they are to be had. They come from the system as zeros, so that what isn't written to costs nothing; an
 /// index that lies about a length costs no memory.
 fn room(bytes: u64) -> Option<Vec<u8>> {

@@ -1,7 +1,7 @@
 //! FASTA written: a record in one call, or a file of any size, piece by piece, with its index.
 
 use crate::refusal::Call;
-use crate::table::{Table, counted, with_room};
+use crate::table::{Table, counted, with_known_room};
 use crate::{Refusal, entry};
 use std::io::{self, Write};
 
@@ -20,7 +20,11 @@ use std::io::{self, Write};
 /// # Ok::<(), wakeluri::Refusal>(())
 /// ```
 pub fn write_record(name: &[u8], description: Option<&[u8]>, bases: &[u8], width: u64) -> Result<Vec<u8>, Refusal> {
-    with_room(0, |out| write_record_into(name, description, bases, width, out))
+    // its size is known: to be told it would be one more pass over the bases
+    let lines = (bases.len() as u64).div_ceil(width.max(1));
+    let text = description.map_or(0, |description| description.len() + 1);
+    let bytes = (name.len() + text + bases.len() + 2) as u64 + lines;
+    with_known_room(bytes, |out| write_record_into(name, description, bases, width, out))
 }
 
 /// As [`write_record`], to the front of a room that is lent; tells how many bytes. Refuses 1, 27 to 30, 14.
