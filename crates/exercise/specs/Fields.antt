@@ -174,6 +174,7 @@ laterRefusal d (refused.LengthDiffers x) = refused.LengthDiffers x
 laterRefusal d (refused.BaseElsewhere x y) = refused.BaseElsewhere x y
 laterRefusal d (refused.NoComplement x y) = refused.NoComplement x y
 laterRefusal d (refused.BadRow x) = refused.BadRow x
+laterRefusal d refused.AlreadyEnded = refused.AlreadyEnded
 laterRefusal d refused.ZeroWidth = refused.ZeroWidth
 laterRefusal d refused.NameUnfit = refused.NameUnfit
 laterRefusal d refused.DescriptionUnfit = refused.DescriptionUnfit
@@ -181,8 +182,14 @@ laterRefusal d refused.BaseUnfit = refused.BaseUnfit
 laterRefusal d (refused.MalformedExercise at) = refused.MalformedExercise (at + d)
 laterRefusal d (refused.UnknownNeededTag at) = refused.UnknownNeededTag (at + d)
 laterRefusal d (refused.UnknownEdition at) = refused.UnknownEdition (at + d)
+laterRefusal d (refused.NotInWindow x) = refused.NotInWindow x
+laterRefusal d refused.WindowPastEnd = refused.WindowPastEnd
 laterRefusal d refused.PrimerLength = refused.PrimerLength
 laterRefusal d (refused.PrimerLetter x) = refused.PrimerLetter x
+laterRefusal d refused.NoPlusLine = refused.NoPlusLine
+laterRefusal d (refused.QualityLine x y) = refused.QualityLine x y
+laterRefusal d refused.TooManyRegions = refused.TooManyRegions
+laterRefusal d refused.TooFewStarts = refused.TooFewStarts
 laterRefusal d (refused.NoIndexFits x y) = refused.NoIndexFits x y
 
 abbrev later : ℕ → Held → Held

@@ -42,7 +42,7 @@ caseOf n =
     ∷ (λ a b. is.BaseElsewhere a b)
     ∷ (λ a b. is.NoComplement a b)
     ∷ (λ a b. is.BadRow a)
-    ∷ none
+    ∷ (λ a b. is.AlreadyEnded)
     ∷ (λ a b. is.ZeroWidth)
     ∷ (λ a b. is.NameUnfit)
     ∷ (λ a b. is.DescriptionUnfit)
@@ -50,14 +50,14 @@ caseOf n =
     ∷ (λ a b. is.MalformedExercise a)
     ∷ (λ a b. is.UnknownNeededTag a)
     ∷ (λ a b. is.UnknownEdition a)
-    ∷ none
-    ∷ none
+    ∷ (λ a b. is.NotInWindow a)
+    ∷ (λ a b. is.WindowPastEnd)
     ∷ (λ a b. is.PrimerLength)
     ∷ (λ a b. is.PrimerLetter a)
-    ∷ none
-    ∷ none
-    ∷ none
-    ∷ none
+    ∷ (λ a b. is.NoPlusLine)
+    ∷ (λ a b. is.QualityLine a b)
+    ∷ (λ a b. is.TooManyRegions)
+    ∷ (λ a b. is.TooFewStarts)
     ∷ (λ a b. is.NoIndexFits a b)
     ∷ [])
     n
@@ -94,6 +94,7 @@ told (is.LengthDiffers a) = (omega arith, refl)
 told (is.BaseElsewhere a b) = (omega arith, refl)
 told (is.NoComplement a b) = (omega arith, refl)
 told (is.BadRow a) = (omega arith, refl)
+told is.AlreadyEnded = (omega arith, refl)
 told is.ZeroWidth = (omega arith, refl)
 told is.NameUnfit = (omega arith, refl)
 told is.DescriptionUnfit = (omega arith, refl)
@@ -101,8 +102,14 @@ told is.BaseUnfit = (omega arith, refl)
 told (is.MalformedExercise a) = (omega arith, refl)
 told (is.UnknownNeededTag a) = (omega arith, refl)
 told (is.UnknownEdition a) = (omega arith, refl)
+told (is.NotInWindow a) = (omega arith, refl)
+told is.WindowPastEnd = (omega arith, refl)
 told is.PrimerLength = (omega arith, refl)
 told (is.PrimerLetter a) = (omega arith, refl)
+told is.NoPlusLine = (omega arith, refl)
+told (is.QualityLine a b) = (omega arith, refl)
+told is.TooManyRegions = (omega arith, refl)
+told is.TooFewStarts = (omega arith, refl)
 told (is.NoIndexFits a b) = (omega arith, refl)
 
 -- no refusal's number is 0

@@ -35,6 +35,7 @@ numbersOf (is.LengthDiffers record′) = told 22 record′ 0
 numbersOf (is.BaseElsewhere record′ base) = told 23 record′ base
 numbersOf (is.NoComplement place byte) = told 24 place byte
 numbersOf (is.BadRow row) = told 25 row 0
+numbersOf is.AlreadyEnded = told 26 0 0
 numbersOf is.ZeroWidth = told 27 0 0
 numbersOf is.NameUnfit = told 28 0 0
 numbersOf is.DescriptionUnfit = told 29 0 0
@@ -42,8 +43,14 @@ numbersOf is.BaseUnfit = told 30 0 0
 numbersOf (is.MalformedExercise offset) = told 31 offset 0
 numbersOf (is.UnknownNeededTag offset) = told 32 offset 0
 numbersOf (is.UnknownEdition offset) = told 33 offset 0
+numbersOf (is.NotInWindow base) = told 34 base 0
+numbersOf is.WindowPastEnd = told 35 0 0
 numbersOf is.PrimerLength = told 36 0 0
 numbersOf (is.PrimerLetter place) = told 37 place 0
+numbersOf is.NoPlusLine = told 38 0 0
+numbersOf (is.QualityLine found expected) = told 39 found expected
+numbersOf is.TooManyRegions = told 40 0 0
+numbersOf is.TooFewStarts = told 41 0 0
 numbersOf (is.NoIndexFits offset base) = told 42 offset base
 
 -- is an input of so many bytes over the limit

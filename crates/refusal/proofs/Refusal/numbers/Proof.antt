@@ -182,26 +182,26 @@ enum-told-7 c = search needs
 told-requires-29 : tie.Need-told-requires-29
 told-requires-29 c κs = search needs
 
-enum-known-self-23 : tie.Need-enum-known-self-23
-enum-known-self-23 c = search needs
+enum-told-8 : tie.Need-enum-told-8
+enum-told-8 c = search needs
 
 told-requires-30 : tie.Need-told-requires-30
 told-requires-30 c κs = search needs
 
-enum-known-self-24 : tie.Need-enum-known-self-24
-enum-known-self-24 c = search needs
+enum-known-self-23 : tie.Need-enum-known-self-23
+enum-known-self-23 c = search needs
 
 told-requires-31 : tie.Need-told-requires-31
 told-requires-31 c κs = search needs
 
-enum-known-self-25 : tie.Need-enum-known-self-25
-enum-known-self-25 c = search needs
+enum-known-self-24 : tie.Need-enum-known-self-24
+enum-known-self-24 c = search needs
 
 told-requires-32 : tie.Need-told-requires-32
 told-requires-32 c κs = search needs
 
-enum-told-8 : tie.Need-enum-told-8
-enum-told-8 c = search needs
+enum-known-self-25 : tie.Need-enum-known-self-25
+enum-known-self-25 c = search needs
 
 told-requires-33 : tie.Need-told-requires-33
 told-requires-33 c κs = search needs
@@ -212,11 +212,53 @@ enum-known-self-26 c = search needs
 told-requires-34 : tie.Need-told-requires-34
 told-requires-34 c κs = search needs
 
-enum-known-self-27 : tie.Need-enum-known-self-27
-enum-known-self-27 c = search needs
+enum-told-9 : tie.Need-enum-told-9
+enum-told-9 c = search needs
 
 told-requires-35 : tie.Need-told-requires-35
 told-requires-35 c κs = search needs
+
+enum-told-10 : tie.Need-enum-told-10
+enum-told-10 c = search needs
+
+told-requires-36 : tie.Need-told-requires-36
+told-requires-36 c κs = search needs
+
+enum-known-self-27 : tie.Need-enum-known-self-27
+enum-known-self-27 c = search needs
+
+told-requires-37 : tie.Need-told-requires-37
+told-requires-37 c κs = search needs
+
+enum-told-11 : tie.Need-enum-told-11
+enum-told-11 c = search needs
+
+told-requires-38 : tie.Need-told-requires-38
+told-requires-38 c κs = search needs
+
+enum-known-self-28 : tie.Need-enum-known-self-28
+enum-known-self-28 c = search needs
+
+told-requires-39 : tie.Need-told-requires-39
+told-requires-39 c κs = search needs
+
+enum-told-12 : tie.Need-enum-told-12
+enum-told-12 c = search needs
+
+told-requires-40 : tie.Need-told-requires-40
+told-requires-40 c κs = search needs
+
+enum-told-13 : tie.Need-enum-told-13
+enum-told-13 c = search needs
+
+told-requires-41 : tie.Need-told-requires-41
+told-requires-41 c κs = search needs
+
+enum-known-self-29 : tie.Need-enum-known-self-29
+enum-known-self-29 c = search needs
+
+told-requires-42 : tie.Need-told-requires-42
+told-requires-42 c κs = search needs
 
 returns : tie.Need-returns
 unfolding numbersOf
@@ -336,19 +378,19 @@ returns-29 c = rw (c .before .enum-told7 .given .1) (c .told29 .ensures)
 
 returns-30 : tie.Need-returns-30
 unfolding numbersOf
-returns-30 c = rw (c .before .before .self23 .given .1) (c .told30 .ensures)
+returns-30 c = rw (c .before .enum-told8 .given .1) (c .told30 .ensures)
 
 returns-31 : tie.Need-returns-31
 unfolding numbersOf
-returns-31 c = rw (c .before .before .self24 .given .1) (c .told31 .ensures)
+returns-31 c = rw (c .before .before .self23 .given .1) (c .told31 .ensures)
 
 returns-32 : tie.Need-returns-32
 unfolding numbersOf
-returns-32 c = rw (c .before .before .self25 .given .1) (c .told32 .ensures)
+returns-32 c = rw (c .before .before .self24 .given .1) (c .told32 .ensures)
 
 returns-33 : tie.Need-returns-33
 unfolding numbersOf
-returns-33 c = rw (c .before .enum-told8 .given .1) (c .told33 .ensures)
+returns-33 c = rw (c .before .before .self25 .given .1) (c .told33 .ensures)
 
 returns-34 : tie.Need-returns-34
 unfolding numbersOf
@@ -356,7 +398,35 @@ returns-34 c = rw (c .before .before .self26 .given .1) (c .told34 .ensures)
 
 returns-35 : tie.Need-returns-35
 unfolding numbersOf
-returns-35 c = rw (c .before .before .self27 .given .1) (c .told35 .ensures)
+returns-35 c = rw (c .before .enum-told9 .given .1) (c .told35 .ensures)
+
+returns-36 : tie.Need-returns-36
+unfolding numbersOf
+returns-36 c = rw (c .before .enum-told10 .given .1) (c .told36 .ensures)
+
+returns-37 : tie.Need-returns-37
+unfolding numbersOf
+returns-37 c = rw (c .before .before .self27 .given .1) (c .told37 .ensures)
+
+returns-38 : tie.Need-returns-38
+unfolding numbersOf
+returns-38 c = rw (c .before .enum-told11 .given .1) (c .told38 .ensures)
+
+returns-39 : tie.Need-returns-39
+unfolding numbersOf
+returns-39 c = rw (c .before .before .self28 .given .1) (c .told39 .ensures)
+
+returns-40 : tie.Need-returns-40
+unfolding numbersOf
+returns-40 c = rw (c .before .enum-told12 .given .1) (c .told40 .ensures)
+
+returns-41 : tie.Need-returns-41
+unfolding numbersOf
+returns-41 c = rw (c .before .enum-told13 .given .1) (c .told41 .ensures)
+
+returns-42 : tie.Need-returns-42
+unfolding numbersOf
+returns-42 c = rw (c .before .before .self29 .given .1) (c .told42 .ensures)
 
 pub numbers-spec : {M : Type 1} → statement M
 numbers-spec =
@@ -420,18 +490,32 @@ numbers-spec =
     told-requires-28
     enum-told-7
     told-requires-29
-    enum-known-self-23
-    told-requires-30
-    enum-known-self-24
-    told-requires-31
-    enum-known-self-25
-    told-requires-32
     enum-told-8
+    told-requires-30
+    enum-known-self-23
+    told-requires-31
+    enum-known-self-24
+    told-requires-32
+    enum-known-self-25
     told-requires-33
     enum-known-self-26
     told-requires-34
-    enum-known-self-27
+    enum-told-9
     told-requires-35
+    enum-told-10
+    told-requires-36
+    enum-known-self-27
+    told-requires-37
+    enum-told-11
+    told-requires-38
+    enum-known-self-28
+    told-requires-39
+    enum-told-12
+    told-requires-40
+    enum-told-13
+    told-requires-41
+    enum-known-self-29
+    told-requires-42
     returns
     returns-2
     returns-3
@@ -466,4 +550,11 @@ numbers-spec =
     returns-32
     returns-33
     returns-34
-    returns-35)
+    returns-35
+    returns-36
+    returns-37
+    returns-38
+    returns-39
+    returns-40
+    returns-41
+    returns-42)
