@@ -134,9 +134,9 @@ impl Place {
         ensures { λ r. ⌜ r ≡ stepOf (now (fasta .entry)) (now (index .entry)) self ⌝ }
     {
         let at = self.fasta;
-        let start = lines::line_end(fasta, at);
+        let start = lines::ends::line_end(fasta, at);
         let line = self.index;
-        let behind = lines::line_end(index, line);
+        let behind = lines::ends::line_end(index, line);
         let record = self.records + 1;
         match judge_record(fasta, at, &fasta[at..start], &index[line..behind], record) {
             Judged::Refused(r) => Step::Refused(r),

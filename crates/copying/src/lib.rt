@@ -26,7 +26,8 @@ fn behind(bytes: usize, place: usize) -> usize
     bytes - place
 }
 
-// Copies 8 bytes. They are all read before one is written, so that they move together.
+// Copies 8 bytes. They are all read before one is written, so that they move together. The size has to be constant for that, and Rattle
+// has no generics: hence one function, and one proof, for each of three sizes.
 fn put8(from: &[u8], start: usize, out: &mut [u8], to: usize)
     requires { ⌜ start + 8 ≤ length (now from) ⌝ }
     requires { ⌜ to + 8 ≤ length (now out) ⌝ }

@@ -77,7 +77,7 @@ fn even_lines(s: &[u8], at: usize, first: Line) -> Even
         return Even::Not;
     }
     let next = at + first.width;
-    let alike = lines::lines_like(s, next, first);
+    let alike = lines::alike::lines_like(s, next, first);
     let i = next + alike * first.width;
     let n = first.bases + alike * first.bases;
     let last = lines::sequence_line(s, i);
@@ -198,7 +198,7 @@ fn fit_at(s: &[u8], at: usize) -> Step
             next: Indexer { at },
         };
     }
-    let e = lines::line_end(s, at);
+    let e = lines::ends::line_end(s, at);
     let d = definition::parse_line(&s[at..e]);
     match d {
         Parsed::Named(x) => fit_sequence(s, at, e, x),

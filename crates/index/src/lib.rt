@@ -41,7 +41,7 @@ pub fn read_row(text: &[u8], at: Cursor, line: u64) -> LineRow
     if text.len() <= a {
         return LineRow::End;
     }
-    let e = lines::line_end(text, a);
+    let e = lines::ends::line_end(text, a);
     let read = index_line::parse_line(&text[a..e], line);
     match read {
         LineRead::Row(x) => {

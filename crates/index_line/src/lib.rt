@@ -102,7 +102,7 @@ pub fn read_line(l: &[u8]) -> LineRead
     if refusal::over_limit(l.len()) {
         return LineRead::Refused(Refusal::TooLong);
     }
-    let one = lines::line_end(l, 0) == l.len();
+    let one = lines::ends::line_end(l, 0) == l.len();
     plain_if(one, parse_line(l, 1))
 }
 

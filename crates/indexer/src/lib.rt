@@ -54,7 +54,7 @@ fn index_rest(s: &[u8], at: usize, first: Line) -> Rest
     requires { ⌜ (at ≤ length (now s)) × (0 < first .bases) × (first .bases ≤ first .width) × (first .width ≤ at) ⌝ }
     ensures { λ r. ⌜ r ≡ restSays first (first .bases) at (seqAt (now (s .entry)) at) ⌝ }
 {
-    let alike = lines::lines_like(s, at, first);
+    let alike = lines::alike::lines_like(s, at, first);
     let i = at + alike * first.width;
     let n = first.bases + alike * first.bases;
     let l = lines::sequence_line(s, i);
@@ -126,7 +126,7 @@ pub fn index_at(s: &[u8], at: usize) -> Step
             next: Indexer { at },
         };
     }
-    let e = lines::line_end(s, at);
+    let e = lines::ends::line_end(s, at);
     let d = definition::parse_line(&s[at..e]);
     match d {
         Parsed::Named(x) => index_sequence(s, at, e, x),

@@ -142,7 +142,7 @@ fn rows_here(s: &[u8], at: usize, start: Offset, row_bases: u64, row_width: u64)
         width: row_width as usize,
         bases: row_bases as usize,
     };
-    lines::lines_like(s, at, row)
+    lines::alike::lines_like(s, at, row)
 }
 
 // The walk over the lines from `at` on that are rows: each of their bases is where the numbers say.
@@ -177,7 +177,7 @@ fn walk_rows(s: &[u8], at: usize, x: Record, row_bases: u64) -> Walked
     let mut walk = begun.walk;
     let mut i = begun.next;
     while !lines::sequence_ends(s, i) {
-        let e = lines::line_end(s, i);
+        let e = lines::ends::line_end(s, i);
         let bases = lines::base_count(&s[i..e]);
         walk = walk_line(walk, row_bases, row_width, Offset(i as u64), bases as u64);
         i = e;

@@ -1,4 +1,4 @@
--- `lines::lines_like` meets its contract: the lines passed and those alike from the place on are all that are alike.
+-- `lines::alike::lines_like` meets its contract: the lines passed and those alike from the place on are all that are alike.
 -- Assumes nothing.
 use Prim.Native.Nat.{_+_, _-_, _≤_, _<_}
 use mathlib.Core.Path.{_≡_, sym, _∙_, ap}
@@ -10,8 +10,8 @@ use Rattle.lines.specs.Lines.{seqAt}
 use Rattle.lines.specs.Laws.{seqAt-end}
 use Rattle.lines.specs.Alike.{alike, alike-stop, alike-none, alike-flat, alike-next}
 use Rattle.lines.specs.Clear.{like-fits}
-use Rattle.lines.proofs.lines_like.Statement.{statement}
-use Rattle.lines.proofs.lines_like.Tie as tie
+use Rattle.lines.proofs.alike.lines_like.Statement.{statement}
+use Rattle.lines.proofs.alike.lines_like.Tie as tie
 
 abbrev Inv-loop : tie.InvT-loop
 Inv-loop s at like i₀ n₀ i n = (i ≤ length s) × (n ≤ i) × (n + alike like (seqAt s i) ≡ alike like (seqAt s at))

@@ -1,4 +1,4 @@
--- `lines::line_end_far` meets its contract: a block without an LF leaves the end where it is, and one with an LF tells it.
+-- `lines::ends::line_end_far` meets its contract: a block without an LF leaves the end where it is, and one with an LF tells it.
 -- Assumes nothing.
 use Prim.Native.Nat.{_-_, _≤_, _<_}
 use mathlib.Core.Path.{_≡_, sym, _∙_}
@@ -8,8 +8,8 @@ use lib.ListN.{length, drop}
 use Rattle.lines.specs.Lines.{lineEnd}
 use Rattle.lines.specs.Laws.{lineLen-end}
 use Rattle.lines.specs.FirstLf.{leftAtLf, left-le, left-some, end-past, end-here}
-use Rattle.lines.proofs.line_end_far.Statement.{statement}
-use Rattle.lines.proofs.line_end_far.Tie as tie
+use Rattle.lines.proofs.ends.line_end_far.Statement.{statement}
+use Rattle.lines.proofs.ends.line_end_far.Tie as tie
 
 abbrev Inv-loop : tie.InvT-loop
 Inv-loop s at i₀ i = lineEnd s i ≡ lineEnd s at

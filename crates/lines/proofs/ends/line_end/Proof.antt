@@ -1,12 +1,12 @@
--- `lines::line_end` meets its contract: the first block tells the end, or has no LF and leaves it where it is.
+-- `lines::ends::line_end` meets its contract: the first block tells the end, or has no LF and leaves it where it is.
 -- Assumes nothing.
 use mathlib.Core.Path.{_≡_, sym, _∙_}
 use native.Mathlib.Omega.{arith}
 use borrow.Author.Needs.{needs}
 use lib.ListN.{drop}
 use Rattle.lines.specs.FirstLf.{left-le, left-clear, end-past, end-here}
-use Rattle.lines.proofs.line_end.Statement.{statement}
-use Rattle.lines.proofs.line_end.Tie as tie
+use Rattle.lines.proofs.ends.line_end.Statement.{statement}
+use Rattle.lines.proofs.ends.line_end.Tie as tie
 
 line-end-near-requires : tie.Need-line-end-near-requires
 line-end-near-requires c κs = search needs

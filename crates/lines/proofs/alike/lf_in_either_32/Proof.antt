@@ -1,18 +1,18 @@
--- `lines::lf_in_either_64` meets its contract: at each place `any` says whether an LF is among the bytes looked at in the two blocks.
+-- `lines::alike::lf_in_either_32` meets its contract: at each place `any` says whether an LF is among the bytes looked at in the two blocks.
 -- Assumes nothing.
 use Prim.Native.Nat.{_-_, _≤_}
 use mathlib.Core.Path.{_≡_}
 use native.Mathlib.Omega.{arith}
 use borrow.Author.Needs.{needs}
 use Rattle.lines.specs.Blocks.{lfInEither, either-none, either-more}
-use Rattle.lines.proofs.lf_in_either_64.Statement.{statement}
-use Rattle.lines.proofs.lf_in_either_64.Tie as tie
+use Rattle.lines.proofs.alike.lf_in_either_32.Statement.{statement}
+use Rattle.lines.proofs.alike.lf_in_either_32.Tie as tie
 
 abbrev Inv-loop : tie.InvT-loop
-Inv-loop s p q any₀ k₀ any k = (k ≤ 64) × (any ≡ lfInEither s p q k)
+Inv-loop s p q any₀ k₀ any k = (k ≤ 32) × (any ≡ lfInEither s p q k)
 
 abbrev μ-loop : tie.MeasureT-loop
-μ-loop s p q any₀ k₀ any k = 64 - k
+μ-loop s p q any₀ k₀ any k = 32 - k
 
 loop-holds : tie.Need-loop-holds Inv-loop μ-loop
 loop-holds c = (omega arith, either-none _ _ _)
@@ -39,10 +39,10 @@ loop-again : tie.Need-loop-again Inv-loop μ-loop
 loop-again c = (omega arith, either-more _ _ _ _ _ (omega arith) (omega arith) (c .before .before .before .loop .inv .1))
 
 returns : tie.Need-returns Inv-loop μ-loop
-returns c = let e : c .before .loop .k ≡ 64 = omega arith in rw e at (c .before .loop .inv .1)
+returns c = let e : c .before .loop .k ≡ 32 = omega arith in rw e at (c .before .loop .inv .1)
 
-pub lf-in-either-64-spec : {M : Type 1} → statement M
-lf-in-either-64-spec =
+pub lf-in-either-32-spec : {M : Type 1} → statement M
+lf-in-either-32-spec =
     tie.close
     (tie.spec
     Inv-loop

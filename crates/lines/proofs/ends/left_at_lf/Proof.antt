@@ -1,4 +1,4 @@
--- `lines::left_at_lf` meets its contract: at each place `left` says what the bytes looked at say.
+-- `lines::ends::left_at_lf` meets its contract: at each place `left` says what the bytes looked at say.
 -- Assumes nothing.
 use Prim.Native.Nat.{_-_, _≤_}
 use mathlib.Core.Path.{_≡_, _∙_}
@@ -6,8 +6,8 @@ use native.Mathlib.Omega.{arith}
 use borrow.Author.Needs.{needs}
 use lib.ListN.{take, drop}
 use Rattle.lines.specs.FirstLf.{leftAtLf, left-none, left-more, left-all, left-le}
-use Rattle.lines.proofs.left_at_lf.Statement.{statement}
-use Rattle.lines.proofs.left_at_lf.Tie as tie
+use Rattle.lines.proofs.ends.left_at_lf.Statement.{statement}
+use Rattle.lines.proofs.ends.left_at_lf.Tie as tie
 
 abbrev Inv-loop : tie.InvT-loop
 Inv-loop s i left₀ k₀ left k = (k ≤ 64) × (left ≡ leftAtLf 64 (take k (drop i s)))

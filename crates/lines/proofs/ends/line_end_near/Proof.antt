@@ -1,4 +1,4 @@
--- `lines::line_end_near` meets its contract: the end of the line at `i` stays the end of the line at `at`.
+-- `lines::ends::line_end_near` meets its contract: the end of the line at `i` stays the end of the line at `at`.
 -- Assumes nothing.
 use Prim.Native.Nat.{_-_}
 use mathlib.Core.Path.{_≡_}
@@ -8,8 +8,8 @@ use native.Mathlib.Numerals.{add-one}
 use lib.ListN.{length}
 use Rattle.lines.specs.Lines.{lineEnd}
 use Rattle.lines.specs.Laws.{lineLen-hit, lineLen-miss, lineLen-end}
-use Rattle.lines.proofs.line_end_near.Statement.{statement}
-use Rattle.lines.proofs.line_end_near.Tie as tie
+use Rattle.lines.proofs.ends.line_end_near.Statement.{statement}
+use Rattle.lines.proofs.ends.line_end_near.Tie as tie
 
 abbrev Inv-loop : tie.InvT-loop
 Inv-loop s at i₀ i = lineEnd s i ≡ lineEnd s at

@@ -1,4 +1,4 @@
--- `lines::lf_among_many` meets its contract: no LF is among the bytes passed, and the last block begins in them.
+-- `lines::alike::lf_among_many` meets its contract: no LF is among the bytes passed, and the last block begins in them.
 -- Assumes nothing.
 use Prim.Native.Nat.{_+_, _-_, _≤_}
 use mathlib.Core.Path.{_≡_, refl, sym, _∙_}
@@ -8,8 +8,8 @@ use borrow.Author.Needs.{needs}
 use lib.ListN.{take, drop}
 use Rattle.lines.specs.Clear.{hasLf, lf-none}
 use Rattle.lines.specs.Blocks.{either-row, blocks-hit, blocks-on, blocks-last}
-use Rattle.lines.proofs.lf_among_many.Statement.{statement}
-use Rattle.lines.proofs.lf_among_many.Tie as tie
+use Rattle.lines.proofs.alike.lf_among_many.Statement.{statement}
+use Rattle.lines.proofs.alike.lf_among_many.Tie as tie
 
 abbrev Inv-loop : tie.InvT-loop
 Inv-loop s at n k₀ k = (k ≤ n) × (hasLf (take k (drop at s)) ≡ false)

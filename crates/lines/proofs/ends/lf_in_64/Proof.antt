@@ -1,4 +1,4 @@
--- `lines::lf_in_64` meets its contract: at each place `any` says whether an LF is among the bytes looked at.
+-- `lines::ends::lf_in_64` meets its contract: at each place `any` says whether an LF is among the bytes looked at.
 -- Assumes nothing.
 use Prim.Native.Nat.{_-_, _≤_}
 use mathlib.Core.Path.{_≡_, refl, sym, _∙_}
@@ -7,8 +7,8 @@ use borrow.Author.Needs.{needs}
 use lib.ListN.{take, drop}
 use Rattle.lines.specs.Clear.{hasLf, lf-none}
 use Rattle.lines.specs.Blocks.{lf-more}
-use Rattle.lines.proofs.lf_in_64.Statement.{statement}
-use Rattle.lines.proofs.lf_in_64.Tie as tie
+use Rattle.lines.proofs.ends.lf_in_64.Statement.{statement}
+use Rattle.lines.proofs.ends.lf_in_64.Tie as tie
 
 abbrev Inv-loop : tie.InvT-loop
 Inv-loop s i any₀ k₀ any k = (k ≤ 64) × (any ≡ hasLf (take k (drop i s)))

@@ -1,4 +1,4 @@
--- `lines::lf_among_few` meets its contract: what the bytes from the place looked at say stays what all of them say.
+-- `lines::alike::lf_among_few` meets its contract: what the bytes from the place looked at say stays what all of them say.
 -- Assumes nothing.
 use Prim.Native.Nat.{_+_, _-_, _≤_}
 use mathlib.Core.Path.{_≡_, sym, _∙_, ap}
@@ -8,8 +8,8 @@ use native.Mathlib.Nat.{add-zero, sub-zero}
 use borrow.Author.Needs.{needs}
 use lib.ListN.{length, take, drop}
 use Rattle.lines.specs.Clear.{hasLf, lf-here, lf-on, lf-none}
-use Rattle.lines.proofs.lf_among_few.Statement.{statement}
-use Rattle.lines.proofs.lf_among_few.Tie as tie
+use Rattle.lines.proofs.alike.lf_among_few.Statement.{statement}
+use Rattle.lines.proofs.alike.lf_among_few.Tie as tie
 
 abbrev Inv-loop : tie.InvT-loop
 Inv-loop s at n k₀ k = (k ≤ n) × (hasLf (take (n - k) (drop (at + k) s)) ≡ hasLf (take n (drop at s)))

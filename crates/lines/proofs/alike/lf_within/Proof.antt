@@ -1,11 +1,11 @@
--- `lines::lf_within` meets its contract: the first block and the last are all of the bytes.
+-- `lines::alike::lf_within` meets its contract: the first block and the last are all of the bytes.
 -- Assumes nothing.
 use mathlib.Core.Path.{_∙_}
 use native.Mathlib.Omega.{arith}
 use borrow.Author.Needs.{needs}
 use Rattle.lines.specs.Blocks.{either-all}
-use Rattle.lines.proofs.lf_within.Statement.{statement}
-use Rattle.lines.proofs.lf_within.Tie as tie
+use Rattle.lines.proofs.alike.lf_within.Statement.{statement}
+use Rattle.lines.proofs.alike.lf_within.Tie as tie
 
 lf-among-few-requires : tie.Need-lf-among-few-requires
 lf-among-few-requires c κs = search needs

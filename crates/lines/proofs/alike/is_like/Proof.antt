@@ -1,4 +1,4 @@
--- `lines::is_like` meets its contract: each test is one that a line like the other passes, and together they are enough.
+-- `lines::alike::is_like` meets its contract: each test is one that a line like the other passes, and together they are enough.
 -- Assumes nothing.
 use Prim.Native.Nat.{_-_}
 use mathlib.Core.Path.{_≡_, sym, _∙_, ap}
@@ -7,8 +7,8 @@ use lib.Dec.{eqb}
 use native.Mathlib.Omega.{arith}
 use Rattle.lines.specs.Clear.{like-by, like-fits, like-clear, like-first-byte, like-last-byte, not-true}
 use borrow.Author.Needs.{needs}
-use Rattle.lines.proofs.is_like.Statement.{statement}
-use Rattle.lines.proofs.is_like.Tie as tie
+use Rattle.lines.proofs.alike.is_like.Statement.{statement}
+use Rattle.lines.proofs.alike.is_like.Tie as tie
 
 sub-if1 : tie.Need-sub-if1
 sub-if1 c = search needs

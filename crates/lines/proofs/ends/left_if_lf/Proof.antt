@@ -1,9 +1,9 @@
--- `lines::left_if_lf` meets its contract: its test is the one that the contract names.
+-- `lines::ends::left_if_lf` meets its contract: its test is the one that the contract names.
 -- Assumes nothing.
 use mathlib.Core.Path.{_≡_}
 use borrow.Author.Tests.{eq-eqb, ne-eqb}
-use Rattle.lines.proofs.left_if_lf.Statement.{statement}
-use Rattle.lines.proofs.left_if_lf.Tie as tie
+use Rattle.lines.proofs.ends.left_if_lf.Statement.{statement}
+use Rattle.lines.proofs.ends.left_if_lf.Tie as tie
 
 returns : tie.Need-returns
 returns c = rw (eq-eqb _ _ (c .if1 .taken))

@@ -1,0 +1,140 @@
+// Lines alike: how many sequence lines in a row have the width and the bases of a given one. Such a line need not be searched for its
+// end: it has an LF where its end should be, and none before. Example: after a line of 61 bytes, the LF of a line like it is 60 bytes on,
+// and two overlapping blocks of 32 bytes cover the 60 bytes before it.
+use crate::Line;
+ghost use mathlib.Core.Path.{_≡_};
+ghost use Prim.Native.Nat.{_+_, _≤_, _<_};
+ghost use lib.ListN.{length, take, drop};
+ghost use Rattle.lines.specs.Lines.{seqAt};
+ghost use Rattle.lines.specs.Alike.{firstLike, alike};
+ghost use Rattle.lines.specs.Clear.{hasLf};
+ghost use Rattle.lines.specs.Blocks.{lfInEither};
+
+// Is one of the 16 bytes from `p` on, or of the 16 from `q` on, an LF. The loop never stops early, so the compiler looks at all of them
+// at once. That needs a block of constant size, and Rattle has no generics: hence one function, and one proof, for each of three sizes.
+fn lf_in_either_16(s: &[u8], p: usize, q: usize) -> bool
+    requires { ⌜ (p + 16 ≤ length (now s)) × (q + 16 ≤ length (now s)) ⌝ }
+    ensures { λ r. ⌜ r ≡ lfInEither (now (s .entry)) p q 16 ⌝ }
+{
+    let mut any = false;
+    for k in 0..16 {
+        any = any | (s[p + k] == b'\n') | (s[q + k] == b'\n');
+    }
+    any
+}
+
+// Is one of the 32 bytes from `p` on, or of the 32 from `q` on, an LF.
+fn lf_in_either_32(s: &[u8], p: usize, q: usize) -> bool
+    requires { ⌜ (p + 32 ≤ length (now s)) × (q + 32 ≤ length (now s)) ⌝ }
+    ensures { λ r. ⌜ r ≡ lfInEither (now (s .entry)) p q 32 ⌝ }
+{
+    let mut any = false;
+    for k in 0..32 {
+        any = any | (s[p + k] == b'\n') | (s[q + k] == b'\n');
+    }
+    any
+}
+
+// Is one of the 64 bytes from `p` on, or of the 64 from `q` on, an LF.
+fn lf_in_either_64(s: &[u8], p: usize, q: usize) -> bool
+    requires { ⌜ (p + 64 ≤ length (now s)) × (q + 64 ≤ length (now s)) ⌝ }
+    ensures { λ r. ⌜ r ≡ lfInEither (now (s .entry)) p q 64 ⌝ }
+{
+    let mut any = false;
+    for k in 0..64 {
+        any = any | (s[p + k] == b'\n') | (s[q + k] == b'\n');
+    }
+    any
+}
+
+// Is one of the `n` bytes from `at` on an LF: byte by byte.
+fn lf_among_few(s: &[u8], at: usize, n: usize) -> bool
+    requires { ⌜ at + n ≤ length (now s) ⌝ }
+    ensures { λ r. ⌜ r ≡ hasLf (take n (drop at (now (s .entry)))) ⌝ }
+{
+    let mut k = 0;
+    while k < n {
+        if s[at + k] == b'\n' {
+            return true;
+        }
+        k += 1;
+    }
+    false
+}
+
+// Is one of the `n` bytes from `at` on an LF, where there are 128 at least: by blocks of 128, the last of which ends where they end.
+fn lf_among_many(s: &[u8], at: usize, n: usize) -> bool
+    requires { ⌜ (128 ≤ n) × (at + n ≤ length (now s)) ⌝ }
+    ensures { λ r. ⌜ r ≡ hasLf (take n (drop at (now (s .entry)))) ⌝ }
+{
+    let mut k = 0;
+    while 128 < n - k {
+        let p = at + k;
+        if lf_in_either_64(s, p, p + 64) {
+            return true;
+        }
+        k += 128;
+    }
+    let q = at + (n - 128);
+    lf_in_either_64(s, q, q + 64)
+}
+
+// Is one of the `n` bytes from `at` on an LF. Two overlapping blocks cover every byte.
+fn lf_within(s: &[u8], at: usize, n: usize) -> bool
+    requires { ⌜ at + n ≤ length (now s) ⌝ }
+    ensures { λ r. ⌜ r ≡ hasLf (take n (drop at (now (s .entry)))) ⌝ }
+{
+    if n < 16 {
+        return lf_among_few(s, at, n);
+    }
+    if n <= 32 {
+        return lf_in_either_16(s, at, at + (n - 16));
+    }
+    if n <= 64 {
+        return lf_in_either_32(s, at, at + (n - 32));
+    }
+    if n <= 128 {
+        return lf_in_either_64(s, at, at + (n - 64));
+    }
+    lf_among_many(s, at, n)
+}
+
+// Is the sequence line at `at` ended by an LF, with the width and the bases of `like`: it is looked for where its end should be.
+fn is_like(s: &[u8], at: usize, like: Line) -> bool
+    requires { ⌜ (at ≤ length (now s)) × (0 < like .width) ⌝ }
+    ensures { λ r. ⌜ r ≡ firstLike like (seqAt (now (s .entry)) at) ⌝ }
+{
+    if s.len() - at < like.width {
+        return false;
+    }
+    let last = at + (like.width - 1);
+    if lf_within(s, at, like.width - 1) {
+        return false;
+    }
+    if s[at] == b'>' {
+        return false;
+    }
+    if s[last] != b'\n' {
+        return false;
+    }
+    crate::chopped(&s[at..last], b'\r') == like.bases
+}
+
+// How many sequence lines from `at` on are ended by an LF, with the width and the bases of `like`, up to the first that is not.
+pub fn lines_like(s: &[u8], at: usize, like: Line) -> usize
+    ensures { λ r. ⌜ r ≡ alike like (seqAt (now (s .entry)) at) ⌝ }
+{
+    if s.len() < at {
+        return 0;
+    }
+    if like.width == 0 {
+        return 0;
+    }
+    let mut i = at;
+    let mut n = 0;
+    while is_like(s, i, like) {
+        i += like.width;
+        n += 1;
+    }
+    n
+}
