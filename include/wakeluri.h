@@ -149,6 +149,10 @@ struct wakeluri_score wakeluri_score_typed(const uint8_t *key, size_t key_length
 /* Accepts a FASTA file and an index of any program exactly if the index leads to every base. Refuses 1, 2 to 4, 19, 9 to 12, 21 to 23, 20. */
 struct wakeluri_answer wakeluri_check(const uint8_t *fasta, size_t fasta_length, const uint8_t *index, size_t index_length);
 
+/* Uses the code for a level of x86-64 (1, 3 or 4), or for the best that the processor has where that is less; 0 asks for the best, which
+ * is in use from the start. Returns the level in use. Every level gives the same answers: this is for tests and timings. */
+uint64_t wakeluri_use_level(uint64_t level);
+
 #ifdef __cplusplus
 }
 #endif

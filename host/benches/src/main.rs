@@ -3,6 +3,7 @@
 //! same answers.
 
 mod files;
+mod levels;
 mod measure;
 /// How the command has the library look up many names: what it promises is timed here.
 #[allow(dead_code)]
@@ -30,15 +31,18 @@ struct Plan {
     quick: bool,
     /// Only the parts whose name holds this.
     only: String,
+    /// Tells it as JSON.
+    json: bool,
 }
 
 impl Plan {
     fn of_words(words: impl Iterator<Item = String>) -> Option<Self> {
-        let mut plan = Self { quick: false, only: String::new() };
+        let mut plan = Self { quick: false, only: String::new(), json: false };
         let mut words = words;
         while let Some(word) = words.next() {
             match word.as_str() {
                 "--quick" => plan.quick = true,
+                "--json" => plan.json = true,
                 "--only" => plan.only = words.next()?,
                 _ => return None,
             }
@@ -423,6 +427,9 @@ fn run(plan: &Plan) -> Report {
     if part("text") {
         index_text(plan, &mut report, &records);
     }
+    if part("levels") {
+        report.levelled = levels::run(plan);
+    }
     if part("growth") {
         growth(plan, &mut report);
     }
@@ -431,17 +438,22 @@ fn run(plan: &Plan) -> Report {
 
 fn main() {
     let Some(plan) = Plan::of_words(std::env::args().skip(1)) else {
-        eprintln!("usage: benches [--quick] [--only lines|records|long|reads|names|complement|write|text|growth]");
+        eprintln!("usage: benches [--quick] [--json] [--only lines|records|long|reads|names|complement|write|text|levels|growth]");
         std::process::exit(2);
     };
-    print!("{}", run(&plan));
+    let report = run(&plan);
+    if plan.json {
+        print!("{}", report.json());
+    } else {
+        print!("{report}");
+    }
 }
 
 #[cfg(test)]
 mod tests {
     use super::*;
 
-    const QUICK: Plan = Plan { quick: true, only: String::new() };
+    const QUICK: Plan = Plan { quick: true, only: String::new(), json: false };
 
     #[test]
     fn small_files_give_the_same_answers() {
@@ -461,6 +473,8 @@ mod tests {
         assert_eq!((report.compared.len(), report.checked.len(), report.handed_out.len()), (30, 4, 2));
         let told = report.to_string();
         assert!(told.contains("| index, records | ") && told.contains(" 50 records | 1 | "), "{told}");
+        assert_eq!(report.goals().len(), 30 + 4 + 2);
+        assert!(told.contains("| goals: ") && report.json().starts_with("{\"goals\":[{\"of\":\"index, a genome, "));
     }
 
     #[test]
@@ -474,6 +488,7 @@ mod tests {
         let plan = |words: &[&str]| Plan::of_words(words.iter().map(|word| word.to_string()));
         assert!(plan(&[]).is_some_and(|plan| !plan.quick && plan.only.is_empty()));
         assert!(plan(&["--only", "reads", "--quick"]).is_some_and(|plan| plan.quick && plan.only == "reads"));
+        assert!(plan(&["--json"]).is_some_and(|plan| plan.json));
         assert!(plan(&["--only"]).is_none() && plan(&["--fast"]).is_none());
     }
 }

@@ -1,5 +1,6 @@
 //! What was found, as Markdown.
 
+use crate::levels::{Levelled, levels};
 use std::fmt;
 
 /// A work of both sides. Times are in seconds.
@@ -74,6 +75,20 @@ pub struct Report {
     pub handed_out: Vec<HandedOut>,
     pub looked_up: Vec<LookedUp>,
     pub mapped: Vec<Mapped>,
+    pub levelled: Vec<Levelled>,
+}
+
+/// A goal, and what was found.
+pub struct Goal {
+    pub of: String,
+    pub goal: f64,
+    pub found: f64,
+}
+
+impl Goal {
+    pub fn met(&self) -> bool {
+        self.found >= self.goal
+    }
 }
 
 /// The checker's goal: so much of the speed of indexing.
@@ -141,6 +156,73 @@ impl Compared {
             }
             None => writeln!(f, "| | | |"),
         }
+    }
+}
+
+impl Report {
+    /// Every goal of this run, in the order of the tables.
+    pub fn goals(&self) -> Vec<Goal> {
+        let compared = self.compared.iter().map(|c| Goal {
+            of: format!("{}, {}: times the original", c.work, c.size),
+            goal: c.goal,
+            found: c.ratio(),
+        });
+        let checked = self.checked.iter().map(|c| Goal {
+            of: format!("check, {}: part of the speed of indexing", c.file),
+            goal: CHECK_GOAL,
+            found: c.index / c.check,
+        });
+        let mapped = self.mapped.iter().map(|m| Goal {
+            of: format!("{} look-ups among {} names: times the walks", number(m.look_ups), number(m.names)),
+            goal: MAP_GOAL,
+            found: m.walk / m.built,
+        });
+        compared.chain(checked).chain(mapped).collect()
+    }
+
+    /// The same for machines: each work's seconds, and each goal, as one JSON object.
+    pub fn json(&self) -> String {
+        let text = |text: &str| format!("\"{}\"", text.replace('\\', "\\\\").replace('"', "\\\""));
+        let goals = self.goals();
+        let goals = goals.iter().map(|g| {
+            format!("{{\"of\":{},\"goal\":{},\"found\":{:.4},\"met\":{}}}", text(&g.of), g.goal, g.found, g.met())
+        });
+        let works = self.compared.iter().map(|c| {
+            let (work, size, original) = (text(&c.work), text(&c.size), c.original());
+            format!(
+                "{{\"work\":{work},\"size\":{size},\"bytes\":{},\"seconds\":{:e},\"original\":{original:e}}}",
+                c.bytes, c.ours
+            )
+        });
+        let levelled = self.levelled.iter().map(|l| {
+            let seconds: Vec<String> = l.seconds.iter().map(|seconds| format!("{seconds:e}")).collect();
+            format!("{{\"work\":{},\"bytes\":{},\"seconds\":[{}]}}", text(&l.work), l.bytes, seconds.join(","))
+        });
+        let list = |items: Vec<String>| items.join(",");
+        format!(
+            "{{\"goals\":[{}],\"works\":[{}],\"levels\":{:?},\"levelled\":[{}]}}\n",
+            list(goals.collect()),
+            list(works.collect()),
+            levels(),
+            list(levelled.collect())
+        )
+    }
+
+    /// Which goals are met and which are missed, the missed ones first.
+    fn summary(&self, f: &mut fmt::Formatter) -> fmt::Result {
+        let mut goals = self.goals();
+        if goals.is_empty() {
+            return Ok(());
+        }
+        goals.sort_by_key(Goal::met);
+        let met = goals.iter().filter(|goal| goal.met()).count();
+        writeln!(f, "\n| goals: {met} met, {} missed | goal | found | |", goals.len() - met)?;
+        writeln!(f, "|---|---|---|---|")?;
+        for goal in &goals {
+            let verdict = if goal.met() { "met" } else { "**missed**" };
+            writeln!(f, "| {} | {} | {:.2} | {verdict} |", goal.of, goal.goal, goal.found)?;
+        }
+        Ok(())
     }
 }
 
@@ -216,7 +298,17 @@ impl fmt::Display for Report {
             let [index, check, original, sum] = [*index, *check, *original, *sum].map(each);
             writeln!(f, "| {bytes} | {index} | {check} | {original} | {sum} | {ratio:.2} |")?;
         }
-        Ok(())
+        if !self.levelled.is_empty() {
+            let levels = levels();
+            let columns = |cell: fn(&u64) -> String| levels.iter().map(cell).collect::<Vec<_>>().join(" | ");
+            writeln!(f, "\n| times as fast as level 1 of x86-64 | {} |", columns(|level| format!("level {level}")))?;
+            writeln!(f, "|---|{}|", columns(|_| "---".to_string()).replace(' ', ""))?;
+        }
+        for Levelled { work, bytes, seconds } in &self.levelled {
+            let cell = |s: &f64| format!("{:.2} ({} GB/s)", seconds[0] / s, gigabytes(*bytes, *s));
+            writeln!(f, "| {work} | {} |", seconds.iter().map(cell).collect::<Vec<_>>().join(" | "))?;
+        }
+        self.summary(f)
     }
 }
 

@@ -36,6 +36,8 @@ mod bounds;
 mod course;
 #[allow(unsafe_code)]
 pub mod entry;
+#[allow(unsafe_code)]
+mod level;
 mod list;
 mod names;
 mod primer;
@@ -47,6 +49,7 @@ mod writer;
 
 pub use bounds::Bounds;
 pub use course::{Exercise, Score, read_exercise, score_typed, write_exercise};
+pub use level::{LEVELS, use_level};
 pub use names::Names;
 pub use primer::{Places, degeneracy, find_primer, find_primer_from, primer_places};
 pub use refusal::{Call, Refusal};

@@ -191,8 +191,21 @@ static void beyond_the_limit(void) {
     munmap((void *)big, n);
 }
 
+/* Every level gives the same answers; a level that the processor hasn't, or that there isn't, becomes one that it has. */
+static void levels(void) {
+    uint64_t const best = wakeluri_use_level(0);
+    MUST(best == 1 || best == 3 || best == 4);
+    MUST(wakeluri_use_level(UINT64_MAX) == best);
+    for (uint64_t level = 1; level <= best; level++) {
+        MUST(wakeluri_use_level(level) == level);
+        ordinary_calls();
+    }
+    MUST(wakeluri_use_level(0) == best);
+}
+
 int main(void) {
     ordinary_calls();
+    levels();
     beyond_the_limit();
     return 0;
 }
