@@ -5,6 +5,7 @@ pub mod Laws
 pub mod Chains
 pub mod AtTheEdge
 pub mod Marked
+pub mod Barred
 pub mod LookUpTells
 pub mod LookUpLaws
 pub mod LookUp

@@ -13,6 +13,7 @@ Examples:
   wakeluri read ref.fa --regions sheet.txt  all regions of a sheet, or none
   wakeluri revcomp ref.fa chr1:101-200      their reverse complement
   wakeluri primer GARNTYC ref.fa            where a primer matches, on both strands
+  wakeluri mend ref.fa chr1:1204 G          one base replaced in place; the index stays good
   wakeluri wrap ref.fa -w 60 -o new.fa      the file in lines of 60 bases
   wakeluri list ref.fa                      its records, with their descriptions
 
@@ -97,6 +98,15 @@ Examples:
 A primer has 1 to 31 letters of ACGTU and MRWSYKVHDBN, the IUPAC codes; small ones too, and U is T. It is found where the bases of each
 letter of the file lie among those of its letter: N is found by N alone. A gap, or another byte, is in no match.
 A line has the record, the first and the last base counted from 1, the strand, and the bases as that strand has them. Places may overlap.";
+
+const MEND_EXAMPLES: &str = "\
+Examples:
+  wakeluri mend ref.fa chr1:1204 G             base 1204 of chr1 becomes G
+  wakeluri mend ref.fa chr1:1204 G --dry-run   says what would be done, and writes nothing
+
+The index is checked with the file first, and stays as it is: it is proved that it fits the mended file too, and that only reads that
+cover this base change. One byte of the file is written, in place. A line feed, a carriage return and '>' are refused.
+While the byte is on its way a note stands beside the file, FILE.mend; after a crash it says whether the byte was written.";
 
 fn file() -> Arg {
     Arg::new("file")
@@ -313,6 +323,29 @@ pub fn command() -> Command {
                         .help("say how many plain sequences the primer stands for; no file is read")
                         .conflicts_with_all(["file", "bed"]),
                 ),
+        )
+        .subcommand(
+            Command::new("mend")
+                .about("Replace one base of a file in place; its index stays good")
+                .after_help(MEND_EXAMPLES)
+                .arg(file().help("the FASTA file").required(true))
+                .arg(
+                    Arg::new("region")
+                        .value_name("NAME:POSITION")
+                        .help("the record's name and the base, counted from 1")
+                        .required(true)
+                        .value_parser(value_parser!(OsString)),
+                )
+                .arg(
+                    Arg::new("base")
+                        .value_name("BASE")
+                        .help("the new base, one byte")
+                        .required(true)
+                        .value_parser(value_parser!(OsString)),
+                )
+                .arg(index_option())
+                .arg(flag("dry-run").help("say what would be done, and write nothing"))
+                .arg(flag("strict").help("refuse a new base that is no letter")),
         )
         .subcommand(Command::new("completions").hide(true).about("Write the completions of a shell").arg(
             Arg::new("shell").value_name("SHELL").required(true).value_parser(value_parser!(clap_complete::Shell)),

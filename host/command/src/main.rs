@@ -10,6 +10,7 @@ mod input;
 mod json;
 mod letters;
 mod list;
+mod mend;
 mod names;
 mod narrow;
 mod nearest;
@@ -33,6 +34,7 @@ use failure::{Failure, Refused};
 use input::{How, Input, is_placeless, is_standard};
 use json::Object;
 use letters::Odd;
+use mend::Mend;
 use narrow::Narrow;
 use output::{Answers, Output};
 use place::count;
@@ -91,6 +93,7 @@ fn main() -> ExitCode {
         Some(("list", words)) => list(words, common),
         Some(("wrap", words)) => wrap(words, common),
         Some(("primer", words)) => primer(words, common),
+        Some(("mend", words)) => mend(words, common),
         Some(("completions", words)) => completions(words),
         _ => Err(Failure::Usage("there is no such command".to_string())),
     };
@@ -495,6 +498,53 @@ fn primer(words: &ArgMatches, common: Common) -> Result<(), Failure> {
     let asked = if asked.is_empty() { all_records(&rows) } else { asked };
     let source = Source { fasta: &fasta, rows: &rows, numbers: None };
     source.find(&source.regions(asked)?, &primer, form)
+}
+
+/// Mends a base of a file whose index is accepted, and shows that it still is.
+fn mend(words: &ArgMatches, common: Common) -> Result<(), Failure> {
+    let word = |name| words.get_one::<OsString>(name).map(|word| word.as_bytes()).unwrap_or_default();
+    let (new, asked) = (mend::base(word("base"))?, mend::asked(word("region"))?);
+    let file = path(words, "file").unwrap_or(Path::new("-"));
+    if is_placeless(file) {
+        return Err(Failure::Usage(format!("{} is no file that can be mended in place", input::shown(file))));
+    }
+    let dry = words.get_flag("dry-run");
+    let mended = {
+        let fasta = common.open(file, common.how)?;
+        let index = index_beside(words, file, common)?;
+        let rows = match &index {
+            None => work::index(&fasta, Rule::Complete)?,
+            Some(index) => {
+                work::check(&fasta, index)?;
+                work::read_index(&fasta, index)?
+            }
+        };
+        let source = Source { fasta: &fasta, rows: &rows, numbers: None };
+        let regions = source.regions(vec![Ok(asked)])?;
+        let mended = Mend::of(source, regions[0], new)?;
+        mended.judge(&fasta, words.get_flag("strict"))?;
+        fasta.unchanged()?;
+        mended
+    };
+    if !dry && mended.old != mended.new {
+        mended.write(file)?;
+    }
+    let fasta = common.open(file, common.how)?;
+    let index = index_beside(words, file, common)?;
+    match &index {
+        None => drop(work::index(&fasta, Rule::Complete)?),
+        Some(index) => work::check(&fasta, index)?,
+    }
+    if common.json {
+        let mut object = mended.object(&fasta.shown, dry);
+        if let Some(index) = &index {
+            object.text("index", &index.shown).truth("accepted", true);
+        }
+        return report(object.line().as_bytes());
+    }
+    let accepted =
+        index.map_or(String::new(), |index| format!("accepted: {} still leads to every base\n", index.shown));
+    report(format!("{}{accepted}", mended.told(&fasta.shown, dry)).as_bytes())
 }
 
 fn completions(words: &ArgMatches) -> Result<(), Failure> {
