@@ -2,9 +2,13 @@ pub mod Region
 pub mod Exact
 pub mod Raw
 pub mod Inside
+pub mod Part
 pub mod Copy
+pub mod PartLaws
 pub mod Laws
 pub mod Judge
+pub mod Window
+pub mod WindowLaws
 pub mod Dependence
 pub mod Changed
 pub mod Refusals
