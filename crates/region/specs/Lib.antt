@@ -12,6 +12,9 @@ pub mod WindowLaws
 pub mod Dependence
 pub mod Changed
 pub mod Refusals
+pub mod Seen
+pub mod SeenLaws
+pub mod Windowed
 pub mod ByName
 pub mod SplitLaws
 pub mod Split

@@ -159,6 +159,10 @@ module _ (x : Record) (a n : ℕ) (z : 0 < a) where
     pub not-all : (p : ℕ) → a ≤ p → p < a + n → isIn f t (placeIn x (p - 1)) ≡ false → false ≡ leb n (inPart f t (offsetsOf x a n))
     not-all p l m h = sym (lt-leb _ _ (lie-not p l m h))
 
+-- so many, that it is all
+pub count-all : (f t : ℕ) (x : Record) (a n : ℕ) → leb n (inPart f t (offsetsOf x a n)) ≡ true → n ≡ inPart f t (offsetsOf x a n)
+count-all f t x a n h = omega (arith, leb-true n (inPart f t (offsetsOf x a n)) h, part-le f t (offsetsOf x a n), length-offsets x a n)
+
 -- half of a distance, where it is not one step
 pub half : (d : ℕ) → 1 < d → (0 < d / 2) × (d / 2 < d)
 half d h = let two : 0 < 2 = omega arith in omega (arith, div-add-mod' d 2, mod-lt d two)

@@ -41,6 +41,10 @@ pub within-limit : (n : ℕ) → overLimit n ≡ false → n ≤ 1099511627776
 unfolding overLimit
 within-limit n h = ltb-false _ _ h
 
+pub past-limit : (n : ℕ) → overLimit n ≡ true → 1099511627776 < n
+unfolding overLimit
+past-limit n h = ltb-true _ _ h
+
 -- a window passes the end of a file if it begins behind what it leaves of the file
 pub window-rest : (bytes m f : ℕ) → m ≤ bytes → ltb (bytes - m) f ≡ ltb bytes (f + m)
 window-rest bytes m f h = go (ltb (bytes - m) f) refl
@@ -48,6 +52,10 @@ window-rest bytes m f h = go (ltb (bytes - m) f) refl
     go : (t : Bool) → ltb (bytes - m) f ≡ t → t ≡ ltb bytes (f + m)
     go true e = sym (lt-ltb bytes (f + m) (omega (arith, ltb-true (bytes - m) f e)))
     go false e = sym (le-ltb bytes (f + m) (omega (arith, ltb-false (bytes - m) f e)))
+
+-- one that does not is within the limit, and begins there
+pub window-fits : (bytes m f : ℕ) → overLimit bytes ≡ false → ltb bytes (f + m) ≡ false → (f ≤ 1099511627776) × (m ≤ 1099511627776)
+window-fits bytes m f h k = omega (arith, within-limit bytes h, ltb-false bytes (f + m) k)
 
 -- ---- 34, or the bytes
 
@@ -60,6 +68,7 @@ module _ (f : ℕ) (w : List ℕ) (x : Record) (a n : ℕ) (out : List ℕ) (k :
   unfolding seenAt
   seen-read h = rw (length-offsets x a n, ← e, le-ltb _ _ h, length-map (offsetsOf x a n) (byteFrom f w), length-offsets x a n)
 
+module _ (f : ℕ) (w : List ℕ) (x : Record) (a n k : ℕ) (e : k ≡ inPart f (f + length w) (offsetsOf x a n)) where
   -- and a copy can begin
   pub seen-starts : (at run : ℕ) → Judged-in x a at run n → n ≤ k → Starts f w x a n (at - f) run
   seen-starts at run j h =

@@ -4,7 +4,6 @@
 use mathlib.Core.Path.{_≡_, sym, _∙_}
 use mathlib.Core.Bool.{false}
 use borrow.Author.Needs.{needs}
-use borrow.Author.Tests.{ltb-false}
 use Rattle.refusal.specs.Numbers.{overLimit}
 use Rattle.table.specs.RowLaws.{held-of}
 use Rattle.region.specs.Laws.{bounded-known}
@@ -33,16 +32,17 @@ short c = sym (c .before .before .over-limit .ensures) ∙ c .before .if1 .left
 
 needed-region-requires : tie.Need-needed-region-requires
 needed-region-requires c κs =
-    let b = bounded-known _ _ _ _ (sym (c .before .before .bounded-row .ensures) ∙ c .held2 .given .1) in
+    let k = c .before in
+    let b = bounded-known _ _ _ _ (sym (k .before .before .bounded-row .ensures) ∙ k .held2 .given .1) in
     let h = held-of _ _ (b .1) in
-    ((h .some-bases, h .some-width, b .0), within-limit _ (short (c .before .before)))
+    ((h .some-bases, h .some-width, b .0), within-limit _ (short (k .before .before)))
 
 returns-2 : tie.Need-returns-2
-returns-2 c = needed-none _ _ _ _ _ (short (c .before .before)) _ (sym (c .before .before .bounded-row .ensures) ∙ c .held .given .1)
+returns-2 c = let k = c .before in needed-none _ _ _ _ _ (short (k .before .before)) _ (sym (k .before .before .bounded-row .ensures) ∙ k .held .given .1)
 
 returns-3 : tie.Need-returns-3
 returns-3 c =
-    let k = c .before in
+    let k = c .before .before in
     c .needed-region .ensures ∙ needed-row _ _ _ _ _ (short (k .before .before)) _ (sym (k .before .before .bounded-row .ensures) ∙ k .held2 .given .1)
 
 pub needed-bytes-spec : {M : Type 1} → statement M

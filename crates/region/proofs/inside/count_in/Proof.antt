@@ -1,24 +1,21 @@
+-- `region::inside::count_in` meets its contract: all, or as many as halving finds.
+-- Assumes nothing.
+use mathlib.Core.Path.{sym, _∙_}
 use borrow.Author.Needs.{needs}
+use borrow.Author.Tests.{leb-false}
+use Rattle.region.specs.PartLaws.{count-all}
 use Rattle.region.proofs.inside.count_in.Statement.{statement}
 use Rattle.region.proofs.inside.count_in.Tie as tie
-use Rattle.region.proofs.inside.count_in.Reads as reads
-use Rattle.region.proofs.inside.count_in.Lts as lts
-use Rattle.region.proofs.inside.all_in.Reads as all-in-reads
-use Rattle.region.proofs.inside.count_to.Reads as count-to-reads
 
--- src/inside.rt:147:8
 all-in-requires : tie.Need-all-in-requires
 all-in-requires c κs = search needs
 
--- src/inside.rt:148:9
 returns : tie.Need-returns
-returns c = ?
+returns c = let a = c .before .before .args in count-all _ _ (a .x) (a .a .0) (a .n) (sym (c .before .all-in .ensures) ∙ c .if1 .taken)
 
--- src/inside.rt:150:5
 count-to-requires : tie.Need-count-to-requires
-count-to-requires c κs = ?
+count-to-requires c κs = (c .before .before .pre, leb-false _ _ (sym (c .before .all-in .ensures) ∙ c .if1 .left))
 
--- src/inside.rt:143:1
 returns-2 : tie.Need-returns-2
 returns-2 c = search needs
 

@@ -1,6 +1,6 @@
 -- `region::inside::count_to` meets its contract: the count is between the two ends, and they come to stand side by side.
 -- Assumes nothing.
-use Prim.Native.Nat.{ℕ, _-_, _≤_, _<_, min}
+use Prim.Native.Nat.{ℕ, _+_, _-_, _/_, _≤_, _<_, min}
 use mathlib.Core.Path.{_≡_, sym, _∙_}
 use borrow.Author.Needs.{needs}
 use borrow.Author.Tests.{leb-true, leb-false}
@@ -54,8 +54,9 @@ loop-again c =
     let l = c .before .before .before in
     let s = l .before in
     let h = half _ (c .before .before .loop-test .taken) in
-    let e = fewer (s .args .part) (s .args .x) (s .args .a) _ (s .args .n) (omega arith) in
-    (omega (arith, leb-true _ _ (sym (c .before .all-in .ensures) ∙ c .if1 .taken), e), l .loop .inv .1, l .loop .inv .2)
+    let m = l .loop .low + (l .loop .high - l .loop .low) / 2 in
+    let e = fewer (s .args .part) (s .args .x) (s .args .a) m (s .args .n) (omega arith) in
+    (omega (arith, leb-true m (all (s .args .part) (s .args .x) (s .args .a) m) (sym (c .before .all-in .ensures) ∙ c .if1 .taken), e), l .loop .inv .1, l .loop .inv .2)
 
 loop-less-2 : tie.Need-loop-less-2 Inv-loop μ-loop
 loop-less-2 c = omega (arith, half _ (c .before .before .loop-test .taken))
@@ -65,8 +66,9 @@ loop-again-2 c =
     let l = c .before .before .before in
     let s = l .before in
     let h = half _ (c .before .before .loop-test .taken) in
-    let e = fewer (s .args .part) (s .args .x) (s .args .a) _ (s .args .n) (omega arith) in
-    (l .loop .inv .0, omega (arith, leb-false _ _ (sym (c .before .all-in .ensures) ∙ c .if1 .left), e), omega arith)
+    let m = l .loop .low + (l .loop .high - l .loop .low) / 2 in
+    let e = fewer (s .args .part) (s .args .x) (s .args .a) m (s .args .n) (omega arith) in
+    (l .loop .inv .0, omega (arith, leb-false m (all (s .args .part) (s .args .x) (s .args .a) m) (sym (c .before .all-in .ensures) ∙ c .if1 .left), e), omega arith)
 
 returns : tie.Need-returns Inv-loop μ-loop
 returns c = omega (arith, c .before .loop .inv, c .loop-test .left)

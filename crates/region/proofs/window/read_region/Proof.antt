@@ -1,43 +1,50 @@
+-- `region::window::read_region` meets its contract: a region is judged for the whole file, and what is fine is read from the window.
+-- Assumes nothing.
+use Prim.Native.Nat.{_^_, _<_}
+use mathlib.Core.Path.{sym, _∙_}
 use borrow.Author.Needs.{needs}
+use native.Mathlib.Omega.{arith}
+use Rattle.region.specs.Laws.{good-bounds}
+use Rattle.region.specs.Judge.{judged-fine}
+use Rattle.region.specs.WindowLaws.{fine-judged, window-refused, window-fine}
 use Rattle.region.proofs.window.read_region.Statement.{statement}
 use Rattle.region.proofs.window.read_region.Tie as tie
-use Rattle.region.proofs.window.read_region.Reads as reads
-use Rattle.region.proofs.window.read_region.Lts as lts
-use Rattle.region.proofs.bounds.first_base.Reads as first-base-reads
-use Rattle.region.proofs.exact.judge_region.Reads as judge-region-reads
-use Rattle.region.proofs.window.read_seen.Reads as read-seen-reads
 
--- src/window.rt:89:9
 judge-region-requires : tie.Need-judge-region-requires
 judge-region-requires c κs = search needs
 
--- src/window.rt:91:25
 enum-known-judged : tie.Need-enum-known-judged
 enum-known-judged c = search needs
 
--- src/window.rt:92:25
 enum-known-judged-2 : tie.Need-enum-known-judged-2
 enum-known-judged-2 c = search needs
 
--- src/window.rt:93:17
 first-base-requires : tie.Need-first-base-requires
 first-base-requires c κs = search needs
 
--- src/window.rt:94:13
+-- a record's length has 64 bits
+fits : (s : tie.Start) → s .args .x .length < 2 ^ 64
+fits s = omega arith
+
 read-seen-requires : tie.Need-read-seen-requires
-read-seen-requires c κs = ?
+read-seen-requires c κs =
+    let k = c .before .before .before in
+    let s = k .before .before .before .before .before in
+    let f = judged-fine _ _ _ _ _ _ _ _ (sym (k .before .before .judge-region .ensures) ∙ k .judged2 .given .1) in
+    let b = good-bounds _ _ (s .args .x .length) (s .pre .0 .2) in
+    (rw (c .before .first-base .ensures) (fine-judged _ _ _ _ _ _ _ _ (s .pre .0 .0) (s .pre .0 .1) (b .from-one) (b .in-order) (fits s) f), (s .pre .1, f .enough))
 
--- src/window.rt:76:1
 returns : tie.Need-returns
-returns c = ?
+returns c = window-refused _ _ _ _ _ _ _ _ (sym (c .before .before .before .judge-region .ensures) ∙ c .before .judged .given .1)
 
--- src/window.rt:76:1
 same-length : tie.Need-same-length
 same-length c = search needs
 
--- src/window.rt:76:1
 returns-2 : tie.Need-returns-2
-returns-2 c = ?
+returns-2 c =
+    let k = c .before .before .before .before .before .before in
+    let f = judged-fine _ _ _ _ _ _ _ _ (sym (k .before .before .judge-region .ensures) ∙ k .judged2 .given .1) in
+    c .before .before .read-seen .ensures ∙ rw (c .before .before .before .before .first-base .ensures) (window-fine _ _ _ _ _ _ _ _ _ _ f)
 
 pub read-region-spec : {M : Type 1} → statement M
 read-region-spec =
