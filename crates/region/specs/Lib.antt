@@ -15,6 +15,7 @@ pub mod Refusals
 pub mod Seen
 pub mod SeenLaws
 pub mod Windowed
+pub mod NeededPart
 pub mod ByName
 pub mod SplitLaws
 pub mod Split

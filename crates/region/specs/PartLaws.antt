@@ -353,20 +353,20 @@ unfolding behind
 behind-all m [] h = omega arith
 behind-all m (o ∷ os) h = omega (arith, h 0 (omega arith), behind-all m os (λ k l. h (suc k) (omega arith)))
 
-module _ (x : Record) (a n : ℕ) (r : Addressable x a n) where
+module _ (x : Record) (a n : ℕ) (z : 0 < a) (y : 0 < n) where
   abbrev os : List ℕ
   os = offsetsOf x a n
 
   each-base : (P : ℕ → Type 0) → ((p : ℕ) → a ≤ p → p < a + n → P (placeIn x (p - 1))) → (k : ℕ) → k < length os → P (getD os k 0)
   each-base P h k m =
       let q : k < n = rw (length-offsets x a n) at m in
-      rw (base-offset x a n (r .from-one) k q) (h (a + k) (omega arith) (omega arith))
+      rw (base-offset x a n z k q) (h (a + k) (omega arith) (omega arith))
 
-  pub lowest-base : (p : ℕ) → a ≤ p → p < a + n → lowest os ≤ placeIn x (p - 1)
-  lowest-base p h k = omega (arith, lowest-le os (p - a) (omega (arith, length-offsets x a n)), base-place x a n (r .from-one) p h k)
+  lowest-base : (p : ℕ) → a ≤ p → p < a + n → lowest os ≤ placeIn x (p - 1)
+  lowest-base p h k = omega (arith, lowest-le os (p - a) (omega (arith, length-offsets x a n)), base-place x a n z p h k)
 
-  pub behind-base : (p : ℕ) → a ≤ p → p < a + n → placeIn x (p - 1) < behind os
-  behind-base p h k = omega (arith, behind-lt os (p - a) (omega (arith, length-offsets x a n)), base-place x a n (r .from-one) p h k)
+  behind-base : (p : ℕ) → a ≤ p → p < a + n → placeIn x (p - 1) < behind os
+  behind-base p h k = omega (arith, behind-lt os (p - a) (omega (arith, length-offsets x a n)), base-place x a n z p h k)
 
   -- the bases all lie in it, and in no smaller part
   pub part-covers : LieIn (lowest os) (behind os) x a n
@@ -374,15 +374,21 @@ module _ (x : Record) (a n : ℕ) (r : Addressable x a n) where
 
   pub part-smallest : (f t : ℕ) → LieIn f t x a n → (f ≤ lowest os) × (behind os ≤ t)
   part-smallest f t l =
-      (lowest-all f os (omega (arith, length-offsets x a n, r .some)) (each-base (λ o. f ≤ o) (λ p h k. l .each p h k .0)), behind-all t os (each-base (λ o. o < t) (λ p h k. l .each p h k .1)))
+      (lowest-all f os (omega (arith, length-offsets x a n, y)) (each-base (λ o. f ≤ o) (λ p h k. l .each p h k .0)), behind-all t os (each-base (λ o. o < t) (λ p h k. l .each p h k .1)))
 
-  -- the lowest of the four is the lowest, the highest the highest
-  pub lowest-is : lowest os ≡ min (placeIn x (a - 1)) (placeIn x (secondLine x a n - 1))
+-- the lowest of the four is the lowest, the highest the highest
+module _ (x : Record) (a n : ℕ) (r : Addressable x a n) where
+  covered : LieIn (lowest (offsetsOf x a n)) (behind (offsetsOf x a n)) x a n
+  covered = part-covers x a n (r .from-one) (r .some)
+
+  pub lowest-is : lowest (offsetsOf x a n) ≡ min (placeIn x (a - 1)) (placeIn x (secondLine x a n - 1))
   lowest-is =
-      omega (arith, lowest-base a (omega arith) (omega (arith, r .some)), lowest-base (secondLine x a n) (second-in x a n r .0) (second-in x a n r .1),
-      lowest-all (min (placeIn x (a - 1)) (placeIn x (secondLine x a n - 1))) os (omega (arith, length-offsets x a n, r .some)) (each-base (λ o. min (placeIn x (a - 1)) (placeIn x (secondLine x a n - 1)) ≤ o) (lows x a n r _ (omega arith) (omega arith))))
+      let f = min (placeIn x (a - 1)) (placeIn x (secondLine x a n - 1)) in
+      let l : LieIn f (behind (offsetsOf x a n)) x a n = record { each = λ p h k. (lows x a n r f (omega arith) (omega arith) p h k, covered .each p h k .1) } in
+      omega (arith, covered .each a (omega arith) (omega (arith, r .some)), covered .each (secondLine x a n) (second-in x a n r .0) (second-in x a n r .1), part-smallest x a n (r .from-one) (r .some) f (behind (offsetsOf x a n)) l)
 
-  pub behind-is : (l : ℕ) → l ≡ a + (n - 1) → behind os ≡ max (placeIn x (l - 1)) (placeIn x (lineBefore x l n - 1)) + 1
+  pub behind-is : (l : ℕ) → l ≡ a + (n - 1) → behind (offsetsOf x a n) ≡ max (placeIn x (l - 1)) (placeIn x (lineBefore x l n - 1)) + 1
   behind-is l e =
-      omega (arith, behind-base l (omega arith) (omega (arith, r .some)), behind-base (lineBefore x l n) (before-in x a n r l e .0) (before-in x a n r l e .1),
-      behind-all (max (placeIn x (l - 1)) (placeIn x (lineBefore x l n - 1)) + 1) os (each-base (λ o. o < max (placeIn x (l - 1)) (placeIn x (lineBefore x l n - 1)) + 1) (highs x a n r l e _ (omega arith) (omega arith))))
+      let t = max (placeIn x (l - 1)) (placeIn x (lineBefore x l n - 1)) + 1 in
+      let i : LieIn (lowest (offsetsOf x a n)) t x a n = record { each = λ p h k. (covered .each p h k .0, highs x a n r l e t (omega arith) (omega arith) p h k) } in
+      omega (arith, covered .each l (omega arith) (omega (arith, r .some)), covered .each (lineBefore x l n) (before-in x a n r l e .0) (before-in x a n r l e .1), part-smallest x a n (r .from-one) (r .some) (lowest (offsetsOf x a n)) t i)

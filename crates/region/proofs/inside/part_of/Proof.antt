@@ -71,7 +71,7 @@ high c =
 add-t13 : tie.Need-add-t13
 add-t13 c =
     let s = c .before .before .before .before .before .before .before .before .before in
-    let m = part-smallest (s .args .x) (s .args .a .0) (s .args .n) (s .pre .0) 0 (2 ^ 63) (s .pre .1) in
+    let m = part-smallest (s .args .x) (s .args .a .0) (s .args .n) (s .pre .0 .from-one) (s .pre .0 .some) 0 (2 ^ 63) (s .pre .1) in
     let h : c .higher .result + 1 ≤ 2 ^ 63 = rw (high c) (m .1) in
     omega arith
 
