@@ -163,6 +163,14 @@ impl Judged for entry::Score {
     }
 }
 
+impl Judged for entry::Part {
+    fn told(&self) -> (u64, usize, u64) {
+        // a part that is told has a byte, and is within the limit
+        assert!(if self.refusal == 0 { self.from < self.to && self.to <= 1 << 40 } else { self.to == 0 });
+        (self.refusal, 0, 0)
+    }
+}
+
 /// Where a part ends; one of no bytes may be told at any place.
 fn end(start: u64, length: u64) -> u64 {
     if length == 0 { 0 } else { start.saturating_add(length) }
