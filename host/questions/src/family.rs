@@ -70,7 +70,7 @@ pub struct Family {
     pub takes: &'static [Kind],
     /// What its answer tells.
     pub tells: Shape,
-    /// What it may refuse, but for an input that is too long.
+    /// What it may refuse, but for an input that is too long; 1 stands here where a length is stated.
     pub refuses: &'static [u64],
     /// What the original tells.
     pub original: Original,
@@ -111,8 +111,8 @@ pub const FAMILIES: &[Family] = &[
     asks("exr", &[Bytes, Rows, Number, Bounds, Output], Always(&[Number]), &[14, 16, 17, 18, 25], Lacks),
     asks("rar", &[Bytes, Rows, Number, Bounds, Output], Always(&[Number]), &[14, 16, 18, 25], Refusals),
     // a part of a file at hand: the bytes of a region; the part that a region needs
-    asks("win", &[Number, Bytes, Number, Rows, Number, Bounds, Output], Always(&[Number]), &[14, 16, 17, 18, 25, 34, 35], Lacks),
-    asks("ned", &[Number, Number, Rows, Number, Bounds], Always(&[Number, Number]), &[14, 16, 17, 18, 25], Lacks),
+    asks("win", &[Number, Bytes, Number, Rows, Number, Bounds, Output], Always(&[Number]), &[1, 14, 16, 17, 18, 25, 34, 35], Lacks),
+    asks("ned", &[Number, Number, Rows, Number, Bounds], Always(&[Number, Number]), &[1, 14, 16, 17, 18, 25], Lacks),
     // bases: the bytes of a complement
     asks("cmp", &[Bytes, Output], Always(&[Number]), &[14, 24], Memory),
     asks("rev", &[Bytes, Output], Always(&[Number]), &[14, 24], Memory),

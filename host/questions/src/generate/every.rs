@@ -254,7 +254,8 @@ pub(super) fn needed() -> Source {
 
 pub(super) fn far_needed() -> Source {
     Box::new(far_window().map(|arguments| match <[super::Value; 7]>::try_from(arguments) {
-        Ok([length, _, _, rows, row, bounds, Output(out)]) => vec![length, Number(out.len() as u64), rows, row, bounds],
+        // the window's offset stands for the room
+        Ok([length, _, room, rows, row, bounds, _]) => vec![length, room, rows, row, bounds],
         _ => vec![],
     }))
 }

@@ -258,12 +258,13 @@ fn spanned(rows: &crate::row::Rows, row: u64, (start, end): crate::form::Bounds,
     (within(first), within(last + 1))
 }
 
-/// What a region needs; room for a long one is not stated, for the model goes from base to base.
+/// What a region needs; at times there is room for any.
 fn needed(chance: &mut Chance) -> Vec<Value> {
     let arguments = read(chance);
     let [Bytes(text), Rows(rows), Number(row), Bounds(bounds), Output(room)] = &arguments[..] else { return arguments };
-    let length = about(chance, text.len() as u64);
-    vec![Number(length), Number(room.len() as u64), Rows(rows.clone()), Number(*row), Bounds(*bounds)]
+    let length = if chance.once_in(4) { chance.one_of(&[1 << 40, 1 << 30]) } else { about(chance, text.len() as u64) };
+    let room = if chance.once_in(3) { u64::MAX } else { room.len() as u64 };
+    vec![Number(length), Number(room), Rows(rows.clone()), Number(*row), Bounds(*bounds)]
 }
 
 fn some_bases(chance: &mut Chance) -> Vec<u8> {
