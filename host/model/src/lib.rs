@@ -91,10 +91,9 @@ impl Speaker for Model {
             ("rar", [Bytes(file), Rows(rows), Number(row), Bounds(bounds), Output(out)]) => {
                 raw(file, rows, *row, *bounds, out).into()
             }
-            (
-                "win",
-                [Number(length), Bytes(w), Number(from), Rows(rows), Number(row), Bounds(bounds), Output(out)],
-            ) => window(*length, w, *from, rows, *row, *bounds, out).into(),
+            ("win", [Number(length), Bytes(w), Number(from), Rows(rows), Number(row), Bounds(bounds), Output(out)]) => {
+                window(*length, w, *from, rows, *row, *bounds, out).into()
+            }
             ("ned", [Number(length), Number(room), Rows(rows), Number(row), Bounds(bounds)]) => {
                 needed(*length, *room, rows, *row, *bounds).into()
             }

@@ -194,10 +194,24 @@ pub(super) fn far_read() -> Source {
 pub(super) fn window() -> Source {
     const FILES: [&[u8]; 4] = [b"", b">s\nACG", b">s\nAC\nGT\n", b">s\r\nACG\r\nT"];
     const ROWS: [[u64; 4]; 9] = [
-        [4, 3, 2, 3], [3, 3, 3, 4], [4, 4, 3, 5], [4, 0, 1, 1], [6, 1, 3, 1], [7, 0, 4, 2], [5, 2, 2, 1], [4, 2, 2, 4], [9, 0, 5, 2],
+        [4, 3, 2, 3],
+        [3, 3, 3, 4],
+        [4, 4, 3, 5],
+        [4, 0, 1, 1],
+        [6, 1, 3, 1],
+        [7, 0, 4, 2],
+        [5, 2, 2, 1],
+        [4, 2, 2, 4],
+        [9, 0, 5, 2],
     ];
     const BOUNDS: [(Option<u64>, Option<u64>); 8] = [
-        (None, None), (Some(1), Some(1)), (Some(2), None), (None, Some(3)), (Some(2), Some(4)), (Some(4), Some(4)), (Some(3), Some(9)),
+        (None, None),
+        (Some(1), Some(1)),
+        (Some(2), None),
+        (None, Some(3)),
+        (Some(2), Some(4)),
+        (Some(4), Some(4)),
+        (Some(3), Some(9)),
         (Some(3), Some(2)),
     ];
     let windows = FILES.into_iter().flat_map(|file| {
@@ -222,11 +236,22 @@ pub(super) fn far_window() -> Source {
     const LENGTHS: [u64; 6] = [0, 11, LIMIT - 1, LIMIT, LIMIT + 1, u64::MAX];
     const OFFSETS: [u64; 8] = [0, 3, LIMIT - 4, LIMIT - 3, LIMIT - 2, HALF, u64::MAX - 2, u64::MAX];
     const ROWS: [[u64; 4]; 8] = [
-        [6, 3, 4, 5], [6, LIMIT - 4, 2, 1], [6, LIMIT - 4, 6, 6], [6, LIMIT - 3, 3, 3], [u64::MAX, 0, 1, 1], [u64::MAX, LIMIT - 5, HALF, HALF],
-        [u64::MAX, u64::MAX, 1, u64::MAX], [u64::MAX, 3, u64::MAX, 1],
+        [6, 3, 4, 5],
+        [6, LIMIT - 4, 2, 1],
+        [6, LIMIT - 4, 6, 6],
+        [6, LIMIT - 3, 3, 3],
+        [u64::MAX, 0, 1, 1],
+        [u64::MAX, LIMIT - 5, HALF, HALF],
+        [u64::MAX, u64::MAX, 1, u64::MAX],
+        [u64::MAX, 3, u64::MAX, 1],
     ];
     const BOUNDS: [(Option<u64>, Option<u64>); 7] = [
-        (None, None), (None, Some(3)), (Some(2), Some(3)), (Some(LIMIT - 3), Some(LIMIT)), (Some(u64::MAX - 2), None), (Some(HALF), Some(HALF + 2)),
+        (None, None),
+        (None, Some(3)),
+        (Some(2), Some(3)),
+        (Some(LIMIT - 3), Some(LIMIT)),
+        (Some(u64::MAX - 2), None),
+        (Some(HALF), Some(HALF + 2)),
         (Some(LIMIT - 3), Some(LIMIT + 1)),
     ];
     Box::new(LENGTHS.into_iter().flat_map(|length| {

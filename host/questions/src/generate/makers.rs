@@ -244,7 +244,9 @@ fn nearby(chance: &mut Chance, place: usize, bytes: usize) -> usize {
 /// About where the bases of a region lie: the offset of the first, and the one behind the last, in a file of so many bytes.
 fn spanned(rows: &crate::row::Rows, row: u64, (start, end): crate::form::Bounds, bytes: usize) -> (usize, usize) {
     let all = (0, bytes);
-    let Some(numbers) = usize::try_from(row).ok().and_then(|row| rows.numbers.chunks(WORDS).nth(row)) else { return all };
+    let Some(numbers) = usize::try_from(row).ok().and_then(|row| rows.numbers.chunks(WORDS).nth(row)) else {
+        return all;
+    };
     let Some(&[length, position, line_bases, line_width]) = numbers.get(2..6).and_then(|n| n.first_chunk()) else {
         return all;
     };
