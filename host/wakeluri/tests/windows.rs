@@ -69,8 +69,8 @@ fn of_the_longest_regions() {
     assert_eq!(no(table([u64::MAX, 0, 1, 1]).needed_bytes(LIMIT, u64::MAX, FIRST, ..)), (18, LIMIT + 1));
     assert_eq!(table([LIMIT, 0, 1, 1]).needed_bytes(LIMIT, u64::MAX, FIRST, ..), Ok(0..LIMIT));
     assert_eq!(table([LIMIT, 3, 1 << 39, 1]).needed_bytes(LIMIT, u64::MAX, FIRST, 2..), Ok(4..(1 << 39) + 4));
-    // lines that begin one byte apart, and are half the file long
-    assert_eq!(no(table([u64::MAX, 0, 1 << 39, 1]).needed_bytes(LIMIT, u64::MAX, FIRST, ..)).0, 18);
+    // 2^25 lines that begin one byte apart, and are half the file long
+    assert_eq!(table([u64::MAX, 0, 1 << 39, 1]).needed_bytes(LIMIT, u64::MAX, FIRST, ..), Ok(0..549_789_368_318));
     assert_eq!(no(table([u64::MAX, 0, 60, 61]).needed_bytes(LIMIT, u64::MAX, FIRST, ..)).0, 18);
 }
 
@@ -117,7 +117,7 @@ fn only_what_is_needed_is_fetched() {
     let (start, end) = (length - 10_029, length - 30);
     let mut counted = Counted { file, calls: 0, bytes: 0 };
     let bases = rows.read_sought(&mut counted, FIRST, start..=end).expect("bases");
-    let expected: Vec<u8> = b"ACGTN".iter().copied().cycle().skip(31).take(10_000).collect();
+    let expected: Vec<u8> = b"ACGTN".iter().copied().cycle().take(10_000).collect();
     assert!(bases == expected);
     // 10,000 bases and the LF after each line
     let needed = rows.needed_bytes(BYTES, u64::MAX, FIRST, start..=end).expect("a part");
