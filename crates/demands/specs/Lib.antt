@@ -8,6 +8,7 @@ pub mod Marked
 pub mod LookUpTells
 pub mod LookUpLaws
 pub mod LookUp
+pub mod Fetching
 pub mod BadDefinition
 pub mod WritingLaws
 pub mod Writing
