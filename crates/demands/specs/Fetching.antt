@@ -12,13 +12,11 @@ use lib.ListN.{length, take, drop}
 use native.Mathlib.Omega.{arith}
 use Rattle.refusal.specs.Numbers.{numbersOf}
 use Rattle.refusal.specs.Apart.{never-zero}
-use Rattle.refusal.specs.declared.Refusal.{Refusal}
 use Rattle.output.specs.declared.Written.the-variants as written
 use Rattle.output.specs.Outcome.{Outcome, leaves}
 use Rattle.table.specs.Rows.{heldAt}
 use Rattle.table.specs.Numbers.{numbersIn}
 use Rattle.region.specs.declared.Bound.{Bound}
-use Rattle.region.specs.declared.Part.{Part}
 use Rattle.region.specs.declared.Needed.{Needed}
 use Rattle.region.specs.declared.Needed.the-variants as needed
 use Rattle.region.specs.Exact.{exactRead}

@@ -115,7 +115,17 @@ fn needed_bytes(
 ) -> PartAnswer
     ensures { λ p. ⌜ NeededBytes length room (now (table .entry)) «in_use» row «has_start» start «has_end» end p ⌝ }
 {
-    window::wakeluri_needed_bytes(length, room, table, in_use, row, has_start, start, has_end, end)
+    window::wakeluri_needed_bytes(
+        length,
+        room,
+        table,
+        in_use,
+        row,
+        has_start,
+        start,
+        has_end,
+        end,
+    )
 }
 
 fn read_window(

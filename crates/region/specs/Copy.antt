@@ -2,11 +2,8 @@
 use Prim.Native.Nat.{ℕ, zero, suc, _+_, _-_, _%_, _≤_, _<_, min}
 use mathlib.Core.Path.{_≡_, refl, ap, sym, _∙_}
 use mathlib.Core.List.{List, [], _∷_, _++_, map, map-append, append-assoc, append-nil}
-use mathlib.Core.Bool.{Bool, true, false}
 use lib.ListN.{length, take, drop, getD, length-append, length-drop, take-append-drop}
 use lib.Seq.{drop-drop, paste, take-paste, drop-paste, length-paste}
-use lib.Dec.{ltb}
-use borrow.Author.Tests.{ltb-true, ltb-false}
 use native.Mathlib.Omega.{arith}
 use native.Mathlib.Nat.{add-zero, zero-add, sub-zero, add-assoc, mod-lt}
 use Rattle.lines.specs.Lines.{upFrom}
@@ -15,8 +12,6 @@ use Rattle.record.specs.Place.{placeOf, placeIn}
 use Rattle.record.specs.Laws.{place-wrap, place-run, run-mod, wrap-mod, getD-places}
 use Rattle.record.specs.EvenLines.{length-upFrom}
 use Rattle.record.specs.Bases.{byteAt, bytes-row}
-use Rattle.copying.specs.Copied.{afterCopy}
-use Rattle.copying.specs.Laws.{copy-whole}
 use Rattle.region.specs.Exact.{offsetsOf, inFile}
 use Rattle.region.specs.Part.{LieIn}
 use Rattle.region.specs.Inside.{length-offsets, inside-le, inside-each, Turn, Addressable, turn, turn-stops, turn-goes, bases-start, bases-end}

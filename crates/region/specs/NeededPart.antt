@@ -17,7 +17,6 @@ use Rattle.refusal.specs.Numbers.{overLimit}
 use Rattle.refusal.specs.declared.Refusal.{Refusal}
 use Rattle.refusal.specs.declared.Refusal.the-variants.{TooLong}
 use Rattle.record.specs.declared.Record.{Record}
-use Rattle.record.specs.Place.{placeIn}
 use Rattle.record.specs.Bases.{byteAt}
 use Rattle.table.specs.declared.Held.{Held}
 use Rattle.table.specs.declared.Held.the-variants as held
@@ -30,16 +29,16 @@ use Rattle.region.specs.declared.Needed.{Needed}
 use Rattle.region.specs.declared.Needed.the-variants as needed
 use Rattle.region.specs.declared.exact.Judged.{Judged}
 use Rattle.region.specs.declared.exact.Judged.the-variants as judged
-use Rattle.region.specs.Region.{boundedRow, startOf, endOf, basesTo}
+use Rattle.region.specs.Region.{boundedRow, startOf, endOf}
 use Rattle.region.specs.Exact.{offsetsOf, exactIn, exactOf, exactHeld}
 use Rattle.region.specs.Part.{lowest, behind, partOf, LieIn}
 use Rattle.region.specs.PartLaws.{part-covers, part-smallest, part-file, all-lie}
-use Rattle.region.specs.Laws.{good-bounds, bounded-known, within-length, exact-long}
+use Rattle.region.specs.Laws.{good-bounds, bounded-known, within-length}
 use Rattle.region.specs.Judge.{regionJudged, Fine, judged-fine, refused-read}
 use Rattle.region.specs.Dependence.{regionCount, InRegion, Readable, exact-reads}
 use Rattle.region.specs.Window.{windowHeld, neededBy, neededIn, neededOf, neededHeld}
 use Rattle.region.specs.Seen.{Needs, Covers}
-use Rattle.region.specs.SeenLaws.{region-one, region-order, region-base, base-region, region-needs}
+use Rattle.region.specs.SeenLaws.{region-one, region-base, base-region, region-needs}
 use Rattle.region.specs.Windowed.{window-whole}
 
 -- what is known of a part that is told for a region of a file of so many bytes, and so much room

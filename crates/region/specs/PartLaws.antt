@@ -1,12 +1,12 @@
 -- Laws of parts. The lines of a region begin ever further on, and end ever further on, also where they overlap: so the base that lies lowest
 -- is the first of the region or the first of its second line, and the one that lies highest is the last or the last of the line before.
-use Prim.Native.Nat.{ℕ, zero, suc, _+_, _-_, _*_, _/_, _%_, _^_, _≤_, _<_, min, max}
+use Prim.Native.Nat.{ℕ, zero, suc, _+_, _-_, _*_, _/_, _%_, _≤_, _<_, min, max}
 use mathlib.Core.Path.{_≡_, refl, ap, sym, _∙_}
 use mathlib.Core.List.{List, [], _∷_}
 use mathlib.Core.Bool.{Bool, true, false, cond, _&&_}
 use lib.ListN.{length, getD}
 use lib.Dec.{ltb, leb}
-use borrow.Author.Tests.{ltb-true, ltb-false, leb-true, leb-false, lt-ltb, le-ltb, lt-leb, le-leb}
+use borrow.Author.Tests.{ltb-true, ltb-false, leb-true, lt-ltb, le-ltb, lt-leb, le-leb}
 use native.Mathlib.Omega.{arith}
 use native.Mathlib.Nat.{mod-lt, div-add-mod', le-div-iff-mul-le, mul-le-mul-right, add-mul, one-mul}
 use lib.Arith.{digits-mod}

@@ -1,15 +1,15 @@
 -- Laws for Windowed.antt and NeededPart.antt: the window read by the exact read, which is refused whatever the bytes are, or gives them.
 use Prim.Native.Nat.{ℕ, _+_, _-_, _≤_, _<_}
 use mathlib.Core.Path.{_≡_, refl, ap, sym, _∙_}
-use mathlib.Core.Logic.{_⊎_, inl, inr, ⊎-elim}
+use mathlib.Core.Logic.{⊎-elim}
 use mathlib.Core.List.{List, _++_, map}
-use mathlib.Core.Bool.{Bool, true, false, cond, _&&_}
+use mathlib.Core.Bool.{Bool, true, false, cond}
 use lib.ListN.{length, take, drop, getD, length-drop}
 use lib.Seq.{length-take-le, getD-take, getD-drop}
 use lib.Dec.{ltb, leb}
-use borrow.Author.Tests.{ltb-true, ltb-false, leb-true, leb-false, lt-ltb, le-ltb}
+use borrow.Author.Tests.{ltb-true, ltb-false, leb-true, leb-false}
 use native.Mathlib.Omega.{arith}
-use Rattle.refusal.specs.Numbers.{numbersOf, overLimit}
+use Rattle.refusal.specs.Numbers.{numbersOf}
 use Rattle.refusal.specs.declared.Refusal.{Refusal}
 use Rattle.refusal.specs.declared.Refusal.the-variants.{NotInWindow, BadBounds}
 use Rattle.record.specs.declared.Record.{Record}
@@ -22,10 +22,10 @@ use Rattle.output.specs.declared.Written.the-variants.{Bytes, Refused}
 use Rattle.output.specs.Outcome.{Outcome, leaves, refuses, gives}
 use Rattle.region.specs.declared.Bound.{Bound}
 use Rattle.region.specs.Region.{badBounds, boundedRow, startOf, endOf}
-use Rattle.region.specs.Exact.{offsetsOf, regionOf, exactIn, exactOf}
+use Rattle.region.specs.Exact.{regionOf, exactIn, exactOf}
 use Rattle.region.specs.Inside.{length-offsets}
 use Rattle.region.specs.Part.{isIn, inPart, LieIn}
-use Rattle.region.specs.PartLaws.{is-in, is-below, is-past, in-known, part-le, part-before, part-first, part-stops, part-same, lie-all, base-offset, base-place}
+use Rattle.region.specs.PartLaws.{is-in, is-below, is-past, in-known, part-before, part-first, part-stops, part-same, lie-all, base-offset, base-place}
 use Rattle.region.specs.Copy.{byteFrom}
 use Rattle.region.specs.Laws.{good-bounds}
 use Rattle.region.specs.Refusals.{OfRead, bad-bounds, past-length, no-room, not-in-file, region-refuses}
@@ -123,9 +123,11 @@ module _ (s : List ℕ) (f m : ℕ) (fits : f + m ≤ length s) (h : Held) (a e 
       os = regionOffsets x a e
 
       lies : LieIn f (f + length w) x (startOf a) (regionCount x a e)
-      lies = record { each = λ p u v.
-          let d = c .each _ (region-needs (length s) x a e (length out) k h (r .holds) p (region-base (length s) x a e (length out) k p u v)) in
-          (d .0, rw (part-length s f m fits) (d .1)) }
+      lies = record {
+        each = λ p u v.
+            let d = c .each _ (region-needs (length s) x a e (length out) k h (r .holds) p (region-base (length s) x a e (length out) k p u v)) in
+            (d .0, rw (part-length s f m fits) (d .1));
+      }
 
       same : (j : ℕ) → j < length os → byteFrom f w (getD os j 0) ≡ byteAt s (getD os j 0)
       same j l = let d = c .each _ (offset-needs (length s) x a e (length out) k h (r .holds) j l) in part-byte s f m (getD os j 0) (d .0) (d .1)
@@ -233,9 +235,10 @@ module _ (bytes f : ℕ) (w : List ℕ) (x : Record) (a e : Bound) (out : List �
       × ((q : ℕ) → InRegion x a e q → q < startOf a + seen → (f ≤ placeIn x (q - 1)) × (placeIn x (q - 1) < f + length w))
   is-first l =
       let c : seen < regionCount x a e = rw (length-offsets x (startOf a) (regionCount x a e)) at l in
-      let one = region-one bytes x a e (length out) k in
-      (region-base bytes x a e (length out) k (startOf a + seen) (omega arith) (omega arith),
-      in-not f (f + length w) _ (ap (isIn f (f + length w)) (sym (base-offset x (startOf a) (regionCount x a e) one seen c)) ∙ part-first f (f + length w) os l),
-      λ q i m.
-      let r = base-region bytes x a e (length out) k q i in
-      in-known f (f + length w) _ (ap (isIn f (f + length w)) (sym (base-place x (startOf a) (regionCount x a e) one q (r .0) (r .1))) ∙ part-before f (f + length w) os (q - startOf a) (omega (arith, r))))
+      let one = region-one bytes x a e (length out) k in (
+        region-base bytes x a e (length out) k (startOf a + seen) (omega arith) (omega arith),
+        in-not f (f + length w) _ (ap (isIn f (f + length w)) (sym (base-offset x (startOf a) (regionCount x a e) one seen c)) ∙ part-first f (f + length w) os l),
+        λ q i m.
+            let r = base-region bytes x a e (length out) k q i in
+            in-known f (f + length w) _ (ap (isIn f (f + length w)) (sym (base-place x (startOf a) (regionCount x a e) one q (r .0) (r .1))) ∙ part-before f (f + length w) os (q - startOf a) (omega (arith, r))),
+      )

@@ -20,7 +20,7 @@ use Rattle.region.specs.declared.Needed.the-variants as needed
 use Rattle.region.specs.declared.exact.Judged.{Judged}
 use Rattle.region.specs.declared.exact.Judged.the-variants as judged
 use Rattle.region.specs.Region.{boundedRow, startOf, endOf, basesTo}
-use Rattle.region.specs.Exact.{offsetsOf, regionOf, exactOf}
+use Rattle.region.specs.Exact.{offsetsOf, regionOf}
 use Rattle.region.specs.Copy.{byteFrom}
 use Rattle.region.specs.Part.{inPart, partOf}
 use Rattle.region.specs.Judge.{regionJudged}

@@ -1,6 +1,6 @@
 -- Laws of the window read, by which the code goes.
 use Prim.Native.Nat.{ℕ, _+_, _-_, _%_, _^_, _≤_, _<_, min}
-use mathlib.Core.Path.{_≡_, refl, ap, sym, _∙_}
+use mathlib.Core.Path.{_≡_, refl, sym}
 use mathlib.Core.List.{List, _++_, map}
 use mathlib.Core.Bool.{Bool, true, false}
 use lib.ListN.{length, drop, length-map}
@@ -15,20 +15,18 @@ use Rattle.record.specs.Place.{placeIn}
 use Rattle.table.specs.declared.Held.{Held}
 use Rattle.table.specs.declared.Held.the-variants as held
 use Rattle.output.specs.declared.Written.the-variants.{Bytes, Refused}
-use Rattle.output.specs.declared.Written.{Written}
-use Rattle.output.specs.Outcome.{Outcome, leaves, refuses}
+use Rattle.output.specs.Outcome.{leaves}
 use Rattle.region.specs.declared.Bound.{Bound}
-use Rattle.region.specs.declared.Needed.{Needed}
 use Rattle.region.specs.declared.Needed.the-variants as needed
 use Rattle.region.specs.declared.exact.Judged.the-variants as judged
-use Rattle.region.specs.Region.{boundedRow, startOf, endOf, basesTo}
-use Rattle.region.specs.Exact.{offsetsOf, inFile, pastLength, regionOf}
-use Rattle.region.specs.Inside.{length-offsets, inside-each, Addressable}
-use Rattle.region.specs.Part.{inPart, partOf, LieIn}
+use Rattle.region.specs.Region.{boundedRow, startOf, endOf}
+use Rattle.region.specs.Exact.{offsetsOf}
+use Rattle.region.specs.Inside.{length-offsets, Addressable}
+use Rattle.region.specs.Part.{inPart, LieIn}
 use Rattle.region.specs.PartLaws.{all-lie, part-file}
 use Rattle.region.specs.Copy.{byteFrom, Starts}
 use Rattle.region.specs.Laws.{within-length}
-use Rattle.region.specs.Judge.{inLine, regionJudged, Fine, judged-fine, refused-read, fine-read}
+use Rattle.region.specs.Judge.{inLine, regionJudged, Fine, refused-read, fine-read}
 use Rattle.region.specs.Window.{unlessRefused, seenAt, windowRegion, windowIn, windowOf, windowHeld, neededBy, neededIn, neededOf, neededHeld}
 
 -- what a judgement says of n bases from base a on: where the first lies, and how many of them are in its line

@@ -23,7 +23,7 @@ use Rattle.record.specs.Bases.{byteAt}
 use Rattle.table.specs.declared.Held.{Held}
 use Rattle.table.specs.declared.Held.the-variants as held
 use Rattle.output.specs.declared.Written.{Written}
-use Rattle.output.specs.declared.Written.the-variants.{Refused, Bytes}
+use Rattle.output.specs.declared.Written.the-variants.{Refused}
 use Rattle.output.specs.Outcome.{Outcome, leaves, refuses, gives}
 use Rattle.region.specs.declared.Bound.{Bound}
 use Rattle.region.specs.Region.{startOf}
@@ -35,7 +35,7 @@ use Rattle.region.specs.Copy.{byteFrom}
 use Rattle.region.specs.Window.{seenAt, windowOf, windowHeld}
 use Rattle.region.specs.WindowLaws.{within-limit, past-limit}
 use Rattle.region.specs.Seen.{Covers, Within, Agree, FirstUnseen}
-use Rattle.region.specs.SeenLaws.{part-length, whole-of, alone-of, window-refuses, window-sees, refused-as, exact-other, first-is, is-first, region-one, base-region, region-base}
+use Rattle.region.specs.SeenLaws.{part-length, whole-of, alone-of, window-refuses, window-sees, refused-as, exact-other, first-is, is-first, base-region}
 
 -- ---- the whole file's answer
 

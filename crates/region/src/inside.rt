@@ -177,14 +177,8 @@ pub(crate) fn part_of(x: Record, a: Position, n: usize) -> Part
     ensures { λ r. ⌜ r ≡ partOf (offsetsOf x (a .0) n) ⌝ }
 {
     let last = last_of(a, n);
-    let from = lower(
-        offset_in(x, a),
-        offset_in(x, second_line(x, a, n)),
-    );
-    let to = higher(
-        offset_in(x, last),
-        offset_in(x, line_before(x, last, n)),
-    );
+    let from = lower(offset_in(x, a), offset_in(x, second_line(x, a, n)));
+    let to = higher(offset_in(x, last), offset_in(x, line_before(x, last, n)));
     Part {
         from: Offset(from as u64),
         to: Offset(to as u64 + 1),

@@ -97,7 +97,13 @@ pub(crate) fn read_region(
 }
 
 // The part of a file of so many bytes that a region of a record needs, by bounds that are not bad.
-pub(crate) fn needed_region(bytes: usize, room: usize, x: Record, start: Bound, end: Bound) -> Needed
+pub(crate) fn needed_region(
+    bytes: usize,
+    room: usize,
+    x: Record,
+    start: Bound,
+    end: Bound,
+) -> Needed
     requires { ⌜ (0 < x .«line_bases») × (0 < x .«line_width») × (badBounds start end ≡ false) ⌝ }
     requires { ⌜ bytes ≤ 1099511627776 ⌝ }
     ensures { λ r. ⌜ r ≡ neededBy x (startOf start) (regionJudged bytes x (startOf start) (endOf (x .length) end) room) ⌝ }
@@ -105,7 +111,11 @@ pub(crate) fn needed_region(bytes: usize, room: usize, x: Record, start: Bound, 
     let judged = exact::judge_region(bytes, x, start, end, room);
     match judged {
         Judged::Refused(f) => Needed::Refused(f),
-        Judged::Bases { at: _, run: _, count } => {
+        Judged::Bases {
+            at: _,
+            run: _,
+            count,
+        } => {
             let first = bounds::first_base(start);
             Needed::Bytes(inside::part_of(x, first, count))
         }
