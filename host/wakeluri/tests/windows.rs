@@ -145,7 +145,7 @@ fn fetched_once() {
         fasta.get(part.start as usize..part.end as usize).map(<[u8]>::to_vec).ok_or("nothing there")
     });
     assert_eq!(read.expect("bases"), b"CGTA");
-    assert_eq!(asked, [4..9]);
+    assert_eq!((asked.len(), asked.first()), (1, Some(&(4..9))));
     assert!(matches!(rows.read_fetched(11, FIRST, 2..=5, |_| Err("gone")), Err(ReadError::NotFetched("gone"))));
     // fewer bytes than were asked for
     let few = rows.read_fetched(11, FIRST, 2..=5, |_| Ok::<_, ()>(b"CG".to_vec()));
