@@ -66,6 +66,12 @@ struct wakeluri_score {
     uint64_t right, wrong, missing, surplus, score;
 };
 
+/* A part of a file: the offset of its first byte, and the offset behind its last. */
+struct wakeluri_part {
+    uint64_t refusal, first, second;
+    uint64_t from, to;
+};
+
 /* What a definition line says, given with its end. Refuses 1 to 4; the line begins at 0, so `first` is the place in it. */
 struct wakeluri_definition wakeluri_definition_line(const uint8_t *line, size_t line_length);
 
@@ -116,6 +122,15 @@ struct wakeluri_answer wakeluri_read_exact(const uint8_t *file, size_t file_leng
 
 /* The bases that a scan finds from `start` on; ignores the record's length, and may run into the next record. Refuses 1, 16, 25, 18, 14. */
 struct wakeluri_answer wakeluri_read_raw(const uint8_t *file, size_t file_length, const uint8_t *table, size_t table_length, uint64_t in_use, uint64_t row, uint64_t has_start, uint64_t start, uint64_t has_end, uint64_t end, uint8_t *out, size_t out_length);
+
+/* wakeluri_read_exact where only some bytes of a file are at hand: the file has `length` bytes, and those in the window begin at offset
+ * `from`. Refuses 1, also for `length`; 35 where the window passes `length`; 16, 25, 17, 14, 18; and 34 with the first base that is in the
+ * file and not in the window. No byte of the window but those of the region matters. */
+struct wakeluri_answer wakeluri_read_window(uint64_t length, const uint8_t *window, size_t window_length, uint64_t from, const uint8_t *table, size_t table_length, uint64_t in_use, uint64_t row, uint64_t has_start, uint64_t start, uint64_t has_end, uint64_t end, uint8_t *out, size_t out_length);
+
+/* The smallest part of a file of `length` bytes that has the bases from `start` to `end` of a row's record, for an output of `room` bytes:
+ * a window that is this part is enough for wakeluri_read_window. No byte is looked at. Refuses 1, 16, 25, 17, 14, 18. */
+struct wakeluri_part wakeluri_needed_bytes(uint64_t length, uint64_t room, const uint8_t *table, size_t table_length, uint64_t in_use, uint64_t row, uint64_t has_start, uint64_t start, uint64_t has_end, uint64_t end);
 
 /* The complement of some bases, at the front of `out`. Refuses 1, 14, and 24 with the first bad byte. */
 struct wakeluri_answer wakeluri_complement(const uint8_t *bases, size_t bases_length, uint8_t *out, size_t out_length);

@@ -15,11 +15,14 @@ use Rattle.fitting.specs.declared.Rule.{Rule}
 use Rattle.fitting.specs.Rules.{rowsIn}
 use Rattle.region.specs.Exact.{exactRead}
 use Rattle.region.specs.Raw.{rawRead}
+use Rattle.region.specs.Window.{windowRead, neededRead}
 use Rattle.checker.specs.Check.{checkOf}
 use Rattle.table.specs.Numbers.{numbersIn}
 use Rattle.wakeluri.specs.declared.answer.Answer.{Answer}
 use Rattle.wakeluri.specs.declared.answer.DefinitionAnswer.{DefinitionAnswer}
 use Rattle.wakeluri.specs.declared.answer.RowAnswer.{RowAnswer}
+use Rattle.wakeluri.specs.declared.window.PartAnswer.{PartAnswer}
+use Rattle.wakeluri.specs.Window.{partAnswer}
 use Rattle.wakeluri.specs.Answer.{boundOf, givenBy, verdictAnswer, foundAnswer, definitionAnswer, stepAnswer}
 use Rattle.output.specs.Outcome.{leaves}
 use Rattle.wakeluri.specs.Told.{filledTold, writtenTold, sequenceTold}
@@ -52,6 +55,16 @@ ReadExact file table in-use row has-start start has-end end out a out′ =
 abbrev pub ReadRaw : List ℕ → List ℕ → ℕ → ℕ → ℕ → ℕ → ℕ → ℕ → List ℕ → Answer → List ℕ → Type 0
 ReadRaw file table in-use row has-start start has-end end out a out′ =
     leaves a out′ ≡ writtenTold (rawRead file (numbersIn table) in-use row (boundOf has-start start) (boundOf has-end end) out)
+
+-- wakeluri_needed_bytes(length, room, table, in_use, row, has_start, start, has_end, end)
+abbrev pub NeededBytes : ℕ → ℕ → List ℕ → ℕ → ℕ → ℕ → ℕ → ℕ → ℕ → PartAnswer → Type 0
+NeededBytes length room table in-use row has-start start has-end end p =
+    p ≡ partAnswer (neededRead length room (numbersIn table) in-use row (boundOf has-start start) (boundOf has-end end))
+
+-- wakeluri_read_window(length, window, from, table, in_use, row, has_start, start, has_end, end, out)
+abbrev pub ReadWindow : ℕ → List ℕ → ℕ → List ℕ → ℕ → ℕ → ℕ → ℕ → ℕ → ℕ → List ℕ → Answer → List ℕ → Type 0
+ReadWindow length window from table in-use row has-start start has-end end out a out′ =
+    leaves a out′ ≡ writtenTold (windowRead length window from (numbersIn table) in-use row (boundOf has-start start) (boundOf has-end end) out)
 
 -- wakeluri_write_record(name, has_description, description, bases, width, out)
 abbrev pub WriteRecord : List ℕ → ℕ → List ℕ → List ℕ → ℕ → List ℕ → Answer → List ℕ → Type 0

@@ -1,5 +1,5 @@
-// Demand 3 at the entry points, looking up and reading as two calls (request K8), and a written record read back (K3). The theorems are in
-// specs/AtTheEdge.antt, LookUp.antt and Writing.antt, over the calls' promises as relations (specs/Calls.antt). Here each call is made, and has
+// Demand 3 at the entry points, looking up and reading as two calls (request K8), just the needed bytes fetched and read (K7), and a written
+// record read back (K3). The theorems are in specs/AtTheEdge.antt, LookUp.antt, Fetching.antt and Writing.antt, over the calls' promises as relations (specs/Calls.antt). Here each call is made, and has
 // its relation for a contract: so the theorems are about the calls themselves.
 use wakeluri::answer::Answer;
 use wakeluri::answer::DefinitionAnswer;
@@ -8,9 +8,11 @@ use wakeluri::files;
 use wakeluri::rows;
 use wakeluri::scan;
 use wakeluri::text;
+use wakeluri::window;
+use wakeluri::window::PartAnswer;
 use wakeluri::writing;
 ghost use Rattle.fitting.specs.declared.Rule.the-variants.{Strict, Complete};
-ghost use Rattle.demands.specs.Calls.{Check, ReadIndex, IndexFile, WriteIndexLine, Find, ReadExact, ReadRaw, WriteRecord, DefinitionLine, IndexRecord, ReadSequence};
+ghost use Rattle.demands.specs.Calls.{Check, ReadIndex, IndexFile, WriteIndexLine, Find, ReadExact, ReadRaw, NeededBytes, ReadWindow, WriteRecord, DefinitionLine, IndexRecord, ReadSequence};
 
 fn check(file: &[u8], index: &[u8]) -> Answer
     ensures { λ a. ⌜ Check (now (file .entry)) (now (index .entry)) a ⌝ }
@@ -89,6 +91,62 @@ fn read_raw(
 {
     rows::wakeluri_read_raw(
         file,
+        table,
+        in_use,
+        row,
+        has_start,
+        start,
+        has_end,
+        end,
+        out,
+    )
+}
+
+fn needed_bytes(
+    length: u64,
+    room: u64,
+    table: &[u8],
+    in_use: u64,
+    row: u64,
+    has_start: u64,
+    start: u64,
+    has_end: u64,
+    end: u64,
+) -> PartAnswer
+    ensures { λ p. ⌜ NeededBytes length room (now (table .entry)) «in_use» row «has_start» start «has_end» end p ⌝ }
+{
+    window::wakeluri_needed_bytes(
+        length,
+        room,
+        table,
+        in_use,
+        row,
+        has_start,
+        start,
+        has_end,
+        end,
+    )
+}
+
+fn read_window(
+    length: u64,
+    window: &[u8],
+    from: u64,
+    table: &[u8],
+    in_use: u64,
+    row: u64,
+    has_start: u64,
+    start: u64,
+    has_end: u64,
+    end: u64,
+    out: &mut [u8],
+) -> Answer
+    ensures { λ a. ⌜ ReadWindow length (now (window .entry)) from (now (table .entry)) «in_use» row «has_start» start «has_end» end (now (out .entry)) a (now (out .exit)) ⌝ }
+{
+    window::wakeluri_read_window(
+        length,
+        window,
+        from,
         table,
         in_use,
         row,

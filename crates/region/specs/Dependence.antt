@@ -89,7 +89,7 @@ readable-given bytes x a e free z l m r h =
     record { bounds = rw (ne-eqb a 0 (λ q. omega arith), ne-eqb e 0 (λ q. omega arith), le-ltb _ _ l); start = omega arith; end = m; room = r; inside = h }
 
 module _ (bytes : ℕ) (byte : ℕ → ℕ) (x : Record) (a e : Bound) (out : List ℕ) where
-  exact-region : badBounds a e ≡ false → exactOf bytes byte (held.Row x) a e out ≡ regionOf bytes byte x (startOf a) (endOf (x .length) e) out
+  pub exact-region : badBounds a e ≡ false → exactOf bytes byte (held.Row x) a e out ≡ regionOf bytes byte x (startOf a) (endOf (x .length) e) out
   unfolding exactOf exactIn boundedRow
   exact-region b = rw b
 

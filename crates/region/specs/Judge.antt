@@ -7,6 +7,7 @@ use lib.ListN.{length, drop}
 use lib.Dec.{ltb}
 use borrow.Author.Tests.{ltb-true, ltb-false, lt-ltb, le-ltb}
 use native.Mathlib.Omega.{arith}
+use native.Mathlib.Nat.{zero-add}
 use Rattle.refusal.specs.declared.Refusal.{Refusal}
 use Rattle.refusal.specs.declared.Refusal.the-variants.{NoRoom, PastLength, NotInFile}
 use Rattle.record.specs.declared.Record.{Record}
@@ -18,6 +19,7 @@ use Rattle.output.specs.Outcome.{leaves}
 use Rattle.region.specs.Region.{basesTo}
 use Rattle.region.specs.Exact.{offsetsOf, inFile, pastLength, basesFrom, regionOf}
 use Rattle.region.specs.Inside.{length-offsets, inside-le}
+use Rattle.region.specs.PartLaws.{all-lie, part-file}
 use Rattle.region.specs.Copy.{Starts}
 use Rattle.region.specs.Laws.{within-length, bases-no-room, bases-outside, bases-read, region-past, region-within}
 
@@ -144,14 +146,14 @@ module _ (bytes : ℕ) (byte : ℕ → ℕ) (x : Record) (a e : ℕ) (out : List
 
 -- and a copy can begin
 pub fine-starts : (s : List ℕ) (x : Record) (a e room at run n : ℕ) → 0 < x .«line_bases» → 0 < x .«line_width» → 0 < a → (a ≤ x .length → a ≤ e) → x .length < 2 ^ 64
-    → Fine (length s) x a e room at run n → Starts s x a n at run
+    → Fine (length s) x a e room at run n → Starts 0 s x a n at run
 unfolding inLine
 fine-starts s x a e room at run n b w z o l f =
     let p = within-length (x .length) a e (f .past) in
     let q : a ≤ e = o (p .0) in
     record {
       bases = record { some = omega (arith, f .count); some-bases = b; some-width = w; from-one = z; fits = omega (arith, f .count, p .1) };
-      inside = f .inside;
-      place = f .place;
+      inside = rw (zero-add (length s)) (all-lie x a n z 0 (length s) (omega (arith, f .inside, part-file (length s) (offsetsOf x a n))));
+      place = rw (zero-add at) (f .place);
       column = f .column;
     }

@@ -106,7 +106,7 @@ by-test : (b : Bool) (o p : Outcome Written) → ReadRefuses o → ReadRefuses p
 by-test true o p h k = h
 by-test false o p h k = k
 
-region-refuses : (bytes : ℕ) (byte : ℕ → ℕ) (x : Record) (a e : ℕ) (out : List ℕ) → ReadRefuses (regionOf bytes byte x a e out)
+pub region-refuses : (bytes : ℕ) (byte : ℕ → ℕ) (x : Record) (a e : ℕ) (out : List ℕ) → ReadRefuses (regionOf bytes byte x a e out)
 unfolding regionOf basesFrom bytesAt
 region-refuses bytes byte x a e out =
     let n = basesTo a e in

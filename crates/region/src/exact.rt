@@ -2,9 +2,12 @@
 // copied. Room is judged before places, so no walk is longer than the output. Where offsets never go back one place is judged, and a
 // copy goes from line to line without the rule.
 use crate::Bound;
+use crate::Part;
 use crate::bounds;
+use crate::inside;
 use output::Written;
 use record::Address;
+use record::Offset;
 use record::Position;
 use record::Record;
 use refusal::Refusal;
@@ -27,25 +30,6 @@ ghost use Rattle.region.specs.Copy.{Begins, Copies};
 pub(crate) enum Judged {
     Bases { at: usize, run: usize, count: usize },
     Refused(Refusal),
-}
-
-// The smaller of what is left of a line and what is left of a region.
-fn shorter(line: u64, left: usize) -> usize
-    ensures { λ r. ⌜ r ≡ min left line ⌝ }
-{
-    if line < left as u64 {
-        return line as usize;
-    }
-    left
-}
-
-// How many of `left` bases from base `p` on are in one line, as the record has it.
-fn in_line(x: Record, p: Position, left: usize) -> usize
-    requires { ⌜ (0 < x .«line_bases») × (0 < p .0) ⌝ }
-    ensures { λ r. ⌜ r ≡ min left (x .«line_bases» - (p .0 - 1) % x .«line_bases») ⌝ }
-{
-    let bases = x.line_bases;
-    shorter(bases - (p.0 - Record::FIRST) % bases, left)
 }
 
 // How many bytes a file of so many has from base `p` on.
@@ -74,25 +58,18 @@ fn last_inside(bytes: usize, x: Record, last: Position) -> bool
     0 < bytes_from(bytes, x, last)
 }
 
-// How many of `n` bases from base `a` on lie in a file of so many bytes, up to the first that does not, line by line.
-fn count_lines(bytes: usize, x: Record, a: Position, n: usize) -> usize
-    requires { ⌜ Addressable x (a .0) n ⌝ }
-    ensures { λ r. ⌜ r ≡ inFile bytes (offsetsOf x (a .0) n) ⌝ }
+// The part that is a whole file of so many bytes.
+fn whole(bytes: usize) -> Part
+    ensures { λ r. ⌜ r ≡ record { from = record { 0 = 0 }; to = record { 0 = bytes } } ⌝ }
 {
-    let mut k = 0;
-    while k < n {
-        let p = Position(a.0 + k as u64);
-        let run = in_line(x, p, n - k);
-        let rest = bytes_from(bytes, x, p);
-        if rest < run {
-            return k + rest;
-        }
-        k += run;
+    Part {
+        from: Offset(0),
+        to: Offset(bytes as u64),
     }
-    k
 }
 
-// The same count, by the last base where that is enough.
+// How many of `n` bases from base `a` on lie in a file of so many bytes, up to the first that does not: by the last base, where that is
+// enough.
 fn count_inside(bytes: usize, x: Record, a: Position, n: usize) -> usize
     requires { ⌜ Addressable x (a .0) n ⌝ }
     ensures { λ r. ⌜ r ≡ inFile bytes (offsetsOf x (a .0) n) ⌝ }
@@ -101,18 +78,7 @@ fn count_inside(bytes: usize, x: Record, a: Position, n: usize) -> usize
     if last_inside(bytes, x, last) {
         return n;
     }
-    count_lines(bytes, x, a, n)
-}
-
-// The offset of base `p`, which is known to fit.
-fn offset_in(x: Record, p: Position) -> usize
-    requires { ⌜ (0 < x .«line_bases») × (0 < x .«line_width») × (0 < p .0) × (placeIn x (p .0 - 1) < 2 ^ 64) ⌝ }
-    ensures { λ r. ⌜ r ≡ placeIn x (p .0 - 1) ⌝ }
-{
-    match x.offset_of(p) {
-        Address::At(o) => o.0 as usize,
-        Address::Nowhere => 0,
-    }
+    inside::count_in(whole(bytes), x, a, n)
 }
 
 // The offset of the next line, where the bases of a line end at offset `end`.
@@ -126,9 +92,9 @@ fn next_line(x: Record, end: usize) -> usize
     end + (x.line_width - x.line_bases) as usize
 }
 
-// Copies `n` bases, which all lie in the file, to the front of the output: the first lies at `at`, and `run` of them are in its line.
-// Each line but the first begins where the one before says.
-fn copy_bases(file: &[u8], x: Record, at: usize, run: usize, n: usize, out: &mut [u8])
+// Copies `n` bases to the front of the output, which all lie in the bytes of a file that are at hand: the first at place `at` of them, and
+// `run` of them are in its line. Each line but the first begins where the one before says.
+pub(crate) fn copy_bases(file: &[u8], x: Record, at: usize, run: usize, n: usize, out: &mut [u8])
     requires { ⌜ Begins (now file) x n at run ⌝ }
     requires { ⌜ n ≤ length (now out) ⌝ }
     ensures { λ _. ⌜ Copies (now (file .entry)) x n at run (now (out .entry)) (now (out .exit)) ⌝ }
@@ -140,7 +106,7 @@ fn copy_bases(file: &[u8], x: Record, at: usize, run: usize, n: usize, out: &mut
         copying::copy_run(file, at, run, out, k);
         k += run;
         at = next_line(x, at + run);
-        run = shorter(x.line_bases, n - k);
+        run = inside::shorter(x.line_bases, n - k);
     }
     copying::copy_run(file, at, run, out, k);
 }
@@ -175,7 +141,7 @@ fn judge_lines(bytes: usize, x: Record, first: Position, run: usize, n: usize) -
         return Judged::Refused(Refusal::NotInFile { base });
     }
     Judged::Bases {
-        at: offset_in(x, first),
+        at: inside::offset_in(x, first),
         run,
         count: n,
     }
@@ -191,7 +157,7 @@ fn judge_bases(bytes: usize, x: Record, first: Position, last: Position, room: u
         return Judged::Refused(Refusal::NoRoom { needed });
     }
     let n = needed as usize;
-    let run = in_line(x, first, n);
+    let run = inside::in_line(x, first, n);
     if run < n {
         return judge_lines(bytes, x, first, run, n);
     }

@@ -4,14 +4,21 @@
 // short; 18, a base that is not in the file, the first of them.
 // The raw read scans from where the first base lies, and does not look at the record's length: it may run into the next record,
 // and give bytes of its definition line. It refuses 1, 16, 25, 18 where the first base's offset is over 64 bits, and 14.
-// Both are by row. Whoever has a name looks its row up first, once for all regions of it, with `index::find`: specs/Split.antt has what the
+// The window read is the exact read where only some bytes of a file are at hand: it is told the file's length, and the offset where they
+// begin. It refuses 1, also for a stated length; 35, a window that passes the stated length; then as the exact read for a file of that
+// length; and 34, a base that is in the file and not in the window, the first of them. `needed_bytes` tells which bytes a region needs: the
+// smallest part of the file that has them, or the refusal that the exact read would give.
+// All are by row. Whoever has a name looks its row up first, once for all regions of it, with `index::find`: specs/Split.antt has what the
 // two calls say together.
 // A refusal leaves the output as it was, and so stay the bytes behind an answer.
 mod bounds;
 mod exact;
+mod inside;
 mod raw;
+mod window;
 
 use output::Written;
+use record::Offset;
 use record::Position;
 use refusal::Refusal;
 use table::Held;
@@ -22,11 +29,24 @@ ghost use Rattle.output.specs.Outcome.{leaves};
 ghost use Rattle.region.specs.Region.{boundedRow};
 ghost use Rattle.region.specs.Exact.{exactHeld};
 ghost use Rattle.region.specs.Raw.{rawHeld};
+ghost use Rattle.region.specs.Window.{windowHeld, neededHeld};
 
 // A bound of a region: a base position, or none.
 pub enum Bound {
     Given(Position),
     Absent,
+}
+
+// A part of a file: the bytes from one offset up to another.
+pub struct Part {
+    pub from: Offset,
+    pub to: Offset,
+}
+
+// The part of a file that a region needs, or why it can't be read.
+pub enum Needed {
+    Bytes(Part),
+    Refused(Refusal),
 }
 
 // The row that a region is read from, if its bounds are not bad.
@@ -65,5 +85,47 @@ pub fn read_raw(file: &[u8], row: InUse, start: Bound, end: Bound, out: &mut [u8
     match held {
         Held::Refused(f) => Written::Refused(f),
         Held::Row(x) => raw::scan_region(file, x, start, end, out),
+    }
+}
+
+// The window read: the exact read of a file of so many bytes, of which those in the window are at hand, which begins at an offset.
+pub fn read_window(
+    bytes: usize,
+    window: &[u8],
+    from: Offset,
+    row: InUse,
+    start: Bound,
+    end: Bound,
+    out: &mut [u8],
+) -> Written
+    ensures { λ r. ⌜ leaves r (now (out .exit)) ≡ windowHeld bytes (now (window .entry)) (from .0) (heldOf row) start end (now (out .entry)) ⌝ }
+{
+    if refusal::over_limit(window.len()) {
+        return Written::Refused(Refusal::TooLong);
+    }
+    if refusal::over_limit(bytes) {
+        return Written::Refused(Refusal::TooLong);
+    }
+    if window::passes_end(bytes, window.len(), from) {
+        return Written::Refused(Refusal::WindowPastEnd);
+    }
+    let held = bounded_row(row, start, end);
+    match held {
+        Held::Refused(f) => Written::Refused(f),
+        Held::Row(x) => window::read_region(bytes, window, from.0 as usize, x, start, end, out),
+    }
+}
+
+// Which bytes of a file of so many the exact read of a region needs, for an output of so much room.
+pub fn needed_bytes(bytes: usize, room: usize, row: InUse, start: Bound, end: Bound) -> Needed
+    ensures { λ r. ⌜ r ≡ neededHeld bytes room (heldOf row) start end ⌝ }
+{
+    if refusal::over_limit(bytes) {
+        return Needed::Refused(Refusal::TooLong);
+    }
+    let held = bounded_row(row, start, end);
+    match held {
+        Held::Refused(f) => Needed::Refused(f),
+        Held::Row(x) => window::needed_region(bytes, room, x, start, end),
     }
 }

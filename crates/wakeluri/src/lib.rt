@@ -9,4 +9,5 @@ pub mod primers;
 pub mod rows;
 pub mod scan;
 pub mod text;
+pub mod window;
 pub mod writing;

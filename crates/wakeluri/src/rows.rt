@@ -16,7 +16,7 @@ ghost use Rattle.output.specs.Outcome.{leaves};
 ghost use Rattle.wakeluri.specs.Told.{writtenTold};
 
 // A bound as a host gives it: absent where its flag is 0.
-fn bound(flag: u64, p: u64) -> Bound
+pub(crate) fn bound(flag: u64, p: u64) -> Bound
     ensures { λ r. ⌜ r ≡ boundOf flag p ⌝ }
 {
     if flag == 0 {
@@ -26,7 +26,7 @@ fn bound(flag: u64, p: u64) -> Bound
 }
 
 // Row `row` of a table with so many rows in use.
-fn used_row(table: &[u8], in_use: u64, row: u64) -> InUse
+pub(crate) fn used_row(table: &[u8], in_use: u64, row: u64) -> InUse
     ensures { λ r. ⌜ r ≡ usedAt (numbersIn (now (table .entry))) «in_use» row ⌝ }
 {
     table::bytes::row(table, in_use as usize, row as usize)

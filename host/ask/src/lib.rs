@@ -105,6 +105,18 @@ impl Speaker for Library {
             ("rar", [Bytes(file), Rows(rows), Number(row), Bounds(bounds), Output(out)]) => {
                 counted(entry::read_raw(file, &bytes(&rows.numbers), rows.in_use, *row, (*bounds).into(), out))
             }
+            (
+                "win",
+                [Number(length), Bytes(window), Number(from), Rows(rows), Number(row), Bounds(bounds), Output(out)],
+            ) => {
+                let (table, bounds) = (bytes(&rows.numbers), (*bounds).into());
+                counted(entry::read_window(*length, window, *from, &table, rows.in_use, *row, bounds, out))
+            }
+            ("ned", [Number(length), Number(room), Rows(rows), Number(row), Bounds(bounds)]) => {
+                let (table, bounds) = (bytes(&rows.numbers), (*bounds).into());
+                let part = entry::needed_bytes(*length, *room, &table, rows.in_use, *row, bounds);
+                told(part.no(), part.numbers())
+            }
             ("cmp", [Bytes(bases), Output(out)]) => counted(entry::complement(bases, out)),
             ("rev", [Bytes(bases), Output(out)]) => counted(entry::reverse_complement(bases, out)),
             ("deg", [Bytes(primer)]) => counted(entry::degeneracy(primer)),

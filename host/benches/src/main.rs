@@ -127,7 +127,7 @@ fn reads(plan: &Plan, report: &mut Report, fasta: &[u8], bases: u64, goals: [f64
     assert_eq!(expected.len() as u64, READS as u64 * bases, "no base is missing");
     same("reads", "the bases of the other original", &by_c.bases(), &expected);
     same("reads", "the bases", ours.bases().as_ref(), Ok(&expected));
-    let [mut lent, mut copied] = [(); 2].map(|()| room(2 * bases as usize + 64));
+    let [mut lent, mut seen, mut copied] = [(); 3].map(|()| room(2 * bases as usize + 64));
     let taken = in_turns(
         plan.rounds(),
         &mut [
@@ -135,13 +135,18 @@ fn reads(plan: &Plan, report: &mut Report, fasta: &[u8], bases: u64, goals: [f64
             Box::new(|| by_c.read()),
             Box::new(|| ours.read_into(&mut lent)),
             Box::new(|| ours.read()),
+            Box::new(|| ours.read_windows_into(&mut seen)),
             Box::new(|| ours.copy_into(&mut copied)),
             Box::new(|| ours.sum()),
         ],
     );
-    let [by_crate, by_c, into, fresh, copy, sum] = taken[..] else { unreachable!("six works") };
+    let [by_crate, by_c, into, fresh, windows, copy, sum] = taken[..] else { unreachable!("seven works") };
     let each = report::counted(bases as usize, "base");
-    for (how, ours, goal) in [("a lent room", into, goals[0]), ("a fresh vector", fresh, goals[1])] {
+    for (how, ours, goal) in [
+        ("a lent room", into, goals[0]),
+        ("a fresh vector", fresh, goals[1]),
+        ("a lent room, from a window of just the bytes that are needed", windows, goals[0]),
+    ] {
         report.compared.push(Compared {
             work: format!("1,000 exact reads of {each} by name, into {how}"),
             size: format!("of {} bytes", report::number(fasta.len())),

@@ -6,7 +6,7 @@ use crate::measure::sum;
 use crate::names::wanted_names;
 use crate::original::{Region, Row};
 use std::hint::black_box;
-use wakeluri::{Names, Refusal, Table, entry};
+use wakeluri::{Names, Refusal, Table, Window, entry};
 
 fn rows_of(table: &Table) -> Vec<Row> {
     table.records().map(|r| (r.name.to_vec(), r.length, r.position, r.line_bases, r.line_width)).collect()
@@ -108,6 +108,22 @@ impl<'f> Regions<'f> {
             let row = self.row(name);
             let read = self.table.read_exact_into(self.file, row, *start..=*end, room);
             bases += read.expect("a good region") as u64;
+            black_box(&mut *room);
+        }
+        bases
+    }
+
+    /// The same from windows of the file that have just the bytes that each region needs.
+    pub fn read_windows_into(&self, room: &mut [u8]) -> u64 {
+        let mut bases = 0;
+        let file_length = self.file.len() as u64;
+        for (name, start, end) in black_box(&self.regions) {
+            let row = self.row(name);
+            let part = self.table.needed_bytes(file_length, room.len() as u64, row, *start..=*end);
+            let part = part.expect("a good region");
+            let bytes = &self.file[part.start as usize..part.end as usize];
+            let window = Window { bytes, from: part.start, file_length };
+            bases += self.table.read_window_into(window, row, *start..=*end, room).expect("a good region") as u64;
             black_box(&mut *room);
         }
         bases

@@ -1,7 +1,7 @@
 //! The bytes of a file or of standard input.
 //!
 //! A regular file of 16 MiB or more is mapped into memory; a smaller one, and what is no regular file (a pipe, standard input), is
-//! read plainly. Both end clearly if the file changes meanwhile: a mapped file that gets shorter raises a signal, which is caught,
+//! read plainly. Of one whose index is used unchecked just the parts are read that are needed. All end clearly if the file changes meanwhile: a mapped file that gets shorter raises a signal, which is caught,
 //! and before anything is answered the file's size and times are held against those it was opened with.
 
 use crate::advice::word;
@@ -10,11 +10,13 @@ use crate::failure::Failure;
 use crate::place::quoted;
 use crate::progress::Progress;
 use memmap2::Mmap;
+use std::borrow::Cow;
 use std::fs::{File, Metadata};
 use std::io::{self, ErrorKind, Read};
+use std::ops::Range;
 use std::os::fd::AsFd;
 use std::os::unix::ffi::OsStrExt;
-use std::os::unix::fs::{FileTypeExt, MetadataExt};
+use std::os::unix::fs::{FileExt, FileTypeExt, MetadataExt};
 use std::path::Path;
 use std::sync::OnceLock;
 
@@ -33,6 +35,8 @@ pub enum How {
     Map,
     /// Plainly.
     Read,
+    /// Part by part, as it is needed, if the file can be.
+    Parts,
 }
 
 /// The bytes, and where they came from.
@@ -49,6 +53,16 @@ pub struct Input {
 enum Bytes {
     Held(Vec<u8>),
     Mapped(Mmap),
+    Parts(Parts),
+}
+
+/// A file of which parts are read.
+#[derive(Debug)]
+struct Parts {
+    /// The whole of it, where a message has to look at it.
+    whole: OnceLock<Box<Bytes>>,
+    /// Whether messages are JSON.
+    json: bool,
 }
 
 /// What changes when a file is written to or cut.
@@ -119,6 +133,10 @@ impl Input {
         let seen = Seen::of(&meta);
         let map =
             meta.is_file() && meta.size() > 0 && (how == How::Map || (how == How::Auto && meta.size() >= MAPPED_FROM));
+        if how == How::Parts && meta.is_file() && meta.size() > 0 {
+            let bytes = Bytes::Parts(Parts { whole: OnceLock::new(), json });
+            return Ok(Self { shown, standard: false, bytes, opened: Some((file, seen)) });
+        }
         if let Some(mapped) = map.then(|| mapped(&file, &shown, json)).flatten() {
             return Ok(Self { shown, standard: false, bytes: Bytes::Mapped(mapped), opened: Some((file, seen)) });
         }
@@ -132,10 +150,51 @@ impl Input {
 
     /// The bytes.
     pub fn bytes(&self) -> &[u8] {
-        match &self.bytes {
+        self.bytes_of(&self.bytes)
+    }
+
+    fn bytes_of<'b>(&self, bytes: &'b Bytes) -> &'b [u8] {
+        match bytes {
             Bytes::Held(bytes) => bytes,
             Bytes::Mapped(mapped) => mapped,
+            Bytes::Parts(parts) => self.bytes_of(parts.whole.get_or_init(|| Box::new(self.whole(parts.json)))),
         }
+    }
+
+    /// All bytes of a file of which parts are read.
+    fn whole(&self, json: bool) -> Bytes {
+        let Some((file, seen)) = &self.opened else { return Bytes::Held(vec![]) };
+        match mapped(file, &self.shown, json) {
+            Some(mapped) => Bytes::Mapped(mapped),
+            None => Bytes::Held(part_of(file, 0..seen.0).unwrap_or_default()),
+        }
+    }
+
+    /// How many bytes there are.
+    pub fn length(&self) -> u64 {
+        match (&self.bytes, &self.opened) {
+            (Bytes::Parts(_), Some((_, seen))) => seen.0,
+            _ => self.bytes().len() as u64,
+        }
+    }
+
+    /// Whether parts of it are read as they are needed.
+    pub fn is_in_parts(&self) -> bool {
+        matches!(self.bytes, Bytes::Parts(_))
+    }
+
+    /// A part of the file: of one that is read in parts, just these bytes.
+    pub fn part(&self, part: Range<u64>) -> Result<Cow<'_, [u8]>, Failure> {
+        if let (Bytes::Parts(_), Some((file, _))) = (&self.bytes, &self.opened) {
+            return match part_of(file, part) {
+                Ok(bytes) => Ok(Cow::Owned(bytes)),
+                Err(error) if error.kind() == ErrorKind::UnexpectedEof => Err(changed(&self.shown)),
+                Err(error) => Err(Failure::system("it can't be read", &self.shown, &error, "")),
+            };
+        }
+        let within = usize::try_from(part.start).ok().zip(usize::try_from(part.end).ok());
+        let bytes = within.and_then(|(start, end)| self.bytes().get(start..end));
+        bytes.map(Cow::Borrowed).ok_or_else(|| changed(&self.shown))
     }
 
     /// The file as a word of a command.
@@ -164,6 +223,16 @@ impl Input {
         let now = file.metadata().map_err(|error| Failure::system("it can't be looked at", &self.shown, &error, ""))?;
         if Seen::of(&now) == *seen { Ok(()) } else { Err(changed(&self.shown)) }
     }
+}
+
+/// Just these bytes of a file.
+fn part_of(file: &File, part: Range<u64>) -> io::Result<Vec<u8>> {
+    let length = usize::try_from(part.end - part.start).map_err(|_| ErrorKind::OutOfMemory)?;
+    let mut bytes = vec![];
+    bytes.try_reserve_exact(length).map_err(|_| ErrorKind::OutOfMemory)?;
+    bytes.resize(length, 0);
+    file.read_exact_at(&mut bytes, part.start)?;
+    Ok(bytes)
 }
 
 /// All that a reader has.

@@ -316,8 +316,15 @@ fn read(words: &ArgMatches, turn: Turn, common: Common) -> Result<(), Failure> {
     if asked.is_empty() {
         return Err(Failure::Usage("no region is named: name one behind the index".to_string()));
     }
-    let fasta = common.open(file, common.how)?;
+    let fasta = common.open(file, how_for_regions(words, file, &asked, common))?;
     answer(words, file, &fasta, asked, turn, common)
+}
+
+/// How a file is read: where regions of it are asked for, and its index is used as it is, no byte but theirs is needed.
+fn how_for_regions(words: &ArgMatches, file: &Path, asked: &AllAsked<'_>, common: Common) -> How {
+    let has_index = read_index(words).is_some() || (!is_placeless(file) && index_of(file).exists());
+    let parts = words.get_flag("unchecked") && has_index && !asked.is_empty() && common.how == How::Auto;
+    if parts { How::Parts } else { common.how }
 }
 
 /// The index that is named, or the one beside the file, if there is one.
@@ -413,8 +420,8 @@ fn complement(words: &ArgMatches, turn: Turn, common: Common) -> Result<(), Fail
     let file = path(words, "file").unwrap_or(Path::new("-"));
     let sheet = open_sheet(words, file, common)?;
     let asked = asked(words, sheet.as_ref())?;
-    let fasta = common.open(file, common.how)?;
-    let is_fasta = matches!(fasta.bytes(), [b'>', ..] | [0xef, 0xbb, 0xbf, b'>', ..]);
+    let fasta = common.open(file, how_for_regions(words, file, &asked, common))?;
+    let is_fasta = asked.is_empty() && matches!(fasta.bytes(), [b'>', ..] | [0xef, 0xbb, 0xbf, b'>', ..]);
     if !asked.is_empty() || is_fasta {
         return answer(words, file, &fasta, asked, turn, common);
     }
@@ -482,7 +489,7 @@ fn primer(words: &ArgMatches, common: Common) -> Result<(), Failure> {
     let file = path(words, "file").unwrap_or(Path::new("-"));
     let sheet = open_sheet(words, file, common)?;
     let asked = asked(words, sheet.as_ref())?;
-    let fasta = common.open(file, common.how)?;
+    let fasta = common.open(file, how_for_regions(words, file, &asked, common))?;
     let index = index_beside(words, file, common)?;
     let rows = match &index {
         None => work::index(&fasta, rule(words))?,

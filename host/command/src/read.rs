@@ -12,10 +12,13 @@ use crate::place::{commas, count, quoted, short};
 use crate::region::{Meaning, Number, Reading, Written, is_before_a_colon, meaning, plain_form, readings};
 use crate::warning::Warning;
 use std::ops::Range;
-use wakeluri::{Bounds, Call, Names, Refusal, Row, Table, Writer};
+use wakeluri::{Bounds, Call, Names, Refusal, Row, Table, Window, Writer};
 
 /// The bases that are read at a time.
 const PIECE: u64 = 64 << 20;
+
+/// Bases that are more bytes apart than this, and than two for each base, are read in parts.
+const FAR: u64 = 1 << 20;
 
 /// What is read is kept up to so many bytes until it is written; what is more is read once more.
 const KEPT: u64 = 1 << 30;
@@ -214,7 +217,8 @@ impl Source<'_> {
         let value = |number: &Option<Number>| number.as_ref().and_then(|number| number.value);
         let bounds = Bounds { start: value(&written.start), end: value(&written.end) };
         // with no room to write to, what is good is refused with 14 and the count of bases
-        match self.rows.read_exact_into(self.fasta.bytes(), row, bounds, &mut []) {
+        let nothing = Window { bytes: &[], from: 0, file_length: self.fasta.length() };
+        match self.rows.read_window_into(nothing, row, bounds, &mut []) {
             Err(Refusal { number: 14, first: bases, .. }) => {
                 let start = bounds.start.unwrap_or(1);
                 Ok(Region { asked, row, start, end: start.saturating_add(bases.saturating_sub(1)) })
@@ -357,14 +361,39 @@ impl Source<'_> {
 
     /// Bases of a region, turned.
     pub fn piece(self, region: Region<'_>, from: u64, to: u64, turn: Turn) -> Result<Vec<u8>, Failure> {
-        let bases = self.rows.read_exact(self.fasta.bytes(), region.row, from..=to);
-        bases.and_then(|bases| turn.turned(bases)).map_err(|refusal| {
+        let mut bases = vec![];
+        let read = if self.fasta.is_in_parts() {
+            self.fetch(region.row, from, to, &mut bases)?
+        } else {
+            self.rows.read_exact(self.fasta.bytes(), region.row, from..=to).map(|read| bases = read)
+        };
+        read.and_then(|()| turn.turned(bases)).map_err(|refusal| {
             // places are told as places in the region
             let before = if refusal.number == 24 { from - region.start } else { 0 };
             let refusal = Refusal { first: refusal.first.saturating_add(before), ..refusal };
             let written = Written::of(format!("{}-{}", region.start, region.end).as_bytes()).unwrap_or_default();
             self.not_read(region.asked, region.row, &written, refusal)
         })
+    }
+
+    /// Adds the bases from one to another of a record to some others, and reads no byte of the file but those that lie between them.
+    /// Where they lie far apart, as by an index that lies about its lines, they are read in two parts, and so on.
+    fn fetch(self, row: Row, from: u64, to: u64, bases: &mut Vec<u8>) -> Result<Result<(), Refusal>, Failure> {
+        let file_length = self.fasta.length();
+        let part = match self.rows.needed_bytes(file_length, u64::MAX, row, from..=to) {
+            Ok(part) => part,
+            Err(refusal) => return Ok(Err(refusal)),
+        };
+        if from < to && part.end - part.start > FAR.max(2 * (to - from)) {
+            let middle = from + (to - from) / 2;
+            return match self.fetch(row, from, middle, bases)? {
+                Ok(()) => self.fetch(row, middle + 1, to, bases),
+                refused => Ok(refused),
+            };
+        }
+        let bytes = self.fasta.part(part.clone())?;
+        let read = self.rows.read_window(Window { bytes: &bytes, from: part.start, file_length }, row, from..=to);
+        Ok(read.map(|read| bases.extend(read)))
     }
 
     /// The pieces of a region, in the order that they are written in.

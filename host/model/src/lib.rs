@@ -10,6 +10,7 @@ mod lines;
 mod primers;
 mod reads;
 mod rows;
+mod windows;
 mod writer;
 
 use checker::{check, program};
@@ -20,6 +21,7 @@ use questions::form::Value::{self, Bounds, Bytes, MaybeBytes, Number, Numbers, O
 use questions::form::{Answer, No, Speaker};
 use reads::{complemented, exact, raw, sequence};
 use rows::{file_rows, find, index_content, index_rows, is_plain, record, write_line};
+use windows::{needed, window};
 use writer::{write_record, write_sequence};
 
 /// No byte input may be longer.
@@ -88,6 +90,12 @@ impl Speaker for Model {
             }
             ("rar", [Bytes(file), Rows(rows), Number(row), Bounds(bounds), Output(out)]) => {
                 raw(file, rows, *row, *bounds, out).into()
+            }
+            ("win", [Number(length), Bytes(w), Number(from), Rows(rows), Number(row), Bounds(bounds), Output(out)]) => {
+                window(*length, w, *from, rows, *row, *bounds, out).into()
+            }
+            ("ned", [Number(length), Number(room), Rows(rows), Number(row), Bounds(bounds)]) => {
+                needed(*length, *room, rows, *row, *bounds).into()
             }
             ("cmp", [Bytes(bases), Output(out)]) => complemented(bases, false, out).into(),
             ("rev", [Bytes(bases), Output(out)]) => complemented(bases, true, out).into(),

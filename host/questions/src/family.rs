@@ -70,7 +70,7 @@ pub struct Family {
     pub takes: &'static [Kind],
     /// What its answer tells.
     pub tells: Shape,
-    /// What it may refuse, but for an input that is too long.
+    /// What it may refuse, but for an input that is too long; 1 stands here where a length is stated.
     pub refuses: &'static [u64],
     /// What the original tells.
     pub original: Original,
@@ -110,6 +110,9 @@ pub const FAMILIES: &[Family] = &[
     asks("fnd", &[Bytes, Rows, Bytes], IfOk(&[Number]), &[15, 25], Lacks),
     asks("exr", &[Bytes, Rows, Number, Bounds, Output], Always(&[Number]), &[14, 16, 17, 18, 25], Lacks),
     asks("rar", &[Bytes, Rows, Number, Bounds, Output], Always(&[Number]), &[14, 16, 18, 25], Refusals),
+    // a part of a file at hand: the bytes of a region; the part that a region needs
+    asks("win", &[Number, Bytes, Number, Rows, Number, Bounds, Output], Always(&[Number]), &[1, 14, 16, 17, 18, 25, 34, 35], Lacks),
+    asks("ned", &[Number, Number, Rows, Number, Bounds], Always(&[Number, Number]), &[1, 14, 16, 17, 18, 25], Lacks),
     // bases: the bytes of a complement
     asks("cmp", &[Bytes, Output], Always(&[Number]), &[14, 24], Memory),
     asks("rev", &[Bytes, Output], Always(&[Number]), &[14, 24], Memory),
@@ -171,6 +174,19 @@ fnd x7374 t0,1,4,3,4,5,0,0,1,1,4,3,4,5,0,0 2 x => no 15 0 0
 exr x3e730a414347540a41430a t1,1,6,3,4,5,0,0 1 0 4 5 x2e2e2e => ok 2 x54412e
 exr x3e730a414347540a41430a t1,1,6,3,4,5,0,0 1 0 5 7 x2e2e2e => no 17 6 0 0 x2e2e2e
 rar x3e730a41433e4754 t1,1,5,3,5,6,9,9 1 0 3 4 x2e2e => ok 0 x2e2e
+win 11 x540a41 6 t1,1,6,3,4,5,0,0 1 0 4 5 x2e2e2e => ok 2 x54412e
+win 11 x540a41 6 t1,1,6,3,4,5,0,0 1 0 3 5 x2e2e2e => no 34 3 0 0 x2e2e2e
+win 11 x540a41 9 t1,1,6,3,4,5,0,0 1 0 0 5 x2e2e2e => no 35 0 0 0 x2e2e2e
+win 7 x 7 t1,1,6,3,4,5,0,0 1 0 4 5 x2e2e => no 18 5 0 0 x2e2e
+win 1099511627777 x 0 t 0 0 - - x => no 1 0 0 0 x
+win 99 x4142434445 1 t0,0,8,0,4,2,0,0 1 0 2 8 x2e2e2e2e2e2e2e => ok 7 x41424342434445
+win 99 x42434445 2 t0,0,8,0,4,2,0,0 1 0 3 8 x2e2e2e2e2e2e2e => ok 6 x4243424344452e
+win 99 x434445 3 t0,0,8,0,4,2,0,0 1 0 4 8 x2e2e2e2e2e => no 34 5 0 0 x2e2e2e2e2e
+ned 11 2 t1,1,6,3,4,5,0,0 1 0 4 5 => ok 6 9
+ned 11 1 t1,1,6,3,4,5,0,0 1 0 4 5 => no 14 2 0 0 0
+ned 99 9 t0,0,8,0,4,2,0,0 1 0 2 8 => ok 1 6
+ned 99 9 t0,0,8,0,4,2,0,0 1 0 4 5 => ok 2 4
+ned 1099511627776 18446744073709551615 t0,0,18446744073709551615,0,1,1,0,0 1 0 - - => no 18 1099511627777 0 0 0
 cmp x41 x2e2e => ok 1 x542e
 cmp x4158 x2e2e => no 24 1 88 0 x2e2e
 rev x41434755 x2e2e2e2e => ok 4 x41434754

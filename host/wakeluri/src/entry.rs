@@ -110,6 +110,7 @@ macro_rules! call {
 macro_rules! calls {
     ($($(#[$doc:meta])* fn $name:ident($($parameter:ident: $kind:ident),*) -> $answer:ident;)*) => {$(
         $(#[$doc])*
+        #[allow(clippy::too_many_arguments)]
         pub fn $name($($parameter: lent!($kind)),*) -> $answer {
             call!($name $answer [] [] $($parameter $kind)*)
         }

@@ -45,6 +45,7 @@ mod refusal;
 mod row;
 mod table;
 mod text;
+mod window;
 mod writer;
 
 pub use bounds::Bounds;
@@ -63,6 +64,7 @@ pub use text::{
     read_line, read_run, read_sequence, read_sequence_limit, reverse_complement, reverse_complement_into,
 };
 
+pub use window::{ReadError, Window};
 pub use writer::{Writer, write_record, write_record_into, write_sequence_into};
 
 /// The identity of the kit that the linked library was proved with.

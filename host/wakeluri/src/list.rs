@@ -69,6 +69,19 @@ macro_rules! entry_points {
             /// 1, 16, 25, 18, 14.
             fn read_raw(file: bytes, table: bytes, in_use: number, row: number, bounds: bounds, out: output) -> Answer;
 
+            /// The exact read where only some bytes of a file are at hand: it has `length` bytes, and those in the window begin at
+            /// offset `from`. Refuses 1, 35, 16, 25, 17, 14, 18, 34.
+            fn read_window(
+                length: number, window: bytes, from: number, table: bytes, in_use: number, row: number, bounds: bounds,
+                out: output
+            ) -> Answer;
+
+            /// The smallest part of a file of `length` bytes that has the bases of a region, for an output of `room` bytes. Refuses
+            /// 1, 16, 25, 17, 14, 18.
+            fn needed_bytes(
+                length: number, room: number, table: bytes, in_use: number, row: number, bounds: bounds
+            ) -> Part;
+
             /// The complement of some bases, at the front of `out`. Refuses 1, 14, and 24 with the first bad byte.
             fn complement(bases: bytes, out: output) -> Answer;
 
@@ -133,6 +146,9 @@ macro_rules! answers {
 
             /// The places of a key that are right, wrong and missing, the typed bytes past it, and the score in tenths of a percent.
             struct Score { right, wrong, missing, surplus, score }
+
+            /// A part of a file: the offset of its first byte, and the offset behind its last.
+            struct Part { from, to }
         }
     };
 }

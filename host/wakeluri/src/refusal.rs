@@ -21,6 +21,8 @@ pub enum Call {
     Find,
     /// An exact read.
     ReadExact,
+    /// A read from a window, or which bytes it needs.
+    ReadWindow,
     /// A raw read.
     ReadRaw,
     /// Reading lines or sequences from an offset on.

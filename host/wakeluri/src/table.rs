@@ -293,7 +293,7 @@ impl<'n> Table<'n> {
 
     /// How many rows a call may use, and the number of the row for it: none where the row is of another table, so that the call refuses
     /// it as one that isn't there.
-    fn lent(&self, row: Row) -> (u64, u64) {
+    pub(crate) fn lent(&self, row: Row) -> (u64, u64) {
         let in_use = if row.is_of(self.identity) { self.in_use } else { 0 };
         (in_use as u64, row.number() as u64)
     }

@@ -100,6 +100,17 @@ static void ordinary_calls(void) {
     a = wakeluri_read_raw(BYTES(fasta), table, sizeof table, 2, row, 0, 0, 1, 2, out, sizeof out);
     MUST(a.refusal == 0 && a.count == 2 && memcmp(out, "GG", 2) == 0);
 
+    /* a window: just the bytes that bases 4 and 5 of the first record need */
+    struct wakeluri_part part = wakeluri_needed_bytes(sizeof fasta - 1, 2, table, sizeof table, 2, 0, 1, 4, 1, 5);
+    MUST(part.refusal == 0 && part.from == 10 && part.to == 13);
+    memset(out, '.', sizeof out);
+    a = wakeluri_read_window(sizeof fasta - 1, (const uint8_t *)fasta + part.from, part.to - part.from, part.from, table, sizeof table, 2, 0, 1, 4, 1, 5, out, sizeof out);
+    MUST(a.refusal == 0 && a.count == 2 && memcmp(out, "TA.", 3) == 0);
+    a = wakeluri_read_window(sizeof fasta - 1, (const uint8_t *)fasta + part.from, 1, part.from, table, sizeof table, 2, 0, 1, 4, 1, 5, out, sizeof out);
+    MUST(a.refusal == 34 && a.first == 5 && a.second == 0 && a.count == 0);
+    part = wakeluri_needed_bytes(sizeof fasta - 1, 1, table, sizeof table, 2, 0, 1, 4, 1, 5);
+    MUST(part.refusal == 14 && part.first == 2 && part.from == 0 && part.to == 0);
+
     a = wakeluri_complement(BYTES("ACGU"), out, sizeof out);
     MUST(a.refusal == 0 && a.count == 4 && memcmp(out, "TGCA", 4) == 0);
     a = wakeluri_reverse_complement(BYTES("ACGU"), out, sizeof out);

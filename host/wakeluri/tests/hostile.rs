@@ -5,7 +5,7 @@
 
 use questions::generate::Chance;
 use wakeluri::entry::{self, ROW_BYTES, ROW_WORDS};
-use wakeluri::{Bounds, Call, Names, Refusal, Row, Table};
+use wakeluri::{Bounds, Call, Names, ReadError, Refusal, Row, Table, Window};
 
 const NUMBERS: [u64; 16] = [
     0,
@@ -115,6 +115,8 @@ impl Hostile {
         match parameter {
             "in_use" if self.chance.once_in(2) => self.rows as u64,
             "row" if self.chance.once_in(2) => 0,
+            "length" if self.chance.once_in(2) => 1 << self.chance.below(41),
+            "from" if self.chance.once_in(2) => self.chance.below(8) as u64,
             _ => number(&mut self.chance),
         }
     }
@@ -163,15 +165,26 @@ impl Judged for entry::Score {
     }
 }
 
+impl Judged for entry::Part {
+    fn told(&self) -> (u64, usize, u64) {
+        // a part that is told has a byte, and is within the limit
+        assert!(if self.refusal == 0 { self.from < self.to && self.to <= 1 << 40 } else { self.to == 0 });
+        (self.refusal, 0, 0)
+    }
+}
+
 /// Where a part ends; one of no bytes may be told at any place.
 fn end(start: u64, length: u64) -> u64 {
     if length == 0 { 0 } else { start.saturating_add(length) }
 }
 
-/// No refusal, or one that the library has words for. That of size is not: nothing so long is lent.
-fn has_words(number: u64) -> bool {
+/// The calls that are told how long a file is, beside what is lent.
+const STATED: [&str; 2] = ["read_window", "needed_bytes"];
+
+/// No refusal, or one that the library has words for. That of size is only of a length that is stated: nothing so long is lent.
+fn has_words(call: &str, number: u64) -> bool {
     let refusal = Refusal { number, first: 0, second: 0, call: Call::Check };
-    number != 1 && (number == 0 || !refusal.words().contains("no words for"))
+    (number != 1 || STATED.contains(&call)) && (number == 0 || !refusal.words().contains("no words for"))
 }
 
 /// What was counted lies in what was lent, and all behind it is as it was.
@@ -226,7 +239,7 @@ macro_rules! hostile {
             let (refusal, count, mut end) = entry::$name($(lent!($kind $parameter)),*).told();
             $(judged!($kind $parameter refusal count end);)*
             // no part lies outside of the bytes
-            assert!(end == 0 && has_words(refusal), stringify!($name));
+            assert!(end == 0 && has_words(stringify!($name), refusal), stringify!($name));
         }),*];
     };
 }
@@ -239,7 +252,31 @@ fn comfortable_call(chance: &mut Chance) {
     let table = Table::from_bytes(&file, bytes.into_vec(), in_use as usize);
     let bounds = bounds(chance);
     let row = Row::of_any_table(row as usize);
-    let _ = match chance.below(8) {
+    let _ = match chance.below(10) {
+        8 => {
+            let whole = Window { bytes: &file, from: 0, file_length: file.len() as u64 };
+            let read = table.read_window(whole, row, bounds);
+            let exact = table.read_exact(&file, row, bounds);
+            // the exact read is that of the window that is the whole file
+            assert_eq!(
+                read.as_ref().map_err(|no| (no.number, no.first)),
+                exact.as_ref().map_err(|no| (no.number, no.first))
+            );
+            read.map(|bases| bases.len())
+        }
+        9 => {
+            let read = table.read_sought(&mut std::io::Cursor::new(&file), row, bounds);
+            let exact = table.read_exact(&file, row, bounds).map(|bases| bases.len());
+            match read {
+                Ok(bases) => assert_eq!(Ok(bases.len()), exact),
+                Err(ReadError::Refused(no)) => {
+                    // 14 where so much memory is not to be had, of which nothing is asked here
+                    assert!(exact.is_err_and(|other| other.number == 14 || other.number == no.number));
+                }
+                Err(error) => panic!("{error}"),
+            }
+            exact
+        }
         0 => table.read_exact(&file, row, bounds).map(|bases| bases.len()),
         1 => table.read_raw(&file, row, bounds).map(|bases| bases.len()),
         2 => table.find(b"s").and_then(|row| table.read_exact(&file, row, bounds)).map(|bases| bases.len()),

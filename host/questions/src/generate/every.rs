@@ -190,6 +190,101 @@ pub(super) fn far_read() -> Source {
     }))
 }
 
+/// Windows of every length and offset over each file of a list, with rows whose lines lie apart, side by side and one over the other.
+pub(super) fn window() -> Source {
+    const FILES: [&[u8]; 4] = [b"", b">s\nACG", b">s\nAC\nGT\n", b">s\r\nACG\r\nT"];
+    const ROWS: [[u64; 4]; 9] = [
+        [4, 3, 2, 3],
+        [3, 3, 3, 4],
+        [4, 4, 3, 5],
+        [4, 0, 1, 1],
+        [6, 1, 3, 1],
+        [7, 0, 4, 2],
+        [5, 2, 2, 1],
+        [4, 2, 2, 4],
+        [9, 0, 5, 2],
+    ];
+    const BOUNDS: [(Option<u64>, Option<u64>); 8] = [
+        (None, None),
+        (Some(1), Some(1)),
+        (Some(2), None),
+        (None, Some(3)),
+        (Some(2), Some(4)),
+        (Some(4), Some(4)),
+        (Some(3), Some(9)),
+        (Some(3), Some(2)),
+    ];
+    let windows = FILES.into_iter().flat_map(|file| {
+        let parts = (0..=file.len()).flat_map(move |from| (from..=file.len()).map(move |to| (from, to)));
+        parts.flat_map(move |(from, to)| (0..2).map(move |past| (file, from, to, from + past)))
+    });
+    Box::new(windows.flat_map(|(file, from, to, told)| {
+        ROWS.into_iter().flat_map(move |[length, position, bases, width]| {
+            BOUNDS.into_iter().map(move |bounds| {
+                let rows = Rows(rows(&[[0, 0, length, position, bases, width]], 1));
+                let (bytes, window) = (Number(file.len() as u64), Bytes(file[from..to].to_vec()));
+                vec![bytes, window, Number(told as u64), rows, Number(0), Bounds(bounds), Output(room(9))]
+            })
+        })
+    }))
+}
+
+/// Windows of a file whose stated length, offset and rows are at the limits.
+pub(super) fn far_window() -> Source {
+    const HALF: u64 = u64::MAX / 2;
+    const LIMIT: u64 = 1 << 40;
+    const LENGTHS: [u64; 6] = [0, 11, LIMIT - 1, LIMIT, LIMIT + 1, u64::MAX];
+    const OFFSETS: [u64; 8] = [0, 3, LIMIT - 4, LIMIT - 3, LIMIT - 2, HALF, u64::MAX - 2, u64::MAX];
+    const ROWS: [[u64; 4]; 8] = [
+        [6, 3, 4, 5],
+        [6, LIMIT - 4, 2, 1],
+        [6, LIMIT - 4, 6, 6],
+        [6, LIMIT - 3, 3, 3],
+        [u64::MAX, 0, 1, 1],
+        [u64::MAX, LIMIT - 5, HALF, HALF],
+        [u64::MAX, u64::MAX, 1, u64::MAX],
+        [u64::MAX, 3, u64::MAX, 1],
+    ];
+    const BOUNDS: [(Option<u64>, Option<u64>); 7] = [
+        (None, None),
+        (None, Some(3)),
+        (Some(2), Some(3)),
+        (Some(LIMIT - 3), Some(LIMIT)),
+        (Some(u64::MAX - 2), None),
+        (Some(HALF), Some(HALF + 2)),
+        (Some(LIMIT - 3), Some(LIMIT + 1)),
+    ];
+    Box::new(LENGTHS.into_iter().flat_map(|length| {
+        OFFSETS.into_iter().flat_map(move |from| {
+            ROWS.into_iter().flat_map(move |[bases, position, line_bases, width]| {
+                BOUNDS.into_iter().map(move |bounds| {
+                    let rows = Rows(rows(&[[0, 0, bases, position, line_bases, width]], 1));
+                    let (length, window) = (Number(length), Bytes(b"ACG".to_vec()));
+                    vec![length, window, Number(from), rows, Number(0), Bounds(bounds), Output(room(6))]
+                })
+            })
+        })
+    }))
+}
+
+/// What every read of [`read`] needs, and of [`far_window`].
+pub(super) fn needed() -> Source {
+    Box::new(read().map(|arguments| match <[super::Value; 5]>::try_from(arguments) {
+        Ok([Bytes(file), rows, row, bounds, Output(out)]) => {
+            vec![Number(file.len() as u64), Number(out.len() as u64), rows, row, bounds]
+        }
+        _ => vec![],
+    }))
+}
+
+pub(super) fn far_needed() -> Source {
+    Box::new(far_window().map(|arguments| match <[super::Value; 7]>::try_from(arguments) {
+        // the window's offset stands for the room
+        Ok([length, _, room, rows, row, bounds, _]) => vec![length, room, rows, row, bounds],
+        _ => vec![],
+    }))
+}
+
 /// Descriptions at the ends of the bytes and past them, of a row whose name is good.
 fn descriptions() -> impl Iterator<Item = row::Rows> {
     const FAR: [u64; 8] = [0, 1, 2, 3, 4, u64::MAX / 2 + 1, u64::MAX - 1, u64::MAX];

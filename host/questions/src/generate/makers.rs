@@ -9,7 +9,7 @@ use super::every::without_definition;
 use super::{Source, every};
 use crate::family::Kind;
 use crate::form::Value::{self, Bounds, Bytes, Number, Output, Rows, Table};
-use crate::row::OF_A_LINE;
+use crate::row::{OF_A_LINE, WORDS};
 
 /// How the questions of a family are made.
 pub(super) struct Maker {
@@ -48,6 +48,8 @@ pub(super) const MAKERS: &[Maker] = &[
     maker("fnd", 32, look_up, &[every::look_up, every::described_look_up]),
     maker("exr", 48, read, &[every::read, every::far_read]),
     maker("rar", 32, read, &[every::read, every::far_read]),
+    maker("win", 48, window, &[every::window, every::far_window]),
+    maker("ned", 32, needed, &[every::needed, every::far_needed]),
     maker("cmp", 16, bases, &[every::complement]),
     maker("rev", 16, bases, &[every::complement]),
     maker("deg", 16, primer, &[every::primer]),
@@ -217,6 +219,54 @@ fn read(chance: &mut Chance) -> Vec<Value> {
     let bounds = some_bounds(chance, numbers[2]);
     let room = some_room(chance, wanted(bounds, numbers[2]));
     vec![Bytes(sample.text), Rows(rows), Number(row), Bounds(bounds), Output(room)]
+}
+
+/// A read of which some bytes of the file are at hand: just those that are needed, more, fewer, or any.
+fn window(chance: &mut Chance) -> Vec<Value> {
+    let arguments = read(chance);
+    let [Bytes(text), Rows(rows), Number(row), Bounds(bounds), Output(room)] = &arguments[..] else { return arguments };
+    let (first, behind) = spanned(rows, *row, *bounds, text.len());
+    let from = if chance.once_in(3) { chance.below(text.len() + 1) } else { nearby(chance, first, text.len()) };
+    let to = if chance.once_in(3) { chance.below(text.len() + 1) } else { nearby(chance, behind, text.len()) };
+    let window = text.get(from..to).unwrap_or_default().to_vec();
+    let from = if chance.once_in(16) { about(chance, from as u64) } else { from as u64 };
+    let length = if chance.once_in(6) { about(chance, text.len() as u64) } else { text.len() as u64 };
+    let rest = [Rows(rows.clone()), Number(*row), Bounds(*bounds), Output(room.clone())];
+    [Number(length), Bytes(window), Number(from)].into_iter().chain(rest).collect()
+}
+
+/// A place at one, or just before or behind it, in a file of so many bytes.
+fn nearby(chance: &mut Chance, place: usize, bytes: usize) -> usize {
+    let near = [place, place, place, place.saturating_sub(1), place + 1, place.saturating_sub(7), place + 7];
+    chance.one_of(&near).min(bytes)
+}
+
+/// About where the bases of a region lie: the offset of the first, and the one behind the last, in a file of so many bytes.
+fn spanned(rows: &crate::row::Rows, row: u64, (start, end): crate::form::Bounds, bytes: usize) -> (usize, usize) {
+    let all = (0, bytes);
+    let Some(numbers) = usize::try_from(row).ok().and_then(|row| rows.numbers.chunks(WORDS).nth(row)) else {
+        return all;
+    };
+    let Some(&[length, position, line_bases, line_width]) = numbers.get(2..6).and_then(|n| n.first_chunk()) else {
+        return all;
+    };
+    let at = |p: u64| {
+        let i = u128::from(p.saturating_sub(1));
+        let bases = u128::from(line_bases.max(1));
+        u128::from(position) + i / bases * u128::from(line_width) + i % bases
+    };
+    let (first, last) = (at(start.unwrap_or(1)), at(end.unwrap_or(length)));
+    let within = |place: u128| usize::try_from(place).unwrap_or(bytes).min(bytes);
+    (within(first), within(last + 1))
+}
+
+/// What a region needs; at times there is room for any.
+fn needed(chance: &mut Chance) -> Vec<Value> {
+    let arguments = read(chance);
+    let [Bytes(text), Rows(rows), Number(row), Bounds(bounds), Output(room)] = &arguments[..] else { return arguments };
+    let length = if chance.once_in(4) { chance.one_of(&[1 << 40, 1 << 30]) } else { about(chance, text.len() as u64) };
+    let room = if chance.once_in(3) { u64::MAX } else { room.len() as u64 };
+    vec![Number(length), Number(room), Rows(rows.clone()), Number(*row), Bounds(*bounds)]
 }
 
 fn some_bases(chance: &mut Chance) -> Vec<u8> {

@@ -16,21 +16,21 @@ use Rattle.region.proofs.exact.copy_bases.Statement.{statement}
 use Rattle.region.proofs.exact.copy_bases.Tie as tie
 
 abbrev Inv-loop : tie.InvT-loop
-Inv-loop file x at₀ run₀ n out₀ k₀ at₁ run₁ out k at run = (a : ℕ) → Starts file x a n at₀ run₀ → Lined file x a n out₀ k at run out
+Inv-loop file x at₀ run₀ n out₀ k₀ at₁ run₁ out k at run = (f a : ℕ) → Starts f file x a n at₀ run₀ → Lined f file x a n out₀ k at run out
 
 abbrev μ-loop : tie.MeasureT-loop
 μ-loop file x at₀ run₀ n out₀ k₀ at₁ run₁ out k at run = n - k
 
 loop-holds : tie.Need-loop-holds Inv-loop μ-loop
-loop-holds c = λ a t. lined-start _ _ _ _ _ _ _ t
+loop-holds c = λ f a t. lined-start _ _ _ _ _ _ _ _ t
 
 -- where it is
-here : (c : tie.At-loop Inv-loop μ-loop) → let s = c .before .before .before in Lined (s .args .file .now) (s .args .x) (s .pre .0 .base) (s .args .n) (s .args .out .now) (c .loop .k) (c .loop .at) (c .loop .run) (c .loop .out)
-here c = c .loop .inv _ (c .before .before .before .pre .0 .starts)
+here : (c : tie.At-loop Inv-loop μ-loop) → let s = c .before .before .before in Lined (s .pre .0 .front) (s .args .file .now) (s .args .x) (s .pre .0 .base) (s .args .n) (s .args .out .now) (c .loop .k) (c .loop .at) (c .loop .run) (c .loop .out)
+here c = c .loop .inv _ _ (c .before .before .before .pre .0 .starts)
 
 -- its line is in the file, and has room
 inside : (c : tie.At-loop Inv-loop μ-loop) → let l = c .loop in (l .at + l .run ≤ length (c .before .before .before .args .file .now)) × (l .k + l .run ≤ length (l .out))
-inside c = let s = c .before .before .before in lined-inside _ _ _ _ _ (s .pre .0 .starts .bases) (s .pre .1) _ _ _ _ (here c)
+inside c = let s = c .before .before .before in lined-inside _ _ _ _ _ _ (s .pre .0 .starts .bases) (s .pre .0 .starts .inside) (s .pre .1) _ _ _ _ (here c)
 
 -- and is copied whole
 whole : (c : tie.At-loop Inv-loop μ-loop)
@@ -55,7 +55,7 @@ next-line-requires : tie.Need-next-line-requires Inv-loop μ-loop
 next-line-requires c κs =
     let l = c .before .before .before .before in
     let s = l .before .before .before .before in
-    omega (arith, lined-fits (s .args .file .now) _ _ _ _ (s .pre .0 .starts .bases) (s .pre .1) _ _ _ _ (here (l .before)) (l .loop-test .taken))
+    omega (arith, lined-fits _ (s .args .file .now) _ _ _ _ (s .pre .0 .starts .bases) (s .pre .0 .starts .inside) (s .pre .1) _ _ _ _ (here (l .before)) (l .loop-test .taken))
 
 sub-shorter : tie.Need-sub-shorter Inv-loop μ-loop
 sub-shorter c = let l = here (c .before .before .before .before .before .before) in omega arith
@@ -70,8 +70,8 @@ loop-again : tie.Need-loop-again Inv-loop μ-loop
 loop-again c =
     let l = c .before .before .before .before .before .before in
     let s = l .before .before .before .before in
-    λ a t. rw (c .before .before .before .before .copy-run .ensures ∙ whole (l .before))
-    (lined-next _ _ _ _ _ (t .bases) (s .pre .1) _ _ _ _ (l .before .loop .inv a t) (l .loop-test .taken) _ _ (c .before .next-line .ensures) (c .shorter .ensures))
+    λ f a t. rw (c .before .before .before .before .copy-run .ensures ∙ whole (l .before))
+    (lined-next _ _ _ _ _ _ (t .bases) (t .inside) (s .pre .1) _ _ _ _ (l .before .loop .inv f a t) (l .loop-test .taken) _ _ (c .before .next-line .ensures) (c .shorter .ensures))
 
 copy-run-requires-2 : tie.Need-copy-run-requires-2 Inv-loop μ-loop
 copy-run-requires-2 c κs = search needs
@@ -84,10 +84,10 @@ returns c =
     let l = c .before .before .before .before .before in
     let s = l .before .before .before in
     record {
-      from = λ a t.
+      from = λ f a t.
           c .before .before .copy-run2 .ensures
           ∙ whole l
-          ∙ lined-end _ _ _ _ _ (t .bases) (s .pre .1) _ _ _ _ (l .loop .inv a t) (c .before .before .before .before .loop-test .left);
+          ∙ lined-end _ _ _ _ _ _ (t .bases) (t .inside) (s .pre .1) _ _ _ _ (l .loop .inv f a t) (c .before .before .before .before .loop-test .left);
     }
 
 pub copy-bases-spec : {M : Type 1} → statement M

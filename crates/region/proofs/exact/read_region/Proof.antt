@@ -4,6 +4,7 @@ use mathlib.Core.Path.{_∙_, sym}
 use borrow.Author.Needs.{needs}
 use native.Mathlib.Omega.{arith}
 use Rattle.region.specs.Laws.{good-bounds}
+use Rattle.region.specs.Copy.{byte-start}
 use Rattle.region.specs.Judge.{judged-fine, refused-read, fine-read, fine-starts}
 use Rattle.region.proofs.exact.read_region.Statement.{statement}
 use Rattle.region.proofs.exact.read_region.Tie as tie
@@ -23,7 +24,7 @@ copy-bases-requires c κs =
     let s = k .before .before .before .before .before in
     let f = judged-fine _ _ _ _ _ _ _ _ (sym (k .before .before .judge-region .ensures) ∙ k .judged2 .given .1) in
     let b = good-bounds _ _ (s .args .x .length) (s .pre .2) in
-    (record { base = _; starts = fine-starts _ _ _ _ _ _ _ _ (s .pre .0) (s .pre .1) (b .from-one) (b .in-order) (omega arith) f }, f .enough)
+    (record { front = 0; base = _; starts = fine-starts _ _ _ _ _ _ _ _ (s .pre .0) (s .pre .1) (b .from-one) (b .in-order) (omega arith) f }, f .enough)
 
 returns : tie.Need-returns
 returns c = refused-read _ _ _ _ _ _ _ (sym (c .before .before .before .judge-region .ensures) ∙ c .before .judged .given .1)
@@ -37,7 +38,7 @@ returns-2 c =
     let s = k .before .before .before .before .before in
     let f = judged-fine _ _ _ _ _ _ _ _ (sym (k .before .before .judge-region .ensures) ∙ k .judged2 .given .1) in
     let b = good-bounds _ _ (s .args .x .length) (s .pre .2) in
-    rw (c .before .before .copy-bases .ensures .from _ (fine-starts _ _ _ _ _ _ _ _ (s .pre .0) (s .pre .1) (b .from-one) (b .in-order) (omega arith) f)) (fine-read _ _ _ _ _ _ _ _ _ f)
+    rw (c .before .before .copy-bases .ensures .from 0 _ (fine-starts _ _ _ _ _ _ _ _ (s .pre .0) (s .pre .1) (b .from-one) (b .in-order) (omega arith) f), byte-start) (fine-read _ _ _ _ _ _ _ _ _ f)
 
 pub read-region-spec : {M : Type 1} → statement M
 read-region-spec =

@@ -1,11 +1,11 @@
--- `region::exact::in_line` meets its contract: the base's column is inside its line, so what is left of the line is a difference.
+-- `region::inside::in_line` meets its contract: the base's column is inside its line, so what is left of the line is a difference.
 -- Assumes nothing.
 use Prim.Native.Nat.{_-_}
 use borrow.Author.Needs.{needs}
 use native.Mathlib.Omega.{arith}
 use native.Mathlib.Nat.{mod-lt}
-use Rattle.region.proofs.exact.in_line.Statement.{statement}
-use Rattle.region.proofs.exact.in_line.Tie as tie
+use Rattle.region.proofs.inside.in_line.Statement.{statement}
+use Rattle.region.proofs.inside.in_line.Tie as tie
 
 sub-shorter : tie.Need-sub-shorter
 sub-shorter c = search needs

@@ -1,11 +1,11 @@
--- `region::exact::offset_in` meets its contract: a place that fits has an offset, and that is the place.
+-- `region::inside::offset_in` meets its contract: a place that fits has an offset, and that is the place.
 -- Assumes nothing.
 use mathlib.Core.Path.{sym, _∙_}
 use borrow.Author.Needs.{needs}
 use native.Mathlib.Omega.{arith}
 use Rattle.record.specs.Laws.{address-none, address-known}
-use Rattle.region.proofs.exact.offset_in.Statement.{statement}
-use Rattle.region.proofs.exact.offset_in.Tie as tie
+use Rattle.region.proofs.inside.offset_in.Statement.{statement}
+use Rattle.region.proofs.inside.offset_in.Tie as tie
 
 offset-of-requires : tie.Need-offset-of-requires
 offset-of-requires c κs = search needs

@@ -1,0 +1,45 @@
+-- `wakeluri::window::wakeluri_read_window` meets its contract: what the call answers is told, and what it leaves is left; a bound is absent by its flag.
+-- Assumes nothing.
+use Rattle.wakeluri.specs.Laws.{written-told}
+use Rattle.table.specs.Rows.{heldAt}
+use Rattle.region.specs.Window.{windowRead}
+use borrow.Author.Needs.{needs}
+use Rattle.wakeluri.proofs.window.wakeluri_read_window.Statement.{statement}
+use Rattle.wakeluri.proofs.window.wakeluri_read_window.Tie as tie
+
+bound-requires : tie.Need-bound-requires
+bound-requires c κs = search needs
+
+bound-requires-2 : tie.Need-bound-requires-2
+bound-requires-2 c κs = search needs
+
+used-row-requires : tie.Need-used-row-requires
+used-row-requires c κs = search needs
+
+read-window-requires : tie.Need-read-window-requires
+read-window-requires c κs = search needs
+
+written-answer-requires : tie.Need-written-answer-requires
+written-answer-requires c κs = search needs
+
+same-length : tie.Need-same-length
+same-length c = search needs
+
+returns : tie.Need-returns
+unfolding windowRead heldAt
+returns c =
+    let r = c .before .before .before in
+    let b = r .before .before in
+    written-told _ _ _ _ (rw (b .before .before .bound .ensures, b .before .bound2 .ensures, b .used-row .ensures) at (r .read-window .ensures)) (c .written-answer .ensures)
+
+pub wakeluri-read-window-spec : {M : Type 1} → statement M
+wakeluri-read-window-spec =
+    tie.close
+    (tie.spec
+    bound-requires
+    bound-requires-2
+    used-row-requires
+    read-window-requires
+    written-answer-requires
+    same-length
+    returns)
