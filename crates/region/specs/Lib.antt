@@ -10,6 +10,7 @@ pub mod Judge
 pub mod Window
 pub mod WindowLaws
 pub mod Dependence
+pub mod Answer
 pub mod Changed
 pub mod Refusals
 pub mod Seen

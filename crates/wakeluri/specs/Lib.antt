@@ -1,6 +1,7 @@
 pub mod Answer
 pub mod Told
 pub mod Window
+pub mod Sheets
 pub mod Primers
 pub mod Laws
 pub mod PlainAgainLaws

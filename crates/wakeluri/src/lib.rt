@@ -8,6 +8,7 @@ pub mod files;
 pub mod primers;
 pub mod rows;
 pub mod scan;
+pub mod sheets;
 pub mod text;
 pub mod window;
 pub mod writing;

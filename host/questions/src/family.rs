@@ -4,7 +4,7 @@
 //! too. To add a family, add its line and its examples here, an arm in `ask` and in the model, and how its questions are made in
 //! [`generate`](crate::generate).
 
-use Kind::{Bounds, Bytes, MaybeBytes, Number, Numbers, Output, Rows, Table};
+use Kind::{Bounds, Bytes, MaybeBytes, MaybeNumber, Number, Numbers, Output, Regions, Rows, Table};
 use Original::{Lacks, Memory, Refusals};
 use Shape::{Always, Bare, Found, IfOk};
 
@@ -113,6 +113,8 @@ pub const FAMILIES: &[Family] = &[
     // a part of a file at hand: the bytes of a region; the part that a region needs
     asks("win", &[Number, Bytes, Number, Rows, Number, Bounds, Output], Always(&[Number]), &[1, 14, 16, 17, 18, 25, 34, 35], Lacks),
     asks("ned", &[Number, Number, Rows, Number, Bounds], Always(&[Number, Number]), &[1, 14, 16, 17, 18, 25], Lacks),
+    // a sheet: the refused region's place, and the bytes of all regions
+    asks("sht", &[Bytes, Rows, Regions, Output, Table], Always(&[MaybeNumber, Number]), &[14, 16, 17, 18, 25, 40, 41], Lacks),
     // bases: the bytes of a complement
     asks("cmp", &[Bytes, Output], Always(&[Number]), &[14, 24], Memory),
     asks("rev", &[Bytes, Output], Always(&[Number]), &[14, 24], Memory),
@@ -187,6 +189,12 @@ ned 11 1 t1,1,6,3,4,5,0,0 1 0 4 5 => no 14 2 0 0 0
 ned 99 9 t0,0,8,0,4,2,0,0 1 0 2 8 => ok 1 6
 ned 99 9 t0,0,8,0,4,2,0,0 1 0 4 5 => ok 2 4
 ned 1099511627776 18446744073709551615 t0,0,18446744073709551615,0,1,1,0,0 1 0 - - => no 18 1099511627777 0 0 0
+sht x3e730a414347540a41430a t1,1,6,3,4,5,0,0 1 r0:4:5,0:-:2,0:6:- x2e2e2e2e2e2e t7,7,7,7 => ok - 5 x54414143432e t0,2,4,7
+sht x3e730a414347540a41430a t1,1,6,3,4,5,0,0 1 r0:4:5,0:5:7 x2e2e t7,7 => no 17 6 0 1 0 x2e2e t7,7
+sht x3e730a414347540a41430a t1,1,6,3,4,5,0,0 1 r0:4:5,0:-:- x2e2e2e2e2e t7,7 => no 14 6 0 1 0 x2e2e2e2e2e t7,7
+sht x3e730a414347540a41430a t1,1,6,3,4,5,0,0 1 r0:4:5,0:-:4 x2e2e2e2e2e t7,7 => no 14 6 0 2 0 x2e2e2e2e2e t7,7
+sht x3e730a414347540a41430a t1,1,6,3,4,5,0,0 1 r0:0:5,0:-:4 x t7 => no 41 0 0 2 0 x t7
+sht x t 9 r x2e t7 => ok - 0 x2e t7
 cmp x41 x2e2e => ok 1 x542e
 cmp x4158 x2e2e => no 24 1 88 0 x2e2e
 rev x41434755 x2e2e2e2e => ok 4 x41434754

@@ -50,6 +50,7 @@ pub(super) const MAKERS: &[Maker] = &[
     maker("rar", 32, read, &[every::read, every::far_read]),
     maker("win", 48, window, &[every::window, every::far_window]),
     maker("ned", 32, needed, &[every::needed, every::far_needed]),
+    maker("sht", 32, sheet, &[every::sheet]),
     maker("cmp", 16, bases, &[every::complement]),
     maker("rev", 16, bases, &[every::complement]),
     maker("deg", 16, primer, &[every::primer]),
@@ -267,6 +268,40 @@ fn needed(chance: &mut Chance) -> Vec<Value> {
     let length = if chance.once_in(4) { chance.one_of(&[1 << 40, 1 << 30]) } else { about(chance, text.len() as u64) };
     let room = if chance.once_in(3) { u64::MAX } else { room.len() as u64 };
     vec![Number(length), Number(room), Rows(rows.clone()), Number(*row), Bounds(*bounds)]
+}
+
+/// Regions of a file, most of them good, with about as much room and as many starts as they need; at times as many regions as a sheet may
+/// have, or a few more.
+fn sheet(chance: &mut Chance) -> Vec<Value> {
+    let sample = file(chance);
+    let rows = some_rows(chance, &sample.rows);
+    let regions = match chance.below(20) {
+        0 => 198 + chance.below(5),
+        1 => 0,
+        _ => 1 + chance.below(6),
+    };
+    let faulty = chance.once_in(3);
+    let (mut list, mut total) = (vec![], 0);
+    for _ in 0..regions {
+        let (row, numbers) = a_row(chance, &sample);
+        let length = numbers[2];
+        let bounds = if faulty && chance.once_in(3) || length == 0 {
+            some_bounds(chance, length)
+        } else {
+            let start = 1 + chance.below(length.min(100) as usize) as u64;
+            let end = start + chance.below((length - start).min(12) as usize + 1) as u64;
+            (
+                Some(start).filter(|start| *start != 1 || chance.once_in(2)),
+                Some(end).filter(|end| *end != length || chance.once_in(2)),
+            )
+        };
+        total += wanted(bounds, length).min(1 << 10);
+        list.push((row, bounds));
+    }
+    let room = some_room(chance, total);
+    let starts = if chance.once_in(8) { chance.below(regions + 2) } else { regions + chance.below(3) };
+    let starts = (700..).take(starts).collect();
+    vec![Bytes(sample.text), Rows(rows), Value::Regions(list), Output(room), Table(starts)]
 }
 
 fn some_bases(chance: &mut Chance) -> Vec<u8> {

@@ -1,0 +1,5 @@
+pub mod Sheet
+pub mod Laws
+pub mod Turns
+pub mod Bytes
+pub mod Joins
