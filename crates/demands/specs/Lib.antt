@@ -13,3 +13,4 @@ pub mod Fetching
 pub mod BadDefinition
 pub mod WritingLaws
 pub mod Writing
+pub mod Scoring

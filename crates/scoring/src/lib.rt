@@ -8,7 +8,8 @@ ghost use Rattle.letters.specs.Letters.{setOf};
 ghost use Rattle.letters.specs.Sets.{bit};
 ghost use Rattle.letters.specs.Table.{IsTable};
 ghost use Rattle.scoring.specs.Rules.{folded, same, lies, ruleFor};
-ghost use Rattle.scoring.specs.Places.{tenths, scoredAs, scoreBy};
+ghost use Rattle.scoring.specs.Plain.{isPlain, isAny, sure, anyAt};
+ghost use Rattle.scoring.specs.Places.{tenths, scoreBy, keyScored, scoredAs};
 ghost use Rattle.scoring.specs.Counting.{Counted, agrees};
 
 // The counts over a key's places, the typed bytes past it, and the score in tenths of a percent.
@@ -60,7 +61,35 @@ fn lies_bit(codes: &[u8; 256], k: u8, t: u8) -> u8
     if set & codes[k as usize] == set {
         return 1;
     }
-    same_bit(k, t)
+    0
+}
+
+// Is a byte A, C, G or T, in either case. A letter in lower case has the bit 32; C and G differ in the bit 4.
+fn is_plain(b: u8) -> bool
+    ensures { λ r. ⌜ r ≡ isPlain b ⌝ }
+{
+    let low = b | 32;
+    (low | 4 == b'g') | (low == b'a') | (low == b't')
+}
+
+// Is a byte N, in either case: any base.
+fn is_any(b: u8) -> bool
+    ensures { λ r. ⌜ r ≡ isAny b ⌝ }
+{
+    b | 32 == b'n'
+}
+
+fn any_bit(k: u8) -> u8
+    ensures { λ r. ⌜ r ≡ bit (isAny k) ⌝ }
+{
+    is_any(k) as u8
+}
+
+// Is edition 2 told by edition 1 and by N alone, as a number: a plain letter was typed for a plain one or for N.
+fn sure_bit(k: u8, t: u8) -> u8
+    ensures { λ r. ⌜ r ≡ bit (sure k t) ⌝ }
+{
+    (is_plain(t) & (is_plain(k) | is_any(k))) as u8
 }
 
 // How many of 32 places are right in edition 1.
@@ -71,6 +100,30 @@ fn same32(key: &[u8], typed: &[u8], at: usize) -> u8
     let mut right: u8 = 0;
     for j in 0..32 {
         right = right + same_bit(key[at + j], typed[at + j]);
+    }
+    right
+}
+
+// At how many of 32 places edition 2 is told so.
+fn sure32(key: &[u8], typed: &[u8], at: usize) -> u8
+    requires { ⌜ (at + 32 ≤ length (now key)) × (at + 32 ≤ length (now typed)) ⌝ }
+    ensures { λ r. ⌜ Counted (agrees sure (now (key .entry)) (now (typed .entry))) at 32 r ⌝ }
+{
+    let mut right: u8 = 0;
+    for j in 0..32 {
+        right = right + sure_bit(key[at + j], typed[at + j]);
+    }
+    right
+}
+
+// At how many of 32 places the key has N.
+fn any32(key: &[u8], at: usize) -> u8
+    requires { ⌜ at + 32 ≤ length (now key) ⌝ }
+    ensures { λ r. ⌜ Counted (anyAt (now (key .entry))) at 32 r ⌝ }
+{
+    let mut right: u8 = 0;
+    for j in 0..32 {
+        right = right + any_bit(key[at + j]);
     }
     right
 }
@@ -105,7 +158,7 @@ fn right_bit(codes: &[u8; 256], k: u8, t: u8, second: bool) -> u8
     same_bit(k, t)
 }
 
-// How many of 32 places are right: what edition 1 takes, edition 2 takes too.
+// How many of 32 places are right: what edition 1 takes, edition 2 takes too; for a plain letter no other, and for N any plain one.
 fn block(codes: &[u8; 256], key: &[u8], typed: &[u8], at: usize, second: bool) -> usize
     requires { ⌜ IsTable setOf (now codes) × (at + 32 ≤ length (now key)) × (at + 32 ≤ length (now typed)) ⌝ }
     ensures { λ r. ⌜ Counted (agrees (ruleFor second) (now (key .entry)) (now (typed .entry))) at 32 r ⌝ }
@@ -115,6 +168,9 @@ fn block(codes: &[u8; 256], key: &[u8], typed: &[u8], at: usize, second: bool) -
         return 32;
     }
     if second {
+        if sure32(key, typed, at) == 32 {
+            return wide(all) + wide(any32(key, at));
+        }
         return run(codes, key, typed, at, 32, second);
     }
     wide(all)
@@ -157,7 +213,7 @@ fn smaller(a: usize, b: usize) -> usize
 
 // The counts and the score of a key and what was typed, in edition 1 or 2.
 fn score_by(key: &[u8], typed: &[u8], second: bool) -> Score
-    requires { ⌜ (length (now key) ≤ 1099511627776) × (length (now typed) ≤ 1099511627776) ⌝ }
+    requires { ⌜ length (now typed) ≤ 1099511627776 ⌝ }
     ensures { λ r. ⌜ r ≡ scoreBy (ruleFor second) (now (key .entry)) (now (typed .entry)) ⌝ }
 {
     let both = smaller(key.len(), typed.len());
@@ -173,13 +229,10 @@ fn score_by(key: &[u8], typed: &[u8], second: bool) -> Score
     }
 }
 
-// The same, by an edition's number.
-pub fn score_typed(key: &[u8], typed: &[u8], edition: u64) -> Scored
-    ensures { λ r. ⌜ r ≡ scoredAs (now (key .entry)) (now (typed .entry)) edition ⌝ }
+// The same, by an edition's number, of a key that was fetched: it is no lent input, and only what was typed is judged for the limit.
+pub fn score_key(key: &[u8], typed: &[u8], edition: u64) -> Scored
+    ensures { λ r. ⌜ r ≡ keyScored (now (key .entry)) (now (typed .entry)) edition ⌝ }
 {
-    if refusal::over_limit(key.len()) {
-        return Scored::Refused(Refusal::TooLong);
-    }
     if refusal::over_limit(typed.len()) {
         return Scored::Refused(Refusal::TooLong);
     }
@@ -190,4 +243,14 @@ pub fn score_typed(key: &[u8], typed: &[u8], edition: u64) -> Scored
         return Scored::Score(score_by(key, typed, true));
     }
     Scored::Refused(Refusal::UnknownEdition { offset: 0 })
+}
+
+// The same of a key that is lent.
+pub fn score_typed(key: &[u8], typed: &[u8], edition: u64) -> Scored
+    ensures { λ r. ⌜ r ≡ scoredAs (now (key .entry)) (now (typed .entry)) edition ⌝ }
+{
+    if refusal::over_limit(key.len()) {
+        return Scored::Refused(Refusal::TooLong);
+    }
+    score_key(key, typed, edition)
 }

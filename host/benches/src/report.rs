@@ -65,6 +65,15 @@ pub struct Mapped {
     pub used: f64,
 }
 
+/// Answers to one exercise scored, beside a plain comparison of the same bytes.
+pub struct Scored {
+    pub work: String,
+    pub answers: usize,
+    pub bases: usize,
+    pub ours: f64,
+    pub plain: f64,
+}
+
 /// All that was found.
 #[derive(Default)]
 pub struct Report {
@@ -76,6 +85,7 @@ pub struct Report {
     pub looked_up: Vec<LookedUp>,
     pub mapped: Vec<Mapped>,
     pub levelled: Vec<Levelled>,
+    pub scored: Vec<Scored>,
 }
 
 /// A goal, and what was found.
@@ -108,6 +118,9 @@ const CHECK_GOAL: f64 = 0.8;
 
 /// The goal of the map of names: with its building, so many times as fast as the walks.
 const MAP_GOAL: f64 = 10.0;
+
+/// The goal of scoring 100 answers of 1,000 bases, in seconds.
+const SCORE_GOAL: f64 = 0.002;
 
 /// A number with commas.
 pub fn number(n: usize) -> String {
@@ -298,6 +311,16 @@ impl fmt::Display for Report {
             let verdict = if ratio >= SHEET_GOAL { "reached" } else { "**not reached**" };
             let [singles, sheet] = [*singles, *sheet].map(time);
             writeln!(f, "| {regions} | {bases} | {SHEET_GOAL} | {ratio:.2} | {verdict} | {singles} | {sheet} |")?;
+        }
+        if !self.scored.is_empty() {
+            writeln!(f, "\n| scored | answers | bases | goal | time | | a plain comparison | times as long |")?;
+            writeln!(f, "|---|---|---|---|---|---|---|---|")?;
+        }
+        for Scored { work, answers, bases, ours, plain } in &self.scored {
+            let verdict = if *ours <= SCORE_GOAL { "reached" } else { "**not reached**" };
+            let (ratio, goal, ours, plain) = (ours / plain, time(SCORE_GOAL), time(*ours), time(*plain));
+            let (answers, bases) = (number(*answers), number(*bases));
+            writeln!(f, "| {work} | {answers} | {bases} | {goal} | {ours} | {verdict} | {plain} | {ratio:.1} |")?;
         }
         if !self.looked_up.is_empty() {
             writeln!(f, "\n| records | regions of one base | time | ns for a record or region |")?;

@@ -50,7 +50,7 @@ mod window;
 mod writer;
 
 pub use bounds::Bounds;
-pub use course::{Exercise, Score, read_exercise, score_typed, write_exercise};
+pub use course::{Edition, Exercise, Score, read_exercise, score_typed, write_exercise};
 pub use level::{LEVELS, use_level};
 pub use names::Names;
 pub use primer::{Places, degeneracy, find_primer, find_primer_from, primer_places};
