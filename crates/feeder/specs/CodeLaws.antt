@@ -3,7 +3,7 @@ use Prim.Native.Nat.{ℕ, zero, suc, _+_, _-_, _*_, _/_, _%_, _^_, _≤_, _<_, m
 use mathlib.Core.Path.{_≡_, refl, ap, sym, _∙_}
 use mathlib.Core.List.{List, [], _∷_}
 use mathlib.Core.Bool.{Bool, true, false, cond, not, true≢false}
-use lib.ListN.{length, getD, drop}
+use lib.ListN.{length, getD, drop, drop-of-length-le}
 use lib.Dec.{eqb, ltb, leb, eqb·suc-zero}
 use lib.Arith.{digits-div, digits-mod}
 use borrow.Author.Tests.{eq-eqb, ne-eqb, eqb-true, eqb-false, lt-ltb, le-ltb}
@@ -12,10 +12,21 @@ use native.Mathlib.Nat.{div-add-mod', mod-lt, add-zero}
 use Rattle.refusal.specs.Numbers.{numbersOf}
 use Rattle.refusal.specs.declared.Refusal.{Refusal}
 use Rattle.refusal.specs.declared.Refusal.the-variants.{TableFull}
-use Rattle.lines.specs.Lines.{part, chop, ends, begins, upFrom}
-use Rattle.lines.specs.Laws.{part-cons}
+use Rattle.lines.specs.Lines.{part, lineEnd, lines, chop, ends, begins, upFrom}
+use Rattle.lines.specs.Laws.{part-cons, part-length, linesAt-cut}
 use Rattle.definition.specs.Definition.{isSpace, spaced, run}
-use Rattle.indexer.specs.LineSums.{skip}
+use Rattle.definition.specs.Laws.{described-none, described-some}
+use Rattle.definition.specs.declared.Parsed.the-variants.{Named}
+use Rattle.indexer.specs.LineSums.{skip, grow, namedAs}
+use Rattle.lines.specs.Feeding.{FedSum, absorbSum, absorbSums, feedSum}
+use Rattle.fitting.specs.declared.Rule.{Rule}
+use Rattle.feeder.specs.declared.Waiting.{Waiting}
+use Rattle.feeder.specs.declared.Settled.{Settled}
+use Rattle.feeder.specs.declared.Fed.{Fed}
+use Rattle.feeder.specs.Waiting.{unpack, noLine, waitingOf, growBy}
+use Rattle.feeder.specs.Small.{FitsWithin}
+use Rattle.feeder.specs.SmallLaws.{fits-absorb}
+use Rattle.feeder.specs.WaitingLaws.{new-line}
 use Rattle.record.specs.declared.Record.{Record}
 use Rattle.record.specs.declared.Offset.{Offset}
 use Rattle.record.specs.Place.{placeOf}
@@ -34,7 +45,7 @@ use Rattle.feeder.specs.declared.Phase.the-variants.{Definition, Halted}
 use Rattle.feeder.specs.declared.Phase.{Phase}
 use Rattle.feeder.specs.declared.Out.{Out}
 use Rattle.feeder.specs.declared.Out.the-variants.{Keeps, Emits}
-use Rattle.feeder.specs.Machine.{filling, applied, SettleDone}
+use Rattle.feeder.specs.Machine.{Filling, filling, outOf, applied, stepBy, machine, fedIn, SettleDone, AbsorbDone, FeedDone}
 
 -- ---- the bytes of a line
 
@@ -100,6 +111,43 @@ skip-name (b ∷ s) = go (isSpace b) (skip-name s) refl
     go true h e = rw (e, skip-space s) (omega arith)
     go false h e = omega (arith, h)
 
+-- the end of a name and of the whitespace behind it, from the start of a line and from further on
+pub text-first : (l : List ℕ) (r e : ℕ) → r ≡ 1 + run (spaced false) (drop 1 l) → e ≡ r + run (spaced true) (drop r l) → e ≡ suc (skip true (drop 1 l))
+text-first l r e h k =
+    let q : r ≡ suc (run (spaced false) (drop 1 l)) = omega arith in
+    k ∙ rw q (omega (arith, skip-name (drop 1 l), behind l (run (spaced false) (drop 1 l))))
+  where
+    behind : (l : List ℕ) (n : ℕ) → run (spaced true) (drop (suc n) l) ≡ run (spaced true) (drop n (drop 1 l))
+    behind [] zero = refl
+    behind [] (suc n) = refl
+    behind (b ∷ l) n = refl
+
+pub text-more : (l : List ℕ) (r e : ℕ) → r ≡ 0 + run (spaced false) (drop 0 l) → e ≡ r + run (spaced true) (drop r l) → e ≡ skip true l
+text-more l r e h k =
+    let q : r ≡ run (spaced false) l = omega arith in
+    k ∙ rw q (skip-name l)
+
+-- what a line says that begins with '>'
+pub named-none : (n text kept : ℕ) → (n ≡ 0 → ⊥) → kept ≤ text → Named (record { name = record { start = 1; length = n }; description = record { start = 0; length = 0 } }) ≡ namedAs n text kept
+named-none zero text kept h k = absurd (h refl)
+named-none (suc n) text kept h k = rw (described-none text (kept - text) (omega arith))
+
+pub named-some : (n text kept : ℕ) → (n ≡ 0 → ⊥) → text < kept
+    → Named (record { name = record { start = 1; length = n }; description = record { start = text; length = kept - text } }) ≡ namedAs n text kept
+named-some zero text kept h k = absurd (h refl)
+named-some (suc n) text kept h k = rw (described-some text (kept - text) (omega arith))
+
+-- a line that has grown, by its parts
+module _ (t : Waiting) (l : List ℕ) (b : ℕ) (w : Bool) (hb : b ≡ grow (unpack t) l .line .bases) (hw : w ≡ ends 10 l) where
+  pub grown-yes : (n x k : ℕ) → true ≡ grow (unpack t) l .starts → n ≡ grow (unpack t) l .name → x ≡ grow (unpack t) l .text → k ≡ grow (unpack t) l .kept
+      → record { width = t .width + length l; bases = b; whole = w; starts = true; name = n; text = x; kept = k } ≡ growBy t l
+  unfolding growBy grow
+  grown-yes n x k hs hn hx hk = rw (hb, hw, hn, hx, hk, ← hs)
+
+  pub grown-no : false ≡ grow (unpack t) l .starts → record { width = t .width + length l; bases = b; whole = w; starts = false; name = 0; text = 0; kept = 0 } ≡ growBy t l
+  unfolding growBy grow
+  grown-no hs = rw (hb, hw, ← hs)
+
 -- ---- places
 
 module _ (n : Numbers) (k at : ℕ) where
@@ -112,9 +160,6 @@ module _ (n : Numbers) (k at : ℕ) where
   place-short h m = sym (ne-eqb at (placeBy n k) (λ e. omega arith))
 
   module _ (w : 0 < n .width) (h : n .position ≤ at) (m : k % n .bases ≤ at - n .position) where
-    lines : ℕ
-    lines = at - n .position - k % n .bases
-
     at-lines : at ≡ placeBy n k → at - n .position - k % n .bases ≡ k / n .bases * n .width + 0
     unfolding placeOf
     at-lines e = omega arith
@@ -188,3 +233,73 @@ module _ (out : Out) (n : ℕ) (t : List ℕ) where
           is = rw (e, le-ltb _ _ (r .0), r .1) (ap (filling (Halted (numbersOf (TableFull (rowCount (numbersIn t))))) n) (s .stored .table ∙ without-row (numbersIn t) n x (r .0)));
           rest = s .rest;
         }
+
+-- ---- a line behind what waits
+
+fed-same : {a b : Filling} {h k : Waiting} → a ≡ b → h ≡ k → _≡_ {A = FedSum Filling Waiting} (record { state = a; held = h }) (record { state = b; held = k })
+fed-same e q = rw (e, q)
+
+module _ (rule : Rule) (x : FedSum Filling Waiting) (l : List ℕ) where
+  absorb-whole : x .held .whole ≡ true → absorbSum (machine rule) x l ≡ record { state = stepBy rule (x .state) (x .held) (begins l); held = waitingOf l }
+  unfolding absorbSum
+  absorb-whole w = rw w
+
+  absorb-open : x .held .whole ≡ false → absorbSum (machine rule) x l ≡ record { state = x .state; held = growBy (x .held) l }
+  unfolding absorbSum
+  absorb-open w = rw w
+
+module _ (rule : Rule) (f : Fed) (l before after : List ℕ) where
+  step-is : (last : Bool) (out : Out) → last ≡ begins l → out ≡ outOf rule (f .phase) (f .held) last
+      → applied (f .rows) (numbersIn before) out ≡ stepBy rule (filling (f .phase) (f .rows) (numbersIn before)) (f .held) (begins l)
+  unfolding stepBy
+  step-is last out b o = ap (applied (f .rows) (numbersIn before)) (o ∙ ap (outOf rule (f .phase) (f .held)) b)
+
+  pub absorbed-whole : (last : Bool) (out : Out) (s : Settled) (n held : Waiting) → 0 < length l → f .held .whole ≡ true → last ≡ begins l → out ≡ outOf rule (f .phase) (f .held) last
+      → SettleDone out (f .rows) before s after → n ≡ noLine → held ≡ growBy n l → AbsorbDone rule f l before (record { phase = s .phase; rows = s .rows; held = held }) after
+  absorbed-whole last out s n held z w b o d hn hh = record {
+    is =
+        fed-same (d .is ∙ step-is last out b o) (hh ∙ ap (λ (t : Waiting). growBy t l) hn ∙ sym (new-line l z))
+        ∙ sym (absorb-whole rule (fedIn f (numbersIn before)) l w);
+    rest = d .rest;
+  }
+
+  pub absorbed-open : (held : Waiting) → f .held .whole ≡ false → held ≡ growBy (f .held) l → AbsorbDone rule f l before (record { phase = f .phase; rows = f .rows; held = held }) before
+  absorbed-open held w hh = record { is = fed-same refl hh ∙ sym (absorb-open rule (fedIn f (numbersIn before)) l w); rest = refl }
+
+-- ---- line by line
+
+-- what a piece from i on still leaves is what it leaves from the start
+pub record FeedOn (rule : Rule) (f₀ : Fed) (p t₀ : List ℕ) (f : Fed) (i : ℕ) (t : List ℕ) : Type 0 where
+  pub is : absorbSums (machine rule) (fedIn f (numbersIn t)) (lines (drop i p)) ≡ feedSum (machine rule) (fedIn f₀ (numbersIn t₀)) p
+  pub rest : restOf t ≡ restOf t₀
+
+module _ (rule : Rule) (f₀ : Fed) (p t₀ : List ℕ) where
+  pub feed-start : FeedOn rule f₀ p t₀ f₀ 0 t₀
+  unfolding feedSum
+  feed-start = record { is = refl; rest = refl }
+
+  module _ (f : Fed) (i : ℕ) (t : List ℕ) (o : FeedOn rule f₀ p t₀ f i t) where
+    pub feed-turn : (e : ℕ) (g : Fed) (u : List ℕ) → i < length p → e ≡ lineEnd p i → AbsorbDone rule f (part p i e) t g u → FeedOn rule f₀ p t₀ g e u
+    feed-turn e g u h q d = record {
+      is =
+          ap (λ (x : FedSum Filling Waiting). absorbSums (machine rule) x (lines (drop e p))) (d .is)
+          ∙ again (fedIn f (numbersIn t)) (part p i e) (lines (drop e p))
+          ∙ ap (absorbSums (machine rule) (fedIn f (numbersIn t))) (sym (rw q (linesAt-cut p i h)))
+          ∙ o .is;
+      rest = d .rest ∙ o .rest;
+    }
+      where
+        again : (x : FedSum Filling Waiting) (l : List ℕ) (ls : List (List ℕ)) → absorbSums (machine rule) (absorbSum (machine rule) x l) ls ≡ absorbSums (machine rule) x (l ∷ ls)
+        again x l ls = unfold absorbSums in refl
+
+    pub feed-done : length p ≤ i → FeedDone rule f₀ p t₀ f t
+    feed-done h = record { is = sym (none-left (fedIn f (numbersIn t))) ∙ o .is; rest = o .rest }
+      where
+        none-left : (x : FedSum Filling Waiting) → absorbSums (machine rule) x (lines (drop i p)) ≡ x
+        none-left x = rw (drop-of-length-le p h) (unfold lines absorbSums in refl)
+
+    pub feed-fits : (c e : ℕ) (g : Fed) (u : List ℕ) → i < e → e ≤ length p → FitsWithin (c + i) (f .phase) (f .held) → AbsorbDone rule f (part p i e) t g u → FitsWithin (c + e) (g .phase) (g .held)
+    feed-fits c e g u h k fits d =
+        let n : c + i + length (part p i e) ≡ c + e = omega (arith, part-length p i e k) in
+        let r = fits-absorb rule (c + i) (fedIn f (numbersIn t)) (part p i e) (omega (arith, part-length p i e k)) fits in
+        rw (← d .is, n) at r

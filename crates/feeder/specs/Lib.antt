@@ -9,5 +9,7 @@ pub mod Waiting
 pub mod Machine
 pub mod Small
 pub mod Calls
-pub mod CodeLaws
+pub mod WaitingLaws
 pub mod SmallLaws
+pub mod CodeLaws
+pub mod CallLaws

@@ -7,6 +7,7 @@ use lib.ListN.{length, drop}
 use lib.Dec.{eqb, ltb, leb}
 use borrow.Author.Tests.{eqb-true, eqb-false, leb-true, ltb-true, le-leb, lt-ltb}
 use native.Mathlib.Omega.{arith}
+use native.Mathlib.Nat.{add-assoc}
 use Rattle.lines.specs.declared.Line.{Line}
 use Rattle.lines.specs.Lines.{lines, chop, ends, basesOf, begins, upFrom, sumWidths}
 use Rattle.lines.specs.Laws.{chop-le, ends-chop}
@@ -41,6 +42,7 @@ use Rattle.feeder.specs.declared.Out.{Out}
 use Rattle.feeder.specs.declared.Out.the-variants.{Keeps, Emits}
 use Rattle.feeder.specs.declared.Feeder.{Feeder}
 use Rattle.feeder.specs.Waiting.{unpack, noLine, growBy, waitingOf}
+use Rattle.feeder.specs.WaitingLaws.{lines-some, new-line}
 use Rattle.feeder.specs.Machine.{closeAlone, openedAt, definitionOut, firstOut, furtherOut, strictOut, passedOut, placedOut, rowsOut, basesOut, completeOut, lineOut, outOf, Filling, filling, applied, stepBy, machine}
 use Rattle.feeder.specs.Small.{SmallWaiting, SmallOpened, SmallNumbers, SmallSoFar, SmallPhase, FitsWithin}
 use Rattle.feeder.specs.Calls.{limit, soundWaiting, soundOpened, soundNumbers, soundSoFar, soundPhase, soundOf}
@@ -74,10 +76,9 @@ says-small t s said e = go (blank (unpack t)) (t .starts) e
 
 -- ---- a line that is judged
 
--- of a line with a byte behind its bases
-module _ (m w : ℕ) where
-  opened-more : (d : Opened) → SmallOpened m d → SmallOpened (m + w) d
-  opened-more d s = record {
+module _ (m m′ : ℕ) (h : m ≤ m′) where
+  opened-weak : (d : Opened) → SmallOpened m d → SmallOpened m′ d
+  opened-weak d s = record {
     at = omega (arith, s .at);
     end = omega (arith, s .end);
     name-start = omega (arith, s .name-start);
@@ -86,13 +87,20 @@ module _ (m w : ℕ) where
     text-length = omega (arith, s .text-length);
   }
 
-  numbers-more : (n : Numbers) → SmallNumbers m n → SmallNumbers (m + w) n
-  numbers-more n s = record { position = omega (arith, s .position); bases = omega (arith, s .bases); width = omega (arith, s .width); some = s .some; apart = s .apart }
+  numbers-weak : (n : Numbers) → SmallNumbers m n → SmallNumbers m′ n
+  numbers-weak n s = record { position = omega (arith, s .position); bases = omega (arith, s .bases); width = omega (arith, s .width); some = s .some; apart = s .apart }
 
-  so-far-more : (z : ℕ) (t : SoFar) → SmallSoFar m z t → SmallSoFar (m + w) (z + w) t
-  so-far-more z Blank s = tt
-  so-far-more z (Run n) s = (numbers-more n (s .0), omega (arith, s .1))
-  so-far-more z (Rows n k) s = (numbers-more n (s .0), omega (arith, s .1))
+  so-far-weak : (z z′ : ℕ) → z ≤ z′ → (t : SoFar) → SmallSoFar m z t → SmallSoFar m′ z′ t
+  so-far-weak z z′ k Blank s = tt
+  so-far-weak z z′ k (Run n) s = (numbers-weak n (s .0), omega (arith, s .1))
+  so-far-weak z z′ k (Rows n c) s = (numbers-weak n (s .0), omega (arith, s .1))
+
+  pub phase-weak : (p : Phase) → SmallPhase m p → SmallPhase m′ p
+  unfolding SmallPhase
+  phase-weak (Definition at) s = omega arith
+  phase-weak (Lines d t z) s = (opened-weak d (s .0), so-far-weak z z (omega arith) t (s .1), omega (arith, s .2))
+  phase-weak (Halted n) s = tt
+  phase-weak Ended s = tt
 
 abbrev SmallOut : ℕ → Out → Type 0
 SmallOut m (Keeps p) = SmallPhase m p
@@ -108,8 +116,8 @@ module _ (m : ℕ) (d : Opened) (z : ℕ) (x : Line) (last : Bool) (o : SmallOpe
       go true e u f y = tt
       go false e true f y = omega arith
       go false e false f y =
-          (opened-more m (x .width) d o,
-          (record { position = omega arith; bases = omega arith; width = omega arith; some = omega (arith, eqb-false _ _ e); apart = b }, omega arith),
+          (opened-weak m (m + x .width) (omega arith) d o,
+          (record { position = omega arith; bases = omega arith; width = omega arith; some = omega (arith, eqb-false (x .bases) 0 e); apart = b }, omega arith),
           omega arith)
 
   further-small : (n : Numbers) (k : ℕ) → SmallNumbers m n → k ≤ m → SmallOut (m + x .width) (furtherOut d n k z x last)
@@ -119,7 +127,7 @@ module _ (m : ℕ) (d : Opened) (z : ℕ) (x : Line) (last : Bool) (o : SmallOpe
       go : (t u v : Bool) (f g : refused.Numbers) (y : Record)
           → SmallOut (m + x .width) (cond t (Emits y (z + x .width)) (cond u (cond v (Keeps (Lines d (Rows n (k + x .bases)) (z + x .width))) (Keeps (Halted f))) (Keeps (Halted g))))
       go true u v f g y = omega arith
-      go false true true f g y = (opened-more m (x .width) d o, (numbers-more m (x .width) n s, omega arith), omega arith)
+      go false true true f g y = (opened-weak m (m + x .width) (omega arith) d o, (numbers-weak m (m + x .width) (omega arith) n s, omega arith), omega arith)
       go false true false f g y = tt
       go false false v f g y = tt
 
@@ -135,14 +143,14 @@ module _ (m : ℕ) (d : Opened) (z : ℕ) (x : Line) (last : Bool) (o : SmallOpe
     where
       go : (u : Bool) (y : Record) → SmallOut (m + x .width) (cond u (Emits y (z + x .width)) (Keeps (Lines d t (z + x .width))))
       go true y = omega arith
-      go false y = (opened-more m (x .width) d o, s, omega arith)
+      go false y = (opened-weak m (m + x .width) (omega arith) d o, s, omega arith)
 
   rows-small : (n : Numbers) (k : ℕ) → SmallNumbers m n → k ≤ m → SmallOut (m + x .width) (rowsOut d n k z x last)
   unfolding rowsOut SmallPhase
   rows-small n k s q = go (firstElsewhere (placeBy n) k (upFrom z (x .bases)))
     where
       go : (v : Placed) → SmallOut (m + x .width) (placedOut d n (k + x .bases) (z + x .width) last v)
-      go There = passed-small (Rows n (k + x .bases)) (numbers-more m (x .width) n s, omega arith)
+      go There = passed-small (Rows n (k + x .bases)) (numbers-weak m (m + x .width) (omega arith) n s, omega arith)
       go (Elsewhere p o) = tt
 
   bases-small : (t : SoFar) → SmallSoFar m z t → 0 < x .bases → SmallOut (m + x .width) (basesOut d t z x last)
@@ -158,8 +166,8 @@ module _ (m : ℕ) (d : Opened) (z : ℕ) (x : Line) (last : Bool) (o : SmallOpe
   complete-small t s = go (eqb (x .bases) 0) refl
     where
       go : (u : Bool) → eqb (x .bases) 0 ≡ u → SmallOut (m + x .width) (cond u (passedOut d t (z + x .width) last) (basesOut d t z x last))
-      go true e = passed-small t (so-far-more m (x .width) z t s)
-      go false e = bases-small t s (omega (arith, eqb-false _ _ e))
+      go true e = passed-small t (so-far-weak m (m + x .width) (omega arith) z (z + x .width) (omega arith) t s)
+      go false e = bases-small t s (omega (arith, eqb-false (x .bases) 0 e))
 
 module _ (rule : Rule) (m : ℕ) (t : Waiting) (last : Bool) (s : SmallWaiting t) (w : t .whole ≡ true) where
   line-small : (d : Opened) (so : SoFar) (z : ℕ) → SmallOpened m d → SmallSoFar m z so → z ≤ m → SmallOut (m + t .width) (lineOut rule d so z (record { width = t .width; bases = t .bases }) last)
@@ -212,7 +220,7 @@ module _ (rule : Rule) (m : ℕ) (t : Waiting) (last : Bool) (s : SmallWaiting t
 
 -- ---- a line that grows
 
-skip-le : (named : Bool) (s : List ℕ) → skip named s ≤ length s
+pub skip-le : (named : Bool) (s : List ℕ) → skip named s ≤ length s
 unfolding skip
 skip-le named [] = omega arith
 skip-le true (b ∷ s) = omega (arith, skip-le (not (isSpace b)) s)
@@ -286,3 +294,113 @@ module _ (t : Waiting) (l : List ℕ) (s : SmallWaiting t) (h : 0 < length l) wh
 
 pub none-small : SmallWaiting noLine
 none-small = record { bases = omega arith; ended = λ e. absurd (true≢false (sym e)); name = omega arith; text = omega arith; kept = omega arith }
+
+-- ---- a piece
+
+module _ (rule : Rule) where
+  open-fits : (c m : ℕ) (p : Phase) (t : Waiting) (l : List ℕ) → 0 < length l → SmallPhase m p → SmallWaiting t → m + t .width ≤ c → FitsWithin (c + length l) p (growBy t l)
+  open-fits c m p t l z s h k = record { most = m; phase = s; held = grow-small t l h z; both = omega (arith, k, grown-width t l h z) }
+
+  pub fits-absorb : (c : ℕ) (x : FedSum Filling Waiting) (l : List ℕ) → 0 < length l → FitsWithin c (x .state .phase) (x .held)
+      → FitsWithin (c + length l) (absorbSum (machine rule) x l .state .phase) (absorbSum (machine rule) x l .held)
+  unfolding absorbSum
+  fits-absorb c x l z f = go (x .held .whole) refl
+    where
+      go : (t : Bool) → x .held .whole ≡ t
+          → FitsWithin (c + length l) (cond {A = FedSum Filling Waiting} t (record { state = stepBy rule (x .state) (x .held) (begins l); held = waitingOf l }) (record { state = x .state; held = growBy (x .held) l }) .state .phase)
+          (cond {A = FedSum Filling Waiting} t (record { state = stepBy rule (x .state) (x .held) (begins l); held = waitingOf l }) (record { state = x .state; held = growBy (x .held) l }) .held)
+      go true e =
+          rw (new-line l z)
+          (open-fits c (f .most + x .held .width) (stepBy rule (x .state) (x .held) (begins l) .phase) noLine l z
+          (step-small rule (f .most) (x .held) (begins l) (f .held) e (x .state) (f .phase)) none-small (omega (arith, f .both)))
+      go false e = open-fits c (f .most) (x .state .phase) (x .held) l z (f .phase) (f .held) (f .both)
+
+  fits-lines : (ls : List (List ℕ)) (s : List ℕ) → lines s ≡ ls → (c : ℕ) (x : FedSum Filling Waiting) → FitsWithin c (x .state .phase) (x .held)
+      → FitsWithin (c + sumWidths ls) (absorbSums (machine rule) x ls .state .phase) (absorbSums (machine rule) x ls .held)
+  unfolding absorbSums sumWidths
+  fits-lines [] s e c x f = record { most = f .most; phase = f .phase; held = f .held; both = omega (arith, f .both) }
+  fits-lines (l ∷ ls) s e c x f =
+      rw (sym (add-assoc c (length l) (sumWidths ls)))
+      (fits-lines ls (drop (length l) s) (lines-behind s l ls e) (c + length l) (absorbSum (machine rule) x l) (fits-absorb c x l (lines-some s l ls e) f))
+
+  pub fits-piece : (c : ℕ) (x : FedSum Filling Waiting) (p : List ℕ) → FitsWithin c (x .state .phase) (x .held)
+      → FitsWithin (c + length p) (feedSum (machine rule) x p .state .phase) (feedSum (machine rule) x p .held)
+  unfolding feedSum
+  fits-piece c x p f = rw (sym (widths-lines p)) (fits-lines (lines p) p refl c x f)
+
+-- ---- sound states
+
+two : (a b : Bool) → (a && b) ≡ true → (a ≡ true) × (b ≡ true)
+two true b e = (refl, e)
+two false b e = absurd (true≢false (sym e))
+
+three : (a b c : Bool) → ((a && b) && c) ≡ true → (a ≡ true) × (b ≡ true) × (c ≡ true)
+three a b c e = let x = two (a && b) c e in let y = two a b (x .0) in (y .0, y .1, x .1)
+
+five : (a b c d f : Bool) → ((((a && b) && c) && d) && f) ≡ true → (a ≡ true) × (b ≡ true) × (c ≡ true) × (d ≡ true) × (f ≡ true)
+five a b c d f e = let x = two (((a && b) && c) && d) f e in let y = two ((a && b) && c) d (x .0) in let z = three a b c (y .0) in (z .0, z .1, z .2, y .1, x .1)
+
+six : (a b c d f g : Bool) → (((((a && b) && c) && d) && f) && g) ≡ true → (a ≡ true) × (b ≡ true) × (c ≡ true) × (d ≡ true) × (f ≡ true) × (g ≡ true)
+six a b c d f g e = let x = two ((((a && b) && c) && d) && f) g e in let y = five a b c d f (x .0) in (y .0, y .1, y .2, y .3, y .4, x .1)
+
+implied : (a b : Bool) → (not a || b) ≡ true → a ≡ true → b ≡ true
+implied true b e h = e
+implied false b e h = absurd (true≢false (sym h))
+
+waiting-sound : (t : Waiting) → soundWaiting t ≡ true → SmallWaiting t × (t .width ≤ limit)
+unfolding soundWaiting
+waiting-sound t e =
+    let x = six (leb (t .bases) (t .width)) (leb (t .name) (t .width)) (leb (t .text) (t .width)) (leb (t .kept) (t .width)) (leb (t .width) limit) (not (t .whole) || ltb (t .bases) (t .width)) e in
+    (record {
+      bases = leb-true _ _ (x .0);
+      ended = λ w. ltb-true _ _ (implied (t .whole) (ltb (t .bases) (t .width)) (x .5) w);
+      name = leb-true _ _ (x .1);
+      text = leb-true _ _ (x .2);
+      kept = leb-true _ _ (x .3);
+    }, leb-true _ _ (x .4))
+
+opened-sound : (d : Opened) → soundOpened d ≡ true → SmallOpened limit d
+unfolding soundOpened
+opened-sound d e =
+    let x = six (leb (d .at) limit) (leb (d .end) limit) (leb (d .said .name .start) limit) (leb (d .said .name .length) limit) (leb (d .said .description .start) limit) (leb (d .said .description .length) limit) e in
+    record {
+      at = leb-true _ _ (x .0);
+      end = leb-true _ _ (x .1);
+      name-start = leb-true _ _ (x .2);
+      name-length = leb-true _ _ (x .3);
+      text-start = leb-true _ _ (x .4);
+      text-length = leb-true _ _ (x .5);
+    }
+
+numbers-sound : (n : Numbers) → soundNumbers n ≡ true → SmallNumbers limit n
+unfolding soundNumbers
+numbers-sound n e =
+    let x = five (leb (n .position) limit) (leb (n .bases) limit) (leb (n .width) limit) (ltb 0 (n .bases)) (ltb (n .bases) (n .width)) e in
+    record { position = leb-true _ _ (x .0); bases = leb-true _ _ (x .1); width = leb-true _ _ (x .2); some = ltb-true _ _ (x .3); apart = ltb-true _ _ (x .4) }
+
+so-far-sound : (z : ℕ) (t : SoFar) → soundSoFar z t ≡ true → SmallSoFar limit z t
+unfolding soundSoFar
+so-far-sound z Blank e = tt
+so-far-sound z (Run n) e =
+    let x = two (soundNumbers n) (ltb (n .position) z && ltb (n .bases) (z - n .position)) e in
+    let y = two (ltb (n .position) z) (ltb (n .bases) (z - n .position)) (x .1) in
+    (numbers-sound n (x .0), omega (arith, ltb-true (n .position) z (y .0), ltb-true (n .bases) (z - n .position) (y .1)))
+so-far-sound z (Rows n k) e = let x = two (soundNumbers n) (leb k limit) e in (numbers-sound n (x .0), leb-true _ _ (x .1))
+
+phase-sound : (p : Phase) → soundPhase p ≡ true → SmallPhase limit p
+unfolding soundPhase SmallPhase
+phase-sound (Definition at) e = leb-true _ _ e
+phase-sound (Lines d t z) e = let x = three (soundOpened d) (leb z limit) (soundSoFar z t) e in (opened-sound d (x .0), so-far-sound z t (x .2), leb-true _ _ (x .1))
+phase-sound (Halted n) e = tt
+phase-sound Ended e = tt
+
+pub sound-fits : (f : Feeder) → soundOf f ≡ true → (f .total ≤ limit) × FitsWithin (2 ^ 41) (f .phase) (f .held)
+unfolding soundOf
+sound-fits f e =
+    let x = three (leb (f .total) limit) (soundPhase (f .phase)) (soundWaiting (f .held)) e in
+    let w = waiting-sound (f .held) (x .2) in
+    (leb-true _ _ (x .0), record { most = limit; phase = phase-sound (f .phase) (x .1); held = w .0; both = omega (arith, w .1) })
+
+-- what fits is small enough for every sum
+pub fits-small : (c : ℕ) (p : Phase) (t : Waiting) → FitsWithin c p t → c < 2 ^ 60 → SmallPhase (2 ^ 60) p × SmallWaiting t × (t .width < 2 ^ 60)
+fits-small c p t f h = (phase-weak (f .most) (2 ^ 60) (omega (arith, f .both)) p (f .phase), f .held, omega (arith, f .both))

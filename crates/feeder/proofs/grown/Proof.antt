@@ -1,8 +1,10 @@
+-- `feeder::grown` meets its contract: case by case.
+-- Assumes nothing.
+use Rattle.feeder.specs.CodeLaws.{grown-yes, grown-no}
+use mathlib.Core.Path.{_≡_, refl, ap, sym, _∙_}
 use borrow.Author.Needs.{needs}
 use Rattle.feeder.proofs.grown.Statement.{statement}
 use Rattle.feeder.proofs.grown.Tie as tie
-use Rattle.feeder.proofs.grown.Reads as reads
-use Rattle.feeder.proofs.grown.Lts as lts
 use Rattle.feeder.proofs.ends_line.Reads as ends-line-reads
 use Rattle.feeder.proofs.grown_bases.Reads as grown-bases-reads
 use Rattle.feeder.proofs.grown_kept.Reads as grown-kept-reads
@@ -10,41 +12,32 @@ use Rattle.feeder.proofs.grown_name.Reads as grown-name-reads
 use Rattle.feeder.proofs.grown_starts.Reads as grown-starts-reads
 use Rattle.feeder.proofs.grown_text.Reads as grown-text-reads
 
--- src/lib.rt:254:17
 add-width : tie.Need-add-width
 add-width c = search needs
 
--- src/lib.rt:255:9
 grown-bases-requires : tie.Need-grown-bases-requires
 grown-bases-requires c κs = search needs
 
--- src/lib.rt:256:9
 ends-line-requires : tie.Need-ends-line-requires
 ends-line-requires c κs = search needs
 
--- src/lib.rt:257:8
 grown-starts-requires : tie.Need-grown-starts-requires
 grown-starts-requires c κs = search needs
 
--- src/lib.rt:258:13
 grown-name-requires : tie.Need-grown-name-requires
 grown-name-requires c κs = search needs
 
--- src/lib.rt:259:13
 grown-text-requires : tie.Need-grown-text-requires
 grown-text-requires c κs = search needs
 
--- src/lib.rt:260:13
 grown-kept-requires : tie.Need-grown-kept-requires
 grown-kept-requires c κs = search needs
 
--- src/lib.rt:261:9
 returns : tie.Need-returns
-returns c = ?
+returns c = grown-yes _ _ _ _ (c .before .before .before .before .before .before .grown-bases .ensures) (c .before .before .before .before .before .ends-line .ensures) _ _ _ (sym (c .before .before .before .if1 .taken) ∙ c .before .before .before .before .grown-starts .ensures) (c .before .before .grown-name .ensures) (c .before .grown-text .ensures) (c .grown-kept .ensures)
 
--- src/lib.rt:250:1
 returns-2 : tie.Need-returns-2
-returns-2 c = ?
+returns-2 c = grown-no _ _ _ _ (c .before .before .before .grown-bases .ensures) (c .before .before .ends-line .ensures) (sym (c .if1 .left) ∙ c .before .grown-starts .ensures)
 
 pub grown-spec : {M : Type 1} → statement M
 grown-spec =

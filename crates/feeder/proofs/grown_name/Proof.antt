@@ -1,41 +1,43 @@
+-- `feeder::grown_name` meets its contract: case by case.
+-- Assumes nothing.
+use mathlib.Core.Bool.{false}
+use Rattle.definition.specs.Laws.{run-within}
+use Rattle.definition.specs.Definition.{spaced}
+use Prim.Native.Nat.{suc}
+use Rattle.indexer.specs.LineSums.{grow}
+use borrow.Author.Tests.{eq-eqb, ne-eqb}
+use native.Mathlib.Omega.{arith}
 use borrow.Author.Needs.{needs}
 use Rattle.feeder.proofs.grown_name.Statement.{statement}
 use Rattle.feeder.proofs.grown_name.Tie as tie
-use Rattle.feeder.proofs.grown_name.Reads as reads
-use Rattle.feeder.proofs.grown_name.Lts as lts
 use Rattle.feeder.proofs.run_end.Reads as run-end-reads
 
--- src/lib.rt:197:16
 run-end-requires : tie.Need-run-end-requires
 run-end-requires c κs = search needs
 
--- src/lib.rt:197:16
 sub-result : tie.Need-sub-result
 sub-result c = search needs
 
--- src/lib.rt:197:9
 returns : tie.Need-returns
-returns c = ?
+unfolding grow
+returns c = rw (eq-eqb _ _ (c .before .if1 .taken)) (omega (arith, c .run-end .ensures))
 
--- src/lib.rt:199:8
 add-if2 : tie.Need-add-if2
 add-if2 c = search needs
 
--- src/lib.rt:200:25
 run-end-requires-2 : tie.Need-run-end-requires-2
 run-end-requires-2 c κs = search needs
 
--- src/lib.rt:200:16
 add-result : tie.Need-add-result
-add-result c = ?
+add-result c = omega (arith, c .before .before .before .before .before .before .before .before .pre, c .before .run-end2 .ensures, run-within (spaced false) (c .before .before .before .before .before .before .before .before .args .l .now) 0 (omega arith))
 
--- src/lib.rt:200:9
 returns-2 : tie.Need-returns-2
-returns-2 c = ?
+unfolding grow
+returns-2 c = rw (ne-eqb _ _ (c .before .before .before .before .before .if1 .left), eq-eqb (suc (c .before .before .before .before .before .before .before .before .args .t .name)) (c .before .before .before .before .before .before .before .before .args .t .width) (omega (arith, c .before .before .if2 .taken))) (omega (arith, c .before .run-end2 .ensures))
 
--- src/lib.rt:192:1
 returns-3 : tie.Need-returns-3
-returns-3 c = ?
+unfolding grow
+returns-3 c = rw (ne-eqb _ _ (c .before .before .before .if1 .left), ne-eqb (suc (c .before .before .before .before .before .before .args .t .name)) (c .before .before .before .before .before .before .args .t .width) (λ e. c .if2 .left (omega (arith, e))))
 
 pub grown-name-spec : {M : Type 1} → statement M
 grown-name-spec =

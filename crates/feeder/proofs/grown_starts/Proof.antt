@@ -12,7 +12,7 @@ begins-record-requires c κs = search needs
 
 returns : tie.Need-returns
 unfolding grow
-returns c = rw (eq-eqb _ _ (c .before .before .if1 .taken)) (c .begins-record .ensures)
+returns c = rw (eq-eqb _ _ (c .before .if1 .taken)) (c .begins-record .ensures)
 
 returns-2 : tie.Need-returns-2
 unfolding grow

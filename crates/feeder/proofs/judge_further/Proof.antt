@@ -24,21 +24,21 @@ add-t11 c = search needs
 
 returns : tie.Need-returns
 unfolding furtherOut
-returns c = rw (sym (c .before .before .before .fits2 .ensures) ∙ c .before .before .if1 .taken, c .before .row .ensures)
+returns c = rw (sym (c .before .before .before .before .fits2 .ensures) ∙ c .before .before .before .if1 .taken, c .before .row .ensures)
 
 halted-requires : tie.Need-halted-requires
 halted-requires c κs = search needs
 
 returns-2 : tie.Need-returns-2
 unfolding furtherOut
-returns-2 c = rw (sym (c .before .before .before .before .fits2 .ensures) ∙ c .before .before .before .if1 .left, ne-eqb _ _ (c .before .if2 .taken)) (c .halted .ensures)
+returns-2 c = rw (sym (c .before .before .before .before .before .fits2 .ensures) ∙ c .before .before .before .before .if1 .left, ne-eqb _ _ (c .before .if2 .taken)) (c .halted .ensures)
 
 halted-requires-2 : tie.Need-halted-requires-2
 halted-requires-2 c κs = search needs
 
 returns-3 : tie.Need-returns-3
 unfolding furtherOut
-returns-3 c = rw (sym (c .before .before .before .before .before .before .before .fits2 .ensures) ∙ c .before .before .before .before .before .before .if1 .left, eq-eqb _ _ (c .before .before .before .before .if2 .left), ne-eqb _ _ (c .before .if3 .taken)) (c .halted2 .ensures)
+returns-3 c = rw (sym (c .before .before .before .before .before .before .before .before .fits2 .ensures) ∙ c .before .before .before .before .before .before .before .if1 .left, eq-eqb _ _ (c .before .before .before .before .if2 .left), ne-eqb _ _ (c .before .if3 .taken)) (c .halted2 .ensures)
 
 add-t19 : tie.Need-add-t19
 add-t19 c = search needs
@@ -48,7 +48,7 @@ add-t21 c = search needs
 
 returns-4 : tie.Need-returns-4
 unfolding furtherOut
-returns-4 c = rw (sym (c .before .before .before .before .before .before .before .before .fits2 .ensures) ∙ c .before .before .before .before .before .before .before .if1 .left, eq-eqb _ _ (c .before .before .before .before .before .if2 .left), eq-eqb _ _ (c .before .before .if3 .left))
+returns-4 c = rw (sym (c .before .before .before .before .before .before .before .before .before .fits2 .ensures) ∙ c .before .before .before .before .before .before .before .before .if1 .left, eq-eqb _ _ (c .before .before .before .before .before .if2 .left), eq-eqb _ _ (c .before .before .if3 .left))
 
 pub judge-further-spec : {M : Type 1} → statement M
 judge-further-spec =

@@ -32,11 +32,11 @@ halted-requires c κs = search needs
 
 returns : tie.Need-returns
 unfolding rowsOut
-returns c = rw (sym (c .before .before .before .before .place-bases .ensures) ∙ c .before .before .enum-told .given .1) (c .pass-line .ensures)
+returns c = rw (sym (c .before .before .before .before .before .place-bases .ensures) ∙ c .before .before .before .enum-told .given .1) (c .pass-line .ensures)
 
 returns-2 : tie.Need-returns-2
 unfolding rowsOut
-returns-2 c = rw (sym (c .before .before .before .place-bases .ensures) ∙ c .before .before .base .given .1) (c .halted .ensures)
+returns-2 c = rw (sym (c .before .before .before .before .place-bases .ensures) ∙ c .before .before .base .given .1) (c .halted .ensures)
 
 pub judge-rows-spec : {M : Type 1} → statement M
 judge-rows-spec =

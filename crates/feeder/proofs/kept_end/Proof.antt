@@ -12,13 +12,13 @@ use Rattle.feeder.proofs.kept_end.Statement.{statement}
 use Rattle.feeder.proofs.kept_end.Tie as tie
 
 abbrev Inv-loop : tie.InvT-loop
-Inv-loop l at i₀ i = (at ≤ i) × (i ≤ length l) × (keep isSpace (part l at i) ≡ keep isSpace (drop at l))
+Inv-loop l i₀ i = (i ≤ length l) × (keep isSpace (part l 0 i) ≡ keep isSpace l)
 
 abbrev μ-loop : tie.MeasureT-loop
-μ-loop l at i₀ i = i - at
+μ-loop l i₀ i = i
 
 loop-holds : tie.Need-loop-holds Inv-loop μ-loop
-loop-holds c = (search needs, search needs, keep-all isSpace (c .before .args .l .now) (c .before .args .at))
+loop-holds c = (omega arith, keep-all isSpace (c .before .args .l .now) 0)
 
 sub-last : tie.Need-sub-last Inv-loop μ-loop
 sub-last c = search needs
@@ -36,8 +36,8 @@ loop-again : tie.Need-loop-again Inv-loop μ-loop
 loop-again c =
     let l = c .before .before .before .before in
     let a = l .before .before .args in
-    let h = keep-more isSpace (a .l .now) (a .at) (l .loop .i) (l .loop .i - 1) (omega arith) (omega arith) (omega arith) (sym (c .before .is-space .ensures) ∙ c .if1 .taken) in
-    (omega arith, omega arith, sym h ∙ l .loop .inv .2)
+    let h = keep-more isSpace (a .l .now) 0 (l .loop .i) (l .loop .i - 1) (omega arith) (omega arith) (omega arith) (sym (c .before .is-space .ensures) ∙ c .if1 .taken) in
+    (omega arith, sym h ∙ l .loop .inv .1)
 
 returns : tie.Need-returns Inv-loop μ-loop
 returns c =
@@ -45,14 +45,14 @@ returns c =
     let a = l .before .before .args in
     omega (
       arith,
-      keep-stop isSpace (a .l .now) (a .at) (l .loop .i) (l .loop .i - 1) (omega arith) (omega arith) (omega arith) (sym (c .before .is-space .ensures) ∙ c .if1 .left),
+      keep-stop isSpace (a .l .now) 0 (l .loop .i) (l .loop .i - 1) (omega arith) (omega arith) (omega arith) (sym (c .before .is-space .ensures) ∙ c .if1 .left),
     )
 
 returns-2 : tie.Need-returns-2 Inv-loop μ-loop
 returns-2 c =
     let l = c .before in
     let a = l .before .before .args in
-    omega (arith, keep-end isSpace (a .l .now) (a .at) (l .loop .i) (omega arith))
+    omega (arith, keep-end isSpace (a .l .now) 0 (l .loop .i) (omega arith))
 
 pub kept-end-spec : {M : Type 1} → statement M
 kept-end-spec =

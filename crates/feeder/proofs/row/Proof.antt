@@ -23,7 +23,7 @@ described-requires : tie.Need-described-requires
 described-requires c κs = search needs
 
 returns : tie.Need-returns
-returns c = rw (c .described .ensures, c .before .before .named .ensures, c .before .before .before .before .unnamed .ensures)
+returns c = rw (c .described .ensures, c .before .before .before .named .ensures, c .before .before .before .before .before .before .unnamed .ensures)
 
 pub row-spec : {M : Type 1} → statement M
 row-spec =

@@ -1,37 +1,38 @@
+-- `feeder::says` meets its contract: case by case.
+-- Assumes nothing.
+use Rattle.feeder.specs.CodeLaws.{named-none, named-some}
+use Rattle.indexer.specs.LineSums.{sumSays}
+use mathlib.Core.Path.{_≡_, refl, ap, sym, _∙_}
 use borrow.Author.Needs.{needs}
 use Rattle.feeder.proofs.says.Statement.{statement}
 use Rattle.feeder.proofs.says.Tie as tie
-use Rattle.feeder.proofs.says.Reads as reads
-use Rattle.feeder.proofs.says.Lts as lts
 use Rattle.feeder.proofs.is_blank.Reads as is-blank-reads
 
--- src/lib.rt:294:8
 is-blank-requires : tie.Need-is-blank-requires
 is-blank-requires c κs = search needs
 
--- src/lib.rt:295:9
 returns : tie.Need-returns
-returns c = ?
+unfolding sumSays
+returns c = rw (sym (c .before .is-blank .ensures) ∙ c .if1 .taken)
 
--- src/lib.rt:299:13
 returns-2 : tie.Need-returns-2
-returns-2 c = ?
+unfolding sumSays
+returns-2 c = rw (sym (c .before .before .before .before .is-blank .ensures) ∙ c .before .before .before .if1 .left, c .before .before .if2 .taken, c .if3 .taken)
 
--- src/lib.rt:306:13
 returns-3 : tie.Need-returns-3
-returns-3 c = ?
+unfolding sumSays
+returns-3 c = rw (sym (c .before .before .before .before .before .before .is-blank .ensures) ∙ c .before .before .before .before .before .if1 .left, c .before .before .before .before .if2 .taken) (named-none _ _ _ (c .before .before .if3 .left) (c .if4 .taken))
 
--- src/lib.rt:318:25
 sub-t10 : tie.Need-sub-t10
 sub-t10 c = search needs
 
--- src/lib.rt:314:9
 returns-4 : tie.Need-returns-4
-returns-4 c = ?
+unfolding sumSays
+returns-4 c = rw (sym (c .before .before .before .before .before .before .before .is-blank .ensures) ∙ c .before .before .before .before .before .before .if1 .left, c .before .before .before .before .before .if2 .taken) (named-some _ _ _ (c .before .before .before .if3 .left) (c .before .if4 .left))
 
--- src/lib.rt:291:1
 returns-5 : tie.Need-returns-5
-returns-5 c = ?
+unfolding sumSays
+returns-5 c = rw (sym (c .before .before .is-blank .ensures) ∙ c .before .if1 .left, c .if2 .left)
 
 pub says-spec : {M : Type 1} → statement M
 says-spec =

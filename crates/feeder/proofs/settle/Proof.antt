@@ -1,5 +1,6 @@
 -- `feeder::settle` meets its contract: case by case.
 -- Assumes nothing.
+use Rattle.table.specs.Numbers.{numbersIn}
 use mathlib.Core.Path.{_≡_, refl, ap, sym, _∙_}
 use native.Mathlib.Omega.{arith}
 use Rattle.table.specs.NumberLaws.{length-numbers}
@@ -25,7 +26,8 @@ enum-told : tie.Need-enum-told
 enum-told c = search needs
 
 add-t14 : tie.Need-add-t14
-add-t14 c = omega (arith, length-numbers (c .before .before .before .before .before .before .before .before .before .before .args .table .now), kept-inside _ _ (sym (c .before .before .before .before .store .ensures .stored .answer) ∙ c .enum-told .given .1))
+unfolding rowCount
+add-t14 c = omega (arith, length-numbers (c .before .before .before .before .before .before .before .before .before .before .args .table .now), kept-inside (numbersIn (c .before .before .before .before .before .before .before .before .before .before .args .table .now)) (c .before .before .before .before .before .before .before .before .before .before .args .rows) (sym (c .before .before .before .before .store .ensures .stored .answer) ∙ c .enum-told .given .1))
 
 enum-known-f : tie.Need-enum-known-f
 enum-known-f c = search needs
