@@ -263,6 +263,7 @@ module _ (rule : Rule) (f : Fed) (l before after : List ℕ) where
     rest = d .rest;
   }
 
+module _ (rule : Rule) (f : Fed) (l before : List ℕ) where
   pub absorbed-open : (held : Waiting) → f .held .whole ≡ false → held ≡ growBy (f .held) l → AbsorbDone rule f l before (record { phase = f .phase; rows = f .rows; held = held }) before
   absorbed-open held w hh = record { is = fed-same refl hh ∙ sym (absorb-open rule (fedIn f (numbersIn before)) l w); rest = refl }
 

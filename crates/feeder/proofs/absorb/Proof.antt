@@ -41,7 +41,7 @@ same-length : tie.Need-same-length
 same-length c = search needs
 
 returns : tie.Need-returns
-returns c = let g = c .before .before .before .before .before .before .before .before .before .before .before .before .before .pre in let a = c .before .before .before .before .before .before .before .before .before .before .before .before .before .args in absorbed-whole _ _ _ _ _ _ _ _ _ _ (omega (arith, part-length (a .p .now) (a .i) (a .e) (g .1), g .0, g .1)) (c .before .before .before .before .before .before .before .before .before .before .if1 .taken) (begins-part (a .p .now) (a .i) (a .e) (g .0) (g .1)) (c .before .before .before .before .before .before .before .before .judge .ensures) (c .before .before .before .before .before .settle .ensures) (c .before .before .no-line .ensures) (c .grown .ensures)
+returns c = let g = c .before .before .before .before .before .before .before .before .before .before .before .before .before .pre in let a = c .before .before .before .before .before .before .before .before .before .before .before .before .before .args in absorbed-whole _ _ _ _ _ _ _ _ _ _ (omega (arith, part-length (a .p .now) (a .i) (a .e) (g .1), g .0, g .1)) (c .before .before .before .before .before .before .before .before .before .if1 .taken) (begins-part (a .p .now) (a .i) (a .e) (g .0) (g .1)) (c .before .before .before .before .before .before .before .judge .ensures) (c .before .before .before .before .before .settle .ensures) (c .before .before .no-line .ensures) (c .grown .ensures)
 
 sub-grown-2 : tie.Need-sub-grown-2
 sub-grown-2 c = search needs
@@ -56,7 +56,7 @@ grown-requires-2 : tie.Need-grown-requires-2
 grown-requires-2 c κs = search needs
 
 returns-2 : tie.Need-returns-2
-returns-2 c = absorbed-open _ _ _ _ _ (c .before .before .before .if1 .left) (c .grown2 .ensures)
+returns-2 c = absorbed-open _ _ _ _ _ (c .before .before .if1 .left) (c .grown2 .ensures)
 
 pub absorb-spec : {M : Type 1} → statement M
 absorb-spec =
