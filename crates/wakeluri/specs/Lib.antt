@@ -5,3 +5,4 @@ pub mod Laws
 pub mod PlainAgainLaws
 pub mod PlainAgain
 pub mod Course
+pub mod Feeding
