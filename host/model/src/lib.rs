@@ -6,6 +6,7 @@
 mod checker;
 mod complete;
 mod course;
+mod fed;
 mod lines;
 mod primers;
 mod reads;
@@ -16,7 +17,7 @@ use checker::{check, program};
 use complete::fitted_record;
 use lines::{content, definition, first_line, from, run};
 use primers::{degeneracy, next_place};
-use questions::form::Value::{self, Bounds, Bytes, MaybeBytes, Number, Numbers, Output, Rows, Table};
+use questions::form::Value::{self, Bounds, Bytes, MaybeBytes, Number, Numbers, Output, Rows, Stepped, Steps, Table};
 use questions::form::{Answer, No, Speaker};
 use reads::{complemented, exact, raw, sequence};
 use rows::{file_rows, find, index_content, index_rows, is_plain, record, write_line};
@@ -75,6 +76,8 @@ impl Speaker for Model {
             }
             ("idx", [Bytes(file), Table(table)]) => file_rows(file, table, record).into(),
             ("fit", [Bytes(file), Table(table)]) => file_rows(file, table, fitted_record).into(),
+            ("fed", [Table(table), Steps(steps)]) => Ok(vec![Stepped(fed::fed(table, steps, false))]).into(),
+            ("ffd", [Table(table), Steps(steps)]) => Ok(vec![Stepped(fed::fed(table, steps, true))]).into(),
             ("ixl", [Bytes(line)]) => {
                 let read = index_content(content(line), 0, 1);
                 read.map(|row| vec![Numbers(row.to_vec()), Number(u64::from(is_plain(line)))]).into()

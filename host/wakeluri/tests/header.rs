@@ -55,6 +55,7 @@ fn in_header(text: &str) -> Vec<String> {
                 "uint8_t " => "*mut u8",
                 "size_t" => "usize",
                 "uint64_t" => "u64",
+                "struct wakeluri_feed" => "Feed",
                 other => panic!("a type that isn't known: {other}"),
             };
             format!("{name}: {kind}")
@@ -71,6 +72,7 @@ fn in_rust(name: &str, parameters: &[(&str, &str)], answer: &str) -> String {
         "maybe" => format!("has_{name}: u64, {name}: *const u8, {name}_length: usize"),
         "output" | "table" => format!("{name}: *mut u8, {name}_length: usize"),
         "number" => format!("{name}: u64"),
+        "state" => format!("{name}: Feed"),
         "bounds" => "has_start: u64, start: u64, has_end: u64, end: u64".to_string(),
         other => panic!("a kind that isn't known: {other}"),
     };
