@@ -13,3 +13,6 @@ pub mod WaitingLaws
 pub mod SmallLaws
 pub mod CodeLaws
 pub mod CallLaws
+pub mod Reached
+pub mod Split
+pub mod Whole
