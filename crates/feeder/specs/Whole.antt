@@ -1,53 +1,37 @@
--- The machine over the lines of a whole file, by either rule, gives what indexing the file gives. So any pieces and the end leave the table,
--- the count and the refusal of one call on all their bytes: `fed-whole`.
+-- The machine by the ported rule gives, over the lines of a whole file, what indexing the file gives. So any pieces and the end leave the
+-- table, the count and the refusal of one call on all their bytes: `fed-whole`.
 use Prim.Native.Nat.{ℕ, zero, suc, _+_, _-_, _≤_, _<_}
 use mathlib.Core.Path.{_≡_, refl, ap, sym, _∙_}
 use mathlib.Core.List.{List, [], _∷_, _++_, append-nil}
 use mathlib.Core.Bool.{Bool, true, false, cond, true≢false}
-use lib.ListN.{length, drop}
-use lib.Seq.{drop-append-seam}
+use lib.ListN.{length, length-append}
 use lib.Dec.{eqb, ltb}
-use borrow.Author.Tests.{eqb-true, eqb-false, eq-eqb, ne-eqb, ltb-true, ltb-false, le-leb, le-ltb}
+use borrow.Author.Tests.{lt-ltb, le-ltb}
 use native.Mathlib.Omega.{arith}
-use native.Mathlib.Nat.{add-zero, add-assoc}
+use native.Mathlib.Nat.{add-zero, zero-add}
 use Rattle.refusal.specs.Numbers.{numbersOf, overLimit}
 use Rattle.refusal.specs.declared.Numbers as refused
-use Rattle.refusal.specs.declared.Refusal.{Refusal}
-use Rattle.refusal.specs.declared.Refusal.the-variants.{NoBases, LineBases, LineWidth, TableFull, NoIndexFits}
+use Rattle.refusal.specs.declared.Refusal.the-variants.{NoBases, LineBases, LineWidth, TableFull}
 use Rattle.lines.specs.declared.Line.{Line}
-use Rattle.lines.specs.Lines.{lines, basesOf, begins, seqOf, seqAt, none, firstLine, tailOf, sumBases, sumWidths, basesAt, upFrom}
-use Rattle.lines.specs.Groups.{groups}
-use Rattle.lines.specs.GroupLaws.{afterSeq, groups-cut, lines-behind}
+use Rattle.lines.specs.Lines.{lines, seqOf, none}
 use Rattle.lines.specs.Feeding.{joined, judgeAll, FedSum, feedSum, feedSums, finishSum, sums-whole}
-use Rattle.definition.specs.declared.Definition as definition
 use Rattle.definition.specs.declared.Parsed.{Parsed}
 use Rattle.definition.specs.declared.Parsed.the-variants.{Named, Bad}
 use Rattle.definition.specs.Definition.{definitionSays, refusalAt}
 use Rattle.record.specs.declared.Record.{Record}
-use Rattle.record.specs.EvenLines.{length-upFrom}
 use Rattle.table.specs.declared.Stop.{Stop}
 use Rattle.table.specs.declared.Stop.the-variants as stop
 use Rattle.table.specs.Rows.{rowCount, withRow, withRows}
-use Rattle.table.specs.RowLaws.{rows-none, rows-onward, rowCount-rows, with-row}
-use Rattle.table.specs.Fill.{Found, nothing, withFirst, heldIn}
-use Rattle.table.specs.Laws.{held-nothing, held-none, held-first}
-use Rattle.indexer.specs.declared.Indexed.the-variants as indexed
-use Rattle.indexer.specs.declared.Step.{Step}
-use Rattle.indexer.specs.declared.Rest.{Rest}
-use Rattle.indexer.specs.declared.Rest.the-variants as rest
-use Rattle.indexer.specs.Rule.{Verdict, good, bad, SequenceRule, rowFor, judgedBy, sequenceBy, definedBy, stepped, groupsBy, fileBy, callBy}
-use Rattle.indexer.specs.Index.{lineOf, fitsLast, judge, ported, restOf, restSays, sequenceSays}
-use Rattle.indexer.specs.Laws.{rest-done, rest-bases, rest-width, rest-on, answerAs, judge-none, judge-some}
-use Rattle.indexer.specs.LineSums.{sumOf, sumSays}
-use Rattle.walking.specs.Places.{firstElsewhere}
-use Rattle.walking.specs.declared.Placed.{Placed}
-use Rattle.walking.specs.declared.Placed.the-variants.{There, Elsewhere}
+use Rattle.table.specs.RowLaws.{rows-none, rows-append, rowCount-rows, with-row}
+use Rattle.table.specs.Fill.{Found, nothing, heldIn}
+use Rattle.indexer.specs.Rule.{callBy}
+use Rattle.indexer.specs.Index.{lineOf, fitsLast, ported}
+use Rattle.indexer.specs.File.{fileAt}
+use Rattle.indexer.specs.ByLines as old
+use Rattle.indexer.specs.LineSums.{sumOf, sumSays, sums-law, stepSum}
 use Rattle.fitting.specs.declared.Numbers.{Numbers}
 use Rattle.fitting.specs.declared.Rule.{Rule}
 use Rattle.fitting.specs.declared.Rule.the-variants.{Strict, Complete}
-use Rattle.fitting.specs.Complete.{placeBy, placesSay, complete, numbersAt, numbersFor, fit}
-use Rattle.fitting.specs.Rules.{ruleOf, rowsBy, rowsIn}
-use Rattle.fitting.specs.LineByLine as byLine
 use Rattle.feeder.specs.declared.Waiting.{Waiting}
 use Rattle.feeder.specs.declared.Opened.{Opened}
 use Rattle.feeder.specs.declared.SoFar.{SoFar}
@@ -58,36 +42,87 @@ use Rattle.feeder.specs.declared.Out.{Out}
 use Rattle.feeder.specs.declared.Out.the-variants.{Keeps, Emits}
 use Rattle.feeder.specs.declared.Feeder.{Feeder}
 use Rattle.feeder.specs.Waiting.{unpack, noLine, waitingOf}
-use Rattle.feeder.specs.Machine.{rowOf, numbersOfLine, lineBy, closeAlone, openedAt, definitionOut, firstOut, furtherOut, strictOut, toldRow, passedOut, placedOut, rowsOut, basesOut, completeOut, lineOut, outOf, Filling, filling, applied, stepBy, machine}
-use Rattle.feeder.specs.Calls.{limit, begunBy, live, soundOf, With, with, closedBy, closedIn, endOf, refusalIn}
-use Rattle.feeder.specs.Reached.{step-halted}
-use Rattle.feeder.specs.Split.{stepLine, machine-law, start, first, stateAt, allPieces, pieces-same}
+use Rattle.feeder.specs.Machine.{rowOf, closeAlone, openedAt, definitionOut, firstOut, furtherOut, strictOut, lineOut, outOf, Filling, filling, applied, stepBy, machine}
+use Rattle.feeder.specs.Calls.{refusalIn}
+use Rattle.feeder.specs.Split.{stepLine, first}
 
--- ---- what is told at the end
+-- ---- the same machine, without a table
 
-pub record Told : Type 0 where
-  pub rows : ℕ
-  pub refusal : refused.Numbers
-  pub table : List ℕ
+-- what the indexer's machine awaits
+abbrev awaits : old.Phase → Phase
+awaits (old.wants-definition at) = Definition at
+awaits (old.wants-first d) = Lines (openedAt (d .at) (d .width) (d .said)) Blank (d .at + d .width)
+awaits (old.wants-line d x m z) = Lines (openedAt (d .at) (d .width) (d .said)) (Rows (record { position = d .at + d .width; bases = x .bases; width = x .width }) m) z
+awaits (old.halted stop.Ended) = Ended
+awaits (old.halted (stop.Refused f)) = Halted (numbersOf f)
 
-abbrev toldOf : Filling → Told
-toldOf st = record { rows = st .rows; refusal = refusalIn (st .phase); table = st .table }
+abbrev gives : old.Out → Out
+gives (old.keeps p) = Keeps (awaits p)
+gives (old.emits x z) = Emits x z
 
-unfoldable pub stopNumbers : Stop → refused.Numbers
-stopNumbers stop.Ended = record { refusal = 0; first = 0; second = 0 }
-stopNumbers (stop.Refused f) = numbersOf f
-
--- rows from row n of a table on, and why there are no more
-unfoldable pub foundTold : List ℕ → ℕ → Found → Told
-foundTold t n f = record { rows = n + length (f .rows); refusal = stopNumbers (f .stop); table = withRows t n (f .rows) }
-
-nothing-told : (t : List ℕ) (n : ℕ) (f : Refusal) → foundTold t n (nothing (stop.Refused f)) ≡ record { rows = n; refusal = numbersOf f; table = t }
-unfolding foundTold stopNumbers
-nothing-told t n f = rw (add-zero n, rows-none t n)
-
-first-told : (t : List ℕ) (n : ℕ) (x : Record) (f : Found) → n < rowCount t → foundTold (withRow t n x) (n + 1) f ≡ foundTold t n (withFirst x f)
-unfolding foundTold
-first-told t n x f h = rw (rows-onward t n x (f .rows) h, q)
+first-same : (d : old.Opened) (x : Line) (last : Bool) → firstOut (openedAt (d .at) (d .width) (d .said)) (d .at + d .width) x last ≡ gives (old.firstOut d x last)
+unfolding firstOut old.firstOut
+first-same d x last = go (eqb (x .bases) 0) last
   where
-    q : n + 1 + length (f .rows) ≡ n + suc (length (f .rows))
-    q = omega arith
+    go : (a b : Bool)
+        → cond a (Keeps (Halted (numbersOf (NoBases (d .at + d .width + x .width))))) (cond b (Emits (old.rowIn d x (x .bases)) (d .at + d .width + x .width)) (Keeps (awaits (old.wants-line d x (x .bases) (d .at + d .width + x .width)))))
+        ≡ gives (cond a (old.keeps (old.halted (stop.Refused (NoBases (d .at + d .width + x .width))))) (cond b (old.emits (old.rowIn d x (x .bases)) (d .at + d .width + x .width)) (old.keeps (old.wants-line d x (x .bases) (d .at + d .width + x .width)))))
+    go true b = refl
+    go false true = refl
+    go false false = refl
+
+further-same : (d : old.Opened) (f : Line) (m z : ℕ) (x : Line) (last : Bool)
+    → furtherOut (openedAt (d .at) (d .width) (d .said)) (record { position = d .at + d .width; bases = f .bases; width = f .width }) m z x last ≡ gives (old.lineOut d f m z x last)
+unfolding furtherOut old.lineOut
+further-same d f m z x last = go (fitsLast last x f) (eqb (x .bases) (f .bases)) (eqb (x .width) (f .width))
+  where
+    go : (a b c : Bool)
+        → cond a (Emits (old.rowIn d f (m + x .bases)) (z + x .width))
+        (cond b (cond c (Keeps (awaits (old.wants-line d f (m + x .bases) (z + x .width)))) (Keeps (Halted (numbersOf (LineWidth (x .width) (f .width)))))) (Keeps (Halted (numbersOf (LineBases (x .bases) (f .bases))))))
+        ≡ gives (cond a (old.emits (old.rowIn d f (m + x .bases)) (z + x .width))
+        (cond b (cond c (old.keeps (old.wants-line d f (m + x .bases) (z + x .width))) (old.keeps (old.halted (stop.Refused (LineWidth (x .width) (f .width)))))) (old.keeps (old.halted (stop.Refused (LineBases (x .bases) (f .bases)))))))
+    go true b c = refl
+    go false true true = refl
+    go false true false = refl
+    go false false c = refl
+
+definition-same : (at w : ℕ) (last : Bool) (p : Parsed) → definitionOut Strict at w last p ≡ gives (old.definitionOut at w last p)
+unfolding definitionOut closeAlone old.definitionOut
+definition-same at w true (Named d) = refl
+definition-same at w false (Named d) = refl
+definition-same at w last (Bad f) = refl
+
+-- a file is never over before its end
+abbrev Going : old.Phase → Type 0
+Going (old.halted stop.Ended) = ⊥
+Going (old.halted (stop.Refused f)) = Unit {0}
+Going (old.wants-definition at) = Unit {0}
+Going (old.wants-first d) = Unit {0}
+Going (old.wants-line d x m z) = Unit {0}
+
+out-same : (p : old.Phase) (t : Waiting) (last : Bool) → Going p
+    → outOf Strict (awaits p) t last ≡ gives (old.outOf p (record { width = t .width; bases = t .bases }) (sumSays (unpack t)) last)
+unfolding outOf lineOut strictOut
+out-same (old.wants-definition at) t last g = definition-same at (t .width) last (sumSays (unpack t))
+out-same (old.wants-first d) t last g = first-same d (record { width = t .width; bases = t .bases }) last
+out-same (old.wants-line d x m z) t last g = further-same d x m z (record { width = t .width; bases = t .bases }) last
+out-same (old.halted stop.Ended) t last g = absurd g
+out-same (old.halted (stop.Refused f)) t last g = refl
+
+-- ---- with the table
+
+module _ (t : List ℕ) where
+  abbrev filled : old.State → Filling
+  filled st = filling (awaits (st .phase)) (length (st .rows)) (withRows t 0 (st .rows))
+
+  -- a row more
+  row-more : (rs : List Record) (x : Record) → length rs < rowCount t → withRow (withRows t 0 rs) (length rs) x ≡ withRows t 0 (rs ++ (x ∷ []))
+  row-more rs x h = with-row (withRows t 0 rs) (length rs) x (rw (rowCount-rows t 0 rs) h) ∙ sym (rows-append t 0 rs (x ∷ []) ∙ ap (λ (k : ℕ). withRows (withRows t 0 rs) k (x ∷ [])) (zero-add (length rs)))
+
+  applied-same : (f : ℕ) (rs : List Record) (o : old.Out) → f + length rs ≡ rowCount t → applied (length rs) (withRows t 0 rs) (gives o) ≡ filled (old.applied (rowCount t) f rs o)
+  unfolding applied
+  applied-same f rs (old.keeps p) h = refl
+  applied-same zero rs (old.emits x z) h = rw (rowCount-rows t 0 rs, le-ltb (length rs) (rowCount t) (omega arith) )
+  applied-same (suc k) rs (old.emits x z) h =
+      rw (rowCount-rows t 0 rs, lt-ltb (length rs) (rowCount t) (omega arith), row-more rs x (omega arith))
+      (ap (λ (n : ℕ). filling (Definition z) n (withRows t 0 (rs ++ (x ∷ [])))) (sym (length-append rs (x ∷ []))))
