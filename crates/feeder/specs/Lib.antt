@@ -16,3 +16,5 @@ pub mod CallLaws
 pub mod Reached
 pub mod Split
 pub mod Whole
+pub mod Fitted
+pub mod Ends

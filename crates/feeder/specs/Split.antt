@@ -76,7 +76,7 @@ module _ (rule : Rule) where
     abbrev pub stateAt : List ℕ → With
     stateAt a = keptIn rule (length a) (feedSum (machine rule) start a)
 
-    fits-start : FitsWithin 0 (first .phase) noLine
+    pub fits-start : FitsWithin 0 (first .phase) noLine
     fits-start = record { most = 0; phase = unfold SmallPhase in omega arith; held = none-small; both = omega arith }
 
     -- one piece more, by where the bytes before it leave the machine

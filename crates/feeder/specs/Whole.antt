@@ -113,6 +113,15 @@ out-same (old.wants-line d x m z) t last g = further-same d x m z (record { widt
 out-same (old.halted stop.Ended) t last g = absurd g
 out-same (old.halted (stop.Refused f)) t last g = refl
 
+-- what is not kept of a sequence line is not asked for
+pub slim-says : (s : Sum) → sumSays (unpack (slim s)) ≡ sumSays s
+unfolding sumSays
+slim-says s = go (s .starts) refl
+  where
+    go : (b : Bool) → s .starts ≡ b → sumSays (unpack (slim s)) ≡ sumSays s
+    go true e = rw e
+    go false e = rw e
+
 -- ---- with the table
 
 module _ (t : List ℕ) where
@@ -132,15 +141,6 @@ module _ (t : List ℕ) where
       (ap (λ (n : ℕ). filling (Definition z) n (withRows t 0 (rs ++ (x ∷ [])))) (sym (length-append rs (x ∷ []))))
 
   -- ---- line by line
-
-  -- what is not kept of a sequence line is not asked for
-  slim-says : (s : Sum) → sumSays (unpack (slim s)) ≡ sumSays s
-  unfolding sumSays
-  slim-says s = go (s .starts) refl
-    where
-      go : (b : Bool) → s .starts ≡ b → sumSays (unpack (slim s)) ≡ sumSays s
-      go true e = rw e
-      go false e = rw e
 
   going-out : (p : old.Phase) (x : Line) (q : Parsed) (last : Bool) → Going p → GoingOut (old.outOf p x q last)
   unfolding old.definitionOut old.firstOut old.lineOut
