@@ -54,15 +54,25 @@ module _ (m : ℕ) (h : m ≤ limit) where
   small-opened : (d : Opened) → SmallOpened m d → soundOpened d ≡ true
   unfolding soundOpened
   small-opened d s =
-      rw (le-leb (d .at) limit (omega (arith, s .at)), le-leb (d .end) limit (omega (arith, s .end)),
-      le-leb (d .said .name .start) limit (omega (arith, s .name-start)), le-leb (d .said .name .length) limit (omega (arith, s .name-length)),
-      le-leb (d .said .description .start) limit (omega (arith, s .text-start)), le-leb (d .said .description .length) limit (omega (arith, s .text-length)))
+      rw (
+        le-leb (d .at) limit (omega (arith, s .at)),
+        le-leb (d .end) limit (omega (arith, s .end)),
+        le-leb (d .said .name .start) limit (omega (arith, s .name-start)),
+        le-leb (d .said .name .length) limit (omega (arith, s .name-length)),
+        le-leb (d .said .description .start) limit (omega (arith, s .text-start)),
+        le-leb (d .said .description .length) limit (omega (arith, s .text-length)),
+      )
 
   small-numbers : (n : Numbers) → SmallNumbers m n → soundNumbers n ≡ true
   unfolding soundNumbers
   small-numbers n s =
-      rw (le-leb (n .position) limit (omega (arith, s .position)), le-leb (n .bases) limit (omega (arith, s .bases)), le-leb (n .width) limit (omega (arith, s .width)),
-      lt-ltb 0 (n .bases) (s .some), lt-ltb (n .bases) (n .width) (s .apart))
+      rw (
+        le-leb (n .position) limit (omega (arith, s .position)),
+        le-leb (n .bases) limit (omega (arith, s .bases)),
+        le-leb (n .width) limit (omega (arith, s .width)),
+        lt-ltb 0 (n .bases) (s .some),
+        lt-ltb (n .bases) (n .width) (s .apart),
+      )
 
   small-so-far : (z : ℕ) (t : SoFar) → SmallSoFar m z t → soundSoFar z t ≡ true
   unfolding soundSoFar

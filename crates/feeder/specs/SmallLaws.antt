@@ -115,10 +115,11 @@ module _ (m : ℕ) (d : Opened) (z : ℕ) (x : Line) (last : Bool) (o : SmallOpe
           → SmallOut (m + x .width) (cond t (Keeps (Halted f)) (cond u (Emits y (z + x .width)) (Keeps (Lines d (Rows (record { position = z; bases = x .bases; width = x .width }) (x .bases)) (z + x .width)))))
       go true e u f y = tt
       go false e true f y = omega arith
-      go false e false f y =
-          (opened-weak m (m + x .width) (omega arith) d o,
-          (record { position = omega arith; bases = omega arith; width = omega arith; some = omega (arith, eqb-false (x .bases) 0 e); apart = b }, omega arith),
-          omega arith)
+      go false e false f y = (
+        opened-weak m (m + x .width) (omega arith) d o,
+        (record { position = omega arith; bases = omega arith; width = omega arith; some = omega (arith, eqb-false (x .bases) 0 e); apart = b }, omega arith),
+        omega arith,
+      )
 
   further-small : (n : Numbers) (k : ℕ) → SmallNumbers m n → k ≤ m → SmallOut (m + x .width) (furtherOut d n k z x last)
   unfolding furtherOut SmallPhase
@@ -350,14 +351,16 @@ implied false b e h = absurd (true≢false (sym h))
 waiting-sound : (t : Waiting) → soundWaiting t ≡ true → SmallWaiting t × (t .width ≤ limit)
 unfolding soundWaiting
 waiting-sound t e =
-    let x = six (leb (t .bases) (t .width)) (leb (t .name) (t .width)) (leb (t .text) (t .width)) (leb (t .kept) (t .width)) (leb (t .width) limit) (not (t .whole) || ltb (t .bases) (t .width)) e in
-    (record {
-      bases = leb-true _ _ (x .0);
-      ended = λ w. ltb-true _ _ (implied (t .whole) (ltb (t .bases) (t .width)) (x .5) w);
-      name = leb-true _ _ (x .1);
-      text = leb-true _ _ (x .2);
-      kept = leb-true _ _ (x .3);
-    }, leb-true _ _ (x .4))
+    let x = six (leb (t .bases) (t .width)) (leb (t .name) (t .width)) (leb (t .text) (t .width)) (leb (t .kept) (t .width)) (leb (t .width) limit) (not (t .whole) || ltb (t .bases) (t .width)) e in (
+      record {
+        bases = leb-true _ _ (x .0);
+        ended = λ w. ltb-true _ _ (implied (t .whole) (ltb (t .bases) (t .width)) (x .5) w);
+        name = leb-true _ _ (x .1);
+        text = leb-true _ _ (x .2);
+        kept = leb-true _ _ (x .3);
+      },
+      leb-true _ _ (x .4),
+    )
 
 opened-sound : (d : Opened) → soundOpened d ≡ true → SmallOpened limit d
 unfolding soundOpened

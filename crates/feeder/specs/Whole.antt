@@ -135,7 +135,7 @@ module _ (t : List ℕ) where
   applied-same : (f : ℕ) (rs : List Record) (o : old.Out) → f + length rs ≡ rowCount t → applied (length rs) (withRows t 0 rs) (gives o) ≡ filled (old.applied (rowCount t) f rs o)
   unfolding applied
   applied-same f rs (old.keeps p) h = refl
-  applied-same zero rs (old.emits x z) h = rw (rowCount-rows t 0 rs, le-ltb (length rs) (rowCount t) (omega arith) )
+  applied-same zero rs (old.emits x z) h = rw (rowCount-rows t 0 rs, le-ltb (length rs) (rowCount t) (omega arith))
   applied-same (suc k) rs (old.emits x z) h =
       rw (rowCount-rows t 0 rs, lt-ltb (length rs) (rowCount t) (omega arith), row-more rs x (omega arith))
       (ap (λ (n : ℕ). filling (Definition z) n (withRows t 0 (rs ++ (x ∷ [])))) (sym (length-append rs (x ∷ []))))

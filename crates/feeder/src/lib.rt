@@ -450,11 +450,7 @@ fn judge_further(d: Opened, n: Numbers, count: usize, at: usize, x: Line, last: 
             expected: n.width as u64,
         });
     }
-    Out::Keeps(Phase::Lines(
-        d,
-        SoFar::Rows(n, count + x.bases),
-        at + x.width,
-    ))
+    Out::Keeps(Phase::Lines(d, SoFar::Rows(n, count + x.bases), at + x.width))
 }
 
 // The ported rule.
