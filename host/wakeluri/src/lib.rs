@@ -36,6 +36,7 @@ mod bounds;
 mod course;
 #[allow(unsafe_code)]
 pub mod entry;
+mod feeder;
 mod list;
 mod names;
 mod primer;
@@ -47,6 +48,7 @@ mod writer;
 
 pub use bounds::Bounds;
 pub use course::{Exercise, Score, read_exercise, score_typed, write_exercise};
+pub use feeder::{Fed, Feeder};
 pub use names::Names;
 pub use primer::{Places, degeneracy, find_primer, find_primer_from, primer_places};
 pub use refusal::{Call, Refusal};
