@@ -61,6 +61,16 @@ struct wakeluri_exercise {
     uint64_t name_start, name_length, start, end, edition;
 };
 
+/* A file on its way: the refusal that stands, and the rows that are written. The other numbers are what the next call goes on from: hand
+ * them back as they came. Any numbers are taken; a state that no call leaves is refused with 1. */
+struct wakeluri_feed {
+    uint64_t refusal, first, second;
+    uint64_t rows, complete, total, stage, next;
+    uint64_t at, end, name_start, name_length, description_start, description_length;
+    uint64_t lines, position, line_bases, line_width, bases;
+    uint64_t held_width, held_bases, held_whole, held_starts, held_name, held_text, held_kept;
+};
+
 /* The places of a key that are right, wrong and missing, the typed bytes past it, and the score in tenths of a percent of what was asked. */
 struct wakeluri_score {
     uint64_t refusal, first, second;
@@ -101,6 +111,18 @@ struct wakeluri_answer wakeluri_index_file(const uint8_t *file, size_t file_leng
  * the other call gives a record's row, this one gives the same. Refuses 1, then record by record 2 to 4, 42 and 8. 42 tells the offset
  * and the base position of the first base that the record's numbers don't lead to: no index fits this file. */
 struct wakeluri_answer wakeluri_index_complete(const uint8_t *file, size_t file_length, uint8_t *table, size_t table_length);
+
+/* The start of a file that is indexed while it arrives: by the rule of wakeluri_index_file for 0, else by that of wakeluri_index_complete. */
+struct wakeluri_feed wakeluri_feed_start(uint64_t complete);
+
+/* The next bytes of the file, split anywhere; none change nothing. Lend one table to all calls: rows, and the refusal, are then those of one
+ * call on the whole file, and names and descriptions are spans of it. A line is judged, and a row written, once its LF and the next byte have
+ * come. A refusal stays: each later call only repeats it. Refuses 26 for bytes behind the end, 1 for a piece with which the file is too long,
+ * before any of it is read, and as indexing the file does. */
+struct wakeluri_feed wakeluri_feed_piece(struct wakeluri_feed feed, const uint8_t *piece, size_t piece_length, uint8_t *table, size_t table_length);
+
+/* The end of the file. Refuses 26 behind another good end, and as indexing the file does. */
+struct wakeluri_feed wakeluri_feed_end(struct wakeluri_feed feed, uint8_t *table, size_t table_length);
 
 /* What an index line says, given with its end; its name starts at 0. Refuses 1, 9 to 12. */
 struct wakeluri_row wakeluri_index_line(const uint8_t *line, size_t line_length);

@@ -7,3 +7,4 @@ pub mod Laws
 pub mod PlainAgainLaws
 pub mod PlainAgain
 pub mod Course
+pub mod Feeding

@@ -98,7 +98,7 @@ fn no_record() -> Record
 }
 
 // 1 for yes, 0 for no.
-fn flag(b: bool) -> u64
+pub(crate) fn flag(b: bool) -> u64
     ensures { λ r. ⌜ r ≡ flagOf b ⌝ }
 {
     if b { 1 } else { 0 }

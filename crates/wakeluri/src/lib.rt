@@ -4,6 +4,7 @@
 pub mod answer;
 pub mod bases;
 pub mod course;
+pub mod feeding;
 pub mod files;
 pub mod primers;
 pub mod rows;

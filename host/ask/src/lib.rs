@@ -1,7 +1,7 @@
 //! The proved library as one who answers questions: each question is one call of an entry point, told as it is.
 
 use questions::form::Value::{
-    self, Bounds, Bytes, MaybeBytes, MaybeNumber, Number, Numbers, Output, Regions, Rows, Table,
+    self, Bounds, Bytes, MaybeBytes, MaybeNumber, Number, Numbers, Output, Regions, Rows, Stepped, Steps, Table,
 };
 use questions::form::{self, Answer, Speaker, Tell};
 use questions::row::{OF_A_LINE, WORDS};
@@ -50,13 +50,34 @@ fn region(row: u64, (start, end): form::Bounds) -> [u64; 5] {
 }
 
 /// Lends a table to a call, and takes it back as it was left.
-fn filled(table: &mut [u64], call: impl FnOnce(&mut [u8]) -> entry::Answer) -> Answer {
+fn lent<A>(table: &mut [u64], call: impl FnOnce(&mut [u8]) -> A) -> A {
     let mut lent = bytes(table);
     let answer = call(&mut lent);
     for (number, bytes) in table.iter_mut().zip(lent.chunks_exact(8)) {
         *number = bytes.iter().rev().fold(0, |number, byte| number << 8 | u64::from(*byte));
     }
-    counted(answer)
+    answer
+}
+
+/// A call that fills a table.
+fn filled(table: &mut [u64], call: impl FnOnce(&mut [u8]) -> entry::Answer) -> Answer {
+    counted(lent(table, call))
+}
+
+/// A file that arrives in steps, by the original's rule for 0, else by the complete one: what each step tells.
+fn fed(table: &mut [u64], steps: &[Option<Vec<u8>>], complete: u64) -> Answer {
+    let steps = lent(table, |table| {
+        let mut feed = entry::feed_start(complete);
+        let step = |step: &Option<Vec<u8>>| {
+            feed = match step {
+                Some(piece) => entry::feed_piece(feed, piece, table),
+                None => entry::feed_end(feed, table),
+            };
+            [feed.refusal, feed.first, feed.second, feed.rows]
+        };
+        steps.iter().map(step).collect()
+    });
+    told(None, vec![Stepped(steps)])
 }
 
 impl Speaker for Library {
@@ -92,6 +113,8 @@ impl Speaker for Library {
             }
             ("idx", [Bytes(file), Table(table)]) => filled(table, |table| entry::index_file(file, table)),
             ("fit", [Bytes(file), Table(table)]) => filled(table, |table| entry::index_complete(file, table)),
+            ("fed", [Table(table), Steps(steps)]) => fed(table, steps, 0),
+            ("ffd", [Table(table), Steps(steps)]) => fed(table, steps, 1),
             ("ixl", [Bytes(line)]) => {
                 let line = entry::index_line(line);
                 told(line.no(), row(line, OF_A_LINE, Some(line.plain)))

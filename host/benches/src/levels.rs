@@ -4,6 +4,7 @@ use crate::files::{Lines, Numbers, one_line, room};
 use crate::measure::{Work, in_turns};
 use crate::{ALL_LETTERS, MEGABYTE, Plan, ours};
 use std::hint::black_box;
+use wakeluri::Edition;
 use wakeluri::entry::ROW_BYTES;
 
 /// A work, and its seconds at each level, in the order of [`levels`].
@@ -85,8 +86,8 @@ pub fn run(plan: &Plan) -> Vec<Levelled> {
     told.push(timed(plan, "a primer that is not found", bases.len(), || {
         u64::from(wakeluri::find_primer(b"NNGGATCCNNGGATCCNNGGATCC", black_box(&bases)).expect("a primer").is_some())
     }));
-    for edition in [1, 2] {
-        told.push(timed(plan, &format!("scoring, edition {edition}"), bases.len(), || {
+    for edition in [Edition::First, Edition::Second] {
+        told.push(timed(plan, &format!("scoring, edition {}", edition.number()), bases.len(), || {
             wakeluri::score_typed(black_box(&bases), black_box(&bases), edition).expect("an edition").right
         }));
     }

@@ -6,6 +6,7 @@
 mod checker;
 mod complete;
 mod course;
+mod fed;
 mod lines;
 mod primers;
 mod reads;
@@ -18,7 +19,7 @@ use complete::fitted_record;
 use lines::{content, definition, first_line, from, run};
 use primers::{degeneracy, next_place};
 use questions::form::Value::{
-    self, Bounds, Bytes, MaybeBytes, MaybeNumber, Number, Numbers, Output, Regions, Rows, Table,
+    self, Bounds, Bytes, MaybeBytes, MaybeNumber, Number, Numbers, Output, Regions, Rows, Stepped, Steps, Table,
 };
 use questions::form::{Answer, No, Speaker};
 use reads::{complemented, exact, raw, sequence, sheet};
@@ -79,6 +80,8 @@ impl Speaker for Model {
             }
             ("idx", [Bytes(file), Table(table)]) => file_rows(file, table, record).into(),
             ("fit", [Bytes(file), Table(table)]) => file_rows(file, table, fitted_record).into(),
+            ("fed", [Table(table), Steps(steps)]) => Ok(vec![Stepped(fed::fed(table, steps, false))]).into(),
+            ("ffd", [Table(table), Steps(steps)]) => Ok(vec![Stepped(fed::fed(table, steps, true))]).into(),
             ("ixl", [Bytes(line)]) => {
                 let read = index_content(content(line), 0, 1);
                 read.map(|row| vec![Numbers(row.to_vec()), Number(u64::from(is_plain(line)))]).into()

@@ -21,6 +21,11 @@ fn every_refusal_of_every_family_is_reached() {
         let line = answered(&Model, &question).expect("a question");
         let (question, answer) = line.split_once(" => ").expect("an answer");
         let family = question.split(' ').next().expect("a family").to_string();
+        // each step of a file that is fed tells its refusal
+        for step in answer.split(' ').filter(|word| word.contains(':')) {
+            let number = step.split(':').next().expect("a number").parse().expect("a number");
+            reached.insert((family.clone(), number));
+        }
         let mut words = answer.split(' ');
         let number = match words.next() {
             Some("no") => words.next().expect("a number").parse().expect("a number"),

@@ -4,7 +4,7 @@
 //! too. To add a family, add its line and its examples here, an arm in `ask` and in the model, and how its questions are made in
 //! [`generate`](crate::generate).
 
-use Kind::{Bounds, Bytes, MaybeBytes, MaybeNumber, Number, Numbers, Output, Regions, Rows, Table};
+use Kind::{Bounds, Bytes, MaybeBytes, MaybeNumber, Number, Numbers, Output, Regions, Rows, Stepped, Steps, Table};
 use Original::{Lacks, Memory, Refusals};
 use Shape::{Always, Bare, Found, IfOk};
 
@@ -101,6 +101,9 @@ pub const FAMILIES: &[Family] = &[
     asks("rec", &[Bytes, Number], Found(&[Numbers, Number]), &[2, 3, 4, 5, 6, 7], Refusals),
     asks("idx", &[Bytes, Table], Always(&[Number]), &[2, 3, 4, 5, 6, 7, 8], Memory),
     asks("fit", &[Bytes, Table], Always(&[Number]), &[2, 3, 4, 8, 42], Lacks),
+    // the same while the file arrives: what each step tells
+    asks("fed", &[Table, Steps], Bare(&[Stepped]), &[2, 3, 4, 5, 6, 7, 8, 26], Lacks),
+    asks("ffd", &[Table, Steps], Bare(&[Stepped]), &[2, 3, 4, 8, 26, 42], Lacks),
     // an index text: a row and whether the line is plain; a row; rows; the bytes of a written line
     asks("ixl", &[Bytes], IfOk(&[Numbers, Number]), &[9, 10, 11, 12], Lacks),
     asks("ixc", &[Bytes], IfOk(&[Numbers]), &[9, 10, 11, 12], Refusals),
@@ -164,6 +167,11 @@ fit x3e730a414347540a0a0a t7,7,7,7,7,7,7,7 => ok 1 t1,1,4,3,4,5,0,0
 fit x3e730a0a410a0a430a3e740a t700,701,702,703,704,705,706,707,708,709,710,711,712,713,714,715,716 => ok 2 t1,1,2,4,1,3,0,0,10,1,0,12,1,2,0,0,716
 fit x3e730a0a3e740a410a41410a t7,7,7,7,7,7,7,7 => no 42 10 3 1 t1,1,0,3,1,2,0,0
 fit x3e730a t => no 8 0 0 0 t
+fed t7,7,7,7,7,7,7,7 f3e730a41,f,f0a,f3e,e => 0:0:0:0 0:0:0:0 0:0:0:0 0:0:0:1 4:6:0:1 t1,1,1,3,1,2,0,0
+fed t f3e730a,f3e,e,f => 0:0:0:0 5:3:0:0 5:3:0:0 5:3:0:0 t
+fed t e,f,f3e,e => 0:0:0:0 0:0:0:0 26:0:0:0 26:0:0:0 t
+ffd t7,7,7,7,7,7,7,7 f3e73,f0a0a,f3e => 0:0:0:0 0:0:0:0 0:0:0:1 t1,1,0,3,1,2,0,0
+ffd t7,7,7,7,7,7,7,7 f3e730a410a41410a,f41,e => 0:0:0:0 42:6:3:0 42:6:3:0 t7,7,7,7,7,7,7,7
 ixl x7309340933093409350a => ok t0,1,4,3,4,5 1
 ixl x730934093309340935 => ok t0,1,4,3,4,5 0
 ixl x73093409330930 => no 12 1 4

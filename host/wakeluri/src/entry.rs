@@ -60,6 +60,7 @@ macro_rules! lent {
     (table) => { &mut [u8] };
     (numbers) => { &mut [u64] };
     (number) => { u64 };
+    (state) => { Feed };
     (bounds) => { Bounds };
 }
 
@@ -97,6 +98,9 @@ macro_rules! call {
     };
     ($name:ident $answer:ident [$($type:ty,)*] [$($value:expr,)*] $number:ident number $($rest:ident)*) => {
         call!($name $answer [$($type,)* u64,] [$($value,)* $number,] $($rest)*)
+    };
+    ($name:ident $answer:ident [$($type:ty,)*] [$($value:expr,)*] $state:ident state $($rest:ident)*) => {
+        call!($name $answer [$($type,)* Feed,] [$($value,)* $state,] $($rest)*)
     };
     ($name:ident $answer:ident [$($type:ty,)*] [$($value:expr,)*] $bounds:ident bounds $($rest:ident)*) => {
         call!(

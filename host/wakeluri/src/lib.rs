@@ -36,6 +36,7 @@ mod bounds;
 mod course;
 #[allow(unsafe_code)]
 pub mod entry;
+mod feeder;
 #[allow(unsafe_code)]
 mod level;
 mod list;
@@ -51,6 +52,7 @@ mod writer;
 
 pub use bounds::Bounds;
 pub use course::{Edition, Exercise, Score, read_exercise, score_typed, write_exercise};
+pub use feeder::{Fed, Feeder};
 pub use level::{LEVELS, use_level};
 pub use names::Names;
 pub use primer::{Places, degeneracy, find_primer, find_primer_from, primer_places};

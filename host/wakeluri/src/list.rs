@@ -13,6 +13,7 @@
 /// | table | `&mut [u8]` | the same: rows are put in it |
 /// | numbers | `&mut [u64]` | `uint64_t *p, size_t p_length` |
 /// | number | `u64` | `uint64_t p` |
+/// | state | `Feed` | `struct wakeluri_feed p`: what an earlier call left |
 /// | bounds | `Bounds` | `uint64_t has_start, uint64_t start, uint64_t has_end, uint64_t end` |
 #[doc(hidden)]
 #[macro_export]
@@ -47,6 +48,16 @@ macro_rules! entry_points {
             /// The same by the complete rule, which takes every file that any index leads through. Refuses 1, then record by
             /// record 2 to 4, 42, 8.
             fn index_complete(file: bytes, table: table) -> Answer;
+
+            /// The start of a file that is indexed while it arrives: by the original's rule for 0, else by the complete one.
+            fn feed_start(complete: number) -> Feed;
+
+            /// The next bytes of the file, which may be none. A line is judged, and a row written, once its LF and the next byte have
+            /// come. Tells the refusal that stands and the rows so far. Refuses 26, 1, and as indexing the file does.
+            fn feed_piece(feed: state, piece: bytes, table: table) -> Feed;
+
+            /// The end of the file. Refuses 26, and as indexing the file does.
+            fn feed_end(feed: state, table: table) -> Feed;
 
             /// What an index line says, given with its end; its name starts at 0. Refuses 1, 9 to 12.
             fn index_line(line: bytes) -> Row;
@@ -158,6 +169,15 @@ macro_rules! answers {
 
             /// An exercise: where its name lies in its bytes, its first and last base, and its edition.
             struct Exercise { name_start, name_length, start, end, edition }
+
+            /// A file on its way: the refusal that stands, and the rows that are written. The other numbers are what the next call goes
+            /// on from: they go back as they came.
+            struct Feed {
+                rows, complete, total, stage, next,
+                at, end, name_start, name_length, description_start, description_length,
+                lines, position, line_bases, line_width, bases,
+                held_width, held_bases, held_whole, held_starts, held_name, held_text, held_kept
+            }
 
             /// The places of a key that are right, wrong and missing, the typed bytes past it, and the score in tenths of a percent.
             struct Score { right, wrong, missing, surplus, score }

@@ -136,6 +136,18 @@ static void ordinary_calls(void) {
     MUST(a.refusal == 0 && a.count == 30 && out[3] == 's' && out[29] == 1);
     struct wakeluri_exercise x = wakeluri_read_exercise(out, 30);
     MUST(x.refusal == 0 && x.name_start == 3 && x.name_length == 1 && x.start == 1 && x.end == 100 && x.edition == 1);
+    /* a file in two pieces, with its end: the name's place counts from the start of the file */
+    static uint8_t fed_rows[2 * 64];
+    struct wakeluri_feed feed = wakeluri_feed_start(1);
+    feed = wakeluri_feed_piece(feed, BYTES(">s\nAC\r"), fed_rows, sizeof fed_rows);
+    MUST(feed.refusal == 0 && feed.rows == 0);
+    feed = wakeluri_feed_piece(feed, BYTES("\nA\n>t"), fed_rows, sizeof fed_rows);
+    MUST(feed.refusal == 0 && feed.rows == 1);
+    feed = wakeluri_feed_end(feed, fed_rows, sizeof fed_rows);
+    MUST(feed.refusal == 0 && feed.rows == 2 && fed_rows[0] == 1 && fed_rows[64] == 10);
+    feed = wakeluri_feed_end(feed, fed_rows, sizeof fed_rows);
+    MUST(feed.refusal == 26 && feed.rows == 2);
+
     struct wakeluri_score mark = wakeluri_score_typed(BYTES("ACGT"), BYTES("acT"), 1);
     MUST(mark.refusal == 0 && mark.right == 2 && mark.wrong == 1 && mark.missing == 1 && mark.surplus == 0 && mark.score == 500);
     /* a hundred asked, fifty typed, 49 of them right; and where only fifty are left there is no score */

@@ -56,6 +56,7 @@ fn in_header(text: &str) -> Vec<String> {
                 "size_t" => "usize",
                 "uint64_t " => "*mut u64",
                 "uint64_t" => "u64",
+                "struct wakeluri_feed" => "Feed",
                 other => panic!("a type that isn't known: {other}"),
             };
             format!("{name}: {kind}")
@@ -73,6 +74,7 @@ fn in_rust(name: &str, parameters: &[(&str, &str)], answer: &str) -> String {
         "output" | "table" => format!("{name}: *mut u8, {name}_length: usize"),
         "numbers" => format!("{name}: *mut u64, {name}_length: usize"),
         "number" => format!("{name}: u64"),
+        "state" => format!("{name}: Feed"),
         "bounds" => "has_start: u64, start: u64, has_end: u64, end: u64".to_string(),
         other => panic!("a kind that isn't known: {other}"),
     };

@@ -116,7 +116,7 @@ impl Hostile {
         let chance = &mut self.chance;
         match parameter {
             "line" | "content" if chance.once_in(2) => index(chance),
-            "file" | "fasta" | "names" | "line" | "content" => fasta(chance),
+            "file" | "fasta" | "piece" | "names" | "line" | "content" => fasta(chance),
             "index" => index(chance),
             "bases" | "key" | "typed" => bytes(chance, b"ACGTN"),
             "exercise" if chance.once_in(3) => bytes(chance, b"\x01\x00\x01\x02\x00\x08\x03\x04"),
@@ -146,6 +146,43 @@ impl Hostile {
             _ => number(&mut self.chance),
         }
     }
+}
+
+/// So many rows as nobody knows.
+const ANY: usize = usize::MAX;
+
+/// A state as no call need have left it: mostly small numbers, some of them hostile.
+fn state(chance: &mut Chance) -> entry::Feed {
+    let mut feed = entry::feed_start(chance.below(2) as u64);
+    if chance.once_in(2) {
+        feed = entry::feed_piece(feed, &fasta(chance), &mut table(chance));
+    }
+    let mut some = |at: &mut u64| {
+        if chance.once_in(4) {
+            *at = number(chance);
+        }
+    };
+    some(&mut feed.rows);
+    some(&mut feed.total);
+    some(&mut feed.stage);
+    some(&mut feed.next);
+    some(&mut feed.at);
+    some(&mut feed.end);
+    some(&mut feed.name_start);
+    some(&mut feed.description_start);
+    some(&mut feed.lines);
+    some(&mut feed.position);
+    some(&mut feed.line_bases);
+    some(&mut feed.line_width);
+    some(&mut feed.bases);
+    some(&mut feed.held_width);
+    some(&mut feed.held_bases);
+    some(&mut feed.held_whole);
+    some(&mut feed.held_starts);
+    some(&mut feed.held_name);
+    some(&mut feed.held_text);
+    some(&mut feed.held_kept);
+    feed
 }
 
 /// What an answer tells: the refusal, how many bytes or rows it counts, and where the parts that it names end.
@@ -181,6 +218,13 @@ impl Judged for entry::Row {
 impl Judged for entry::Exercise {
     fn told(&self) -> (u64, usize, u64) {
         (self.refusal, 0, end(self.name_start, self.name_length))
+    }
+}
+
+/// A state may say any refusal and any rows, and they are told again: only that nothing else is touched is looked at.
+impl Judged for entry::Feed {
+    fn told(&self) -> (u64, usize, u64) {
+        (0, ANY, 0)
     }
 }
 
@@ -230,6 +274,7 @@ macro_rules! made {
     (table $parameter:ident $hostile:ident) => { room(&mut $hostile.chance, 3 * ROW_BYTES + 6) };
     (numbers $parameter:ident $hostile:ident) => { vec![STARTS; $hostile.chance.below(6)].into_boxed_slice() };
     (number $parameter:ident $hostile:ident) => { $hostile.number(stringify!($parameter)) };
+    (state $parameter:ident $hostile:ident) => { state(&mut $hostile.chance) };
     (bounds $parameter:ident $hostile:ident) => { bounds(&mut $hostile.chance) };
 }
 
@@ -242,6 +287,7 @@ macro_rules! lent {
     (table $argument:ident) => { &mut $argument };
     (numbers $argument:ident) => { &mut $argument };
     (number $argument:ident) => { $argument };
+    (state $argument:ident) => { $argument };
     (bounds $argument:ident) => { $argument };
 }
 
@@ -254,7 +300,11 @@ macro_rules! judged {
         assert!($refusal == 0 || $count == 0);
         stayed($count, &$argument);
     };
-    (table $argument:ident $refusal:ident $count:ident $end:ident) => { stayed($count * ROW_BYTES, &$argument) };
+    (table $argument:ident $refusal:ident $count:ident $end:ident) => {
+        if $count != ANY {
+            stayed($count * ROW_BYTES, &$argument);
+        }
+    };
     (numbers $argument:ident $refusal:ident $count:ident $end:ident) => {
         // each start that was told is not before the one before it, nor behind what was written
         let told: Vec<u64> = $argument.iter().copied().take_while(|start| *start != STARTS).collect();
@@ -262,6 +312,7 @@ macro_rules! judged {
         assert!(told.is_sorted() && told.iter().all(|start| $refusal == 0 && *start <= $count as u64));
     };
     (number $argument:ident $refusal:ident $count:ident $end:ident) => {};
+    (state $argument:ident $refusal:ident $count:ident $end:ident) => {};
     (bounds $argument:ident $refusal:ident $count:ident $end:ident) => {};
 }
 

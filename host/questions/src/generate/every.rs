@@ -67,6 +67,16 @@ pub(super) fn two_records() -> Source {
     Box::new(files.flat_map(|file| [0, 1, 2].map(|rows| vec![Bytes(file.clone()), Table(table(WORDS * rows))])))
 }
 
+/// Every short file byte by byte, and in two pieces at every place.
+pub(super) fn split_file() -> Source {
+    let files = strings(b">A\n\r ", 6).chain(after(b">s\nA\n", b"A\n\r>", 5));
+    Box::new(files.flat_map(|file| {
+        let in_two = (0..file.len()).map(|at| vec![Some(file[..at].to_vec()), Some(file[at..].to_vec()), None]);
+        let bytes = file.iter().map(|byte| Some(vec![*byte])).chain([None]).collect();
+        in_two.chain([bytes]).map(|steps| vec![Table(table(WORDS)), Value::Steps(steps)]).collect::<Vec<_>>()
+    }))
+}
+
 pub(super) fn index_line() -> Source {
     let few = strings(b"\t01s+\r\n", 5);
     let many = (0..NUMERALS_FOR_ALL.pow(4)).map(|k| {

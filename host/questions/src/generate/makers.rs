@@ -41,6 +41,8 @@ pub(super) const MAKERS: &[Maker] = &[
     maker("rec", 16, record, &[every::record]),
     maker("idx", 64, file_and_table, &[every::file, every::two_records]),
     maker("fit", 48, spaced_file_and_table, &[every::file, every::two_records]),
+    maker("fed", 64, fed, &[every::split_file]),
+    maker("ffd", 64, fed_spaced, &[every::split_file]),
     maker("ixl", 16, index_line, &[every::index_line]),
     maker("ixc", 16, index_line, &[every::index_line]),
     maker("ixt", 32, index, &[every::index]),
@@ -103,6 +105,20 @@ fn some_bytes(chance: &mut Chance, sample: &Sample) -> Vec<u8> {
 fn some_number(chance: &mut Chance, sample: &Sample) -> u64 {
     let near = chance.below(sample.text.len() + 2) as u64;
     about(chance, near)
+}
+
+/// A table, and a file that arrives in pieces.
+fn fed(chance: &mut Chance) -> Vec<Value> {
+    let sample = file(chance);
+    vec![Table(some_table(chance, sample.rows.len())), Value::Steps(some_steps(chance, &sample.text))]
+}
+
+fn fed_spaced(chance: &mut Chance) -> Vec<Value> {
+    if chance.once_in(2) {
+        return fed(chance);
+    }
+    let (text, records) = spaced_file(chance);
+    vec![Table(some_table(chance, records)), Value::Steps(some_steps(chance, &text))]
 }
 
 /// A text in pieces, some of them empty, with its end; or steps in some other order.
