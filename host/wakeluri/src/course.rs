@@ -3,7 +3,8 @@
 use crate::refusal::Call;
 use crate::table::{counted, with_room};
 use crate::{Refusal, entry};
-use std::fmt;
+use alloc::vec::Vec;
+use core::fmt;
 
 /// What an exercise asks: some bases of a sequence, to be judged by the rules of an edition.
 #[derive(Clone, Copy, Debug, Eq, PartialEq)]

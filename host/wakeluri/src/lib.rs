@@ -30,25 +30,56 @@
 //! The work is done by a static library of proved code; this crate makes it safe and comfortable to call, and adds nothing else.
 //! [`entry`] has the calls as they are. No call panics, whatever it is given, and none copies the file.
 
+//!
+//! # Which call
+//!
+//! | To | |
+//! |---|---|
+//! | open a file with its index, and read from it in any thread | [`Fasta`] |
+//! | have an index of bytes in memory, or of another's text | [`index`], [`read_index`], [`check`], [`Table`] |
+//! | read regions as people write them | [`Fasta::read`], [`region`] |
+//! | write FASTA | [`Writer`], [`write_record`] |
+//! | know why there is no answer | [`Refusal`], and [`Reason`] for a `match` |
+//! | come from noodles-fasta | [`noodles`] |
+//!
+//! # Features
+//!
+//! `std`, which is on if nothing else is said, brings [`Fasta`], [`Writer`] and [`noodles`], which need files and streams. Without it the
+//! crate needs `alloc` alone.
+
+#![cfg_attr(not(feature = "std"), no_std)]
 #![deny(unsafe_code)]
+
+#[cfg_attr(not(feature = "std"), macro_use)]
+extern crate alloc;
 
 mod bounds;
 mod course;
 #[allow(unsafe_code)]
 pub mod entry;
+#[cfg(feature = "std")]
+pub mod fasta;
 mod list;
 mod names;
+#[cfg(feature = "std")]
+pub mod noodles;
 mod primer;
+mod reason;
 mod refusal;
+pub mod region;
 mod row;
+pub mod shown;
 mod table;
 mod text;
 mod writer;
 
 pub use bounds::Bounds;
 pub use course::{Exercise, Score, read_exercise, score_typed, write_exercise};
+#[cfg(feature = "std")]
+pub use fasta::{Error, Fasta};
 pub use names::Names;
 pub use primer::{Places, degeneracy, find_primer, find_primer_from, primer_places};
+pub use reason::Reason;
 pub use refusal::{Call, Refusal};
 pub use row::Row;
 pub use table::{
@@ -60,7 +91,9 @@ pub use text::{
     read_line, read_run, read_sequence, read_sequence_limit, reverse_complement, reverse_complement_into,
 };
 
-pub use writer::{Writer, write_record, write_record_into, write_sequence_into};
+#[cfg(feature = "std")]
+pub use writer::Writer;
+pub use writer::{write_record, write_record_into, write_sequence_into};
 
 /// The identity of the kit that the linked library was proved with.
 pub const PROVED_WITH: &str = env!("WAKELURI_KIT");

@@ -4,12 +4,14 @@ use crate::entry::{ROW_BYTES, ROW_WORDS};
 use crate::refusal::Call;
 use crate::row::{Identity, Row};
 use crate::{Bounds, Refusal, entry};
+use alloc::vec::Vec;
 
 /// A table of this many rows is tried first: enough for most files, and so small that it costs little beside any.
 const FIRST_ROWS: usize = 1 << 10;
 
 /// What an index says of one record.
 #[derive(Clone, Copy, Debug, Eq, PartialEq)]
+#[non_exhaustive]
 pub struct Record<'n> {
     /// Its name.
     pub name: &'n [u8],
@@ -259,6 +261,11 @@ impl<'n> Table<'n> {
         &self.bytes
     }
 
+    /// The rows as bytes, and no longer a table: [`Table::from_bytes`] makes one of them again.
+    pub fn into_bytes(self) -> Vec<u8> {
+        self.bytes
+    }
+
     /// The bytes that names are parts of.
     pub fn names(&self) -> &'n [u8] {
         self.names
@@ -491,7 +498,7 @@ fn room(bytes: u64) -> Option<Vec<u8>> {
     let mut tried = Vec::<u8>::new();
     tried.try_reserve_exact(bytes).ok()?;
     // the compiler may not drop the trial
-    std::hint::black_box(&tried);
+    core::hint::black_box(&tried);
     drop(tried);
     Some(vec![0; bytes])
 }

@@ -3,9 +3,11 @@
 use crate::refusal::Call;
 use crate::table::{Record, counted, with_room};
 use crate::{Refusal, entry};
+use alloc::vec::Vec;
 
 /// What a definition line says.
 #[derive(Clone, Copy, Debug, Eq, PartialEq)]
+#[non_exhaustive]
 pub struct Definition<'t> {
     /// The name: what follows '>', up to the first whitespace.
     pub name: &'t [u8],
@@ -89,7 +91,7 @@ pub fn read_sequence_limit(file: &[u8], at: u64, limit: u64) -> Result<(Vec<u8>,
 }
 
 fn scanned(likely: u64, read: impl Fn(&mut [u8]) -> entry::Answer) -> Result<(Vec<u8>, u64), Refusal> {
-    let next = std::cell::Cell::new(0);
+    let next = core::cell::Cell::new(0);
     let bases = with_room(likely, |out| {
         let answer = read(out);
         next.set(answer.next);

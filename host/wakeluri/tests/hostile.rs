@@ -170,7 +170,7 @@ fn end(start: u64, length: u64) -> u64 {
 
 /// No refusal, or one that the library has words for. That of size is not: nothing so long is lent.
 fn has_words(number: u64) -> bool {
-    let refusal = Refusal { number, first: 0, second: 0, call: Call::Check };
+    let refusal = Refusal::new(Call::Check, number, 0, 0);
     number != 1 && (number == 0 || !refusal.words().contains("no words for"))
 }
 

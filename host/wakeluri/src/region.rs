@@ -1,12 +1,25 @@
 //! Regions as people write them: `name`, `name:5`, `name:5-`, `name:-9`, `name:5-9`, with thousands commas, `{name}:5-9`.
 //!
+//! ```
+//! use wakeluri::region::{Meaning, meaning};
+//! let table = wakeluri::index(b">chr1\nACGT\n>HLA:A\nAC\n")?;
+//! let find = |name: &[u8]| table.find(name).ok();
+//! let Meaning::Row(row, written) = meaning(b"chr1:2-1,000", find) else { panic!("a row") };
+//! assert_eq!((row.number(), written.bounds()), (0, Some((2..=1000).into())));
+//! let Meaning::Row(row, written) = meaning(b"HLA:A", find) else { panic!("a row") };
+//! assert_eq!((row.number(), written.bounds()), (1, Some((..).into())));
+//! # Ok::<(), wakeluri::Refusal>(())
+//! ```
+//!
 //! As in samtools, `name:5` is from base 5 to the end. A region may be read in three ways: as a name in braces, as a name, and as a
 //! name with bounds behind its last colon. It is answered where one of them leads to a record that exists. Where more than one does,
 //! nobody can know which is meant, and it is refused.
 
-use crate::place::short;
-use std::cmp::Ordering;
-use wakeluri::Row;
+use crate::shown::short;
+use crate::{Bounds, Row};
+use alloc::string::{String, ToString};
+use alloc::vec::Vec;
+use core::cmp::Ordering;
 
 /// A number as it is written: its digits without needless zeros, and its value where 64 bits hold it.
 #[derive(Clone, Debug, Eq, PartialEq)]
@@ -48,8 +61,8 @@ impl Ord for Number {
     }
 }
 
-impl std::fmt::Display for Number {
-    fn fmt(&self, f: &mut std::fmt::Formatter<'_>) -> std::fmt::Result {
+impl core::fmt::Display for Number {
+    fn fmt(&self, f: &mut core::fmt::Formatter<'_>) -> core::fmt::Result {
         f.write_str(&self.digits)
     }
 }
@@ -66,7 +79,7 @@ pub struct Written {
 impl Written {
     /// What stands after the colon.
     pub fn of(text: &[u8]) -> Result<Self, String> {
-        let text = std::str::from_utf8(text).map_err(|_| "the bounds are no text".to_string())?;
+        let text = core::str::from_utf8(text).map_err(|_| "the bounds are no text".to_string())?;
         let number = |text: &str| if text.is_empty() { Ok(None) } else { Number::of(text).map(Some) };
         match text.split_once('-') {
             None if text.is_empty() => Err("nothing stands after the colon".to_string()),
@@ -81,6 +94,15 @@ impl Written {
         let zero = |number: &Option<Number>| number.as_ref().is_some_and(|number| number.value == Some(0));
         let crossed = matches!((&self.start, &self.end), (Some(start), Some(end)) if start > end);
         zero(&self.start) || zero(&self.end) || crossed
+    }
+
+    /// The bounds as numbers, if 64 bits hold them.
+    pub fn bounds(&self) -> Option<Bounds> {
+        let value = |number: &Option<Number>| match number {
+            None => Some(None),
+            Some(number) => number.value.map(Some),
+        };
+        Some(Bounds { start: value(&self.start)?, end: value(&self.end)? })
     }
 
     /// The first bound that 64 bits don't hold.
