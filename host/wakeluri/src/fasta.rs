@@ -220,8 +220,17 @@ impl Fasta {
         watch: Option<Watch>,
     ) -> Self {
         let rows = table.len() / ROW_BYTES;
-        let mut fasta =
-            Self { bytes, index, table, rows, names: NameMap::default(), trust, path, watch, described: OnceLock::new() };
+        let mut fasta = Self {
+            bytes,
+            index,
+            table,
+            rows,
+            names: NameMap::default(),
+            trust,
+            path,
+            watch,
+            described: OnceLock::new(),
+        };
         fasta.names = NameMap::of(fasta.rows, |row| fasta.name(row));
         fasta
     }
@@ -415,7 +424,11 @@ pub struct Record<'f> {
 impl std::fmt::Debug for Record<'_> {
     fn fmt(&self, f: &mut std::fmt::Formatter<'_>) -> std::fmt::Result {
         let name = self.name().escape_ascii().to_string();
-        f.debug_struct("Record").field("number", &self.row).field("name", &name).field("length", &self.length()).finish()
+        f.debug_struct("Record")
+            .field("number", &self.row)
+            .field("name", &name)
+            .field("length", &self.length())
+            .finish()
     }
 }
 
@@ -456,8 +469,7 @@ impl<'f> Record<'f> {
         if self.fasta.index.is_none() {
             return Some(part(&self.fasta.bytes, start, length)).filter(|text| !text.is_empty());
         }
-        let definition =
-            self.fasta.definition_before(self.row).or_else(|| self.fasta.definition_by_number(self.row));
+        let definition = self.fasta.definition_before(self.row).or_else(|| self.fasta.definition_by_number(self.row));
         definition.and_then(|definition| definition.description)
     }
 

@@ -114,9 +114,8 @@ macro_rules! reasons {
             pub fn places(&self) -> Vec<(&'static str, u64)> {
                 match *self {
                     $(Self::$case { $($field),* } => {
-                        let told: [(&'static str, Option<u64>); [$(stringify!($field)),*].len()] =
-                            [$((stringify!($field), $field.told())),*];
-                        told.into_iter().filter_map(|(name, number)| Some((name, number?))).collect()
+                        let told: &[(&'static str, Option<u64>)] = &[$((stringify!($field), $field.told())),*];
+                        told.iter().filter_map(|(name, number)| Some((*name, (*number)?))).collect()
                     })*
                     Self::Other { first, second, .. } => [("first", first), ("second", second)].into(),
                 }

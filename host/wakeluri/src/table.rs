@@ -234,6 +234,7 @@ impl<'n> Table<'n> {
     }
 
     /// A table of one row: a name, and the numbers of its index line.
+    #[cfg(feature = "std")]
     pub(crate) fn of_one(name: &'n [u8], [length, position, line_bases, line_width]: [u64; 4]) -> Self {
         let row = entry::Row {
             name_length: name.len() as u64,

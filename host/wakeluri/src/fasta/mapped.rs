@@ -34,14 +34,17 @@ pub(super) fn open(path: &Path, mapped_from: u64) -> Result<(Bytes, Option<Watch
     let mut file = File::open(path).map_err(failed)?;
     let meta = file.metadata().map_err(failed)?;
     let watch = meta.is_file().then(|| Watch::new(path, Seen::of(&meta)));
-    if meta.is_file() && meta.len() >= mapped_from
+    if meta.is_file()
+        && meta.len() >= mapped_from
         && let Some(map) = Map::of(&file, meta.len())
     {
         return Ok((Bytes::Mapped(map), watch));
     }
     let mut bytes = vec![];
     let expected = if meta.is_file() { usize::try_from(meta.len()).unwrap_or(usize::MAX) } else { 0 };
-    bytes.try_reserve_exact(expected).map_err(|error| failed(std::io::Error::new(std::io::ErrorKind::OutOfMemory, error)))?;
+    bytes
+        .try_reserve_exact(expected)
+        .map_err(|error| failed(std::io::Error::new(std::io::ErrorKind::OutOfMemory, error)))?;
     file.read_to_end(&mut bytes).map_err(failed)?;
     Ok((Bytes::Held(bytes), watch))
 }
@@ -78,18 +81,24 @@ mod system {
     const MAP_PRIVATE: c_int = 2;
 
     unsafe extern "C" {
-        fn mmap(at: *mut c_void, length: usize, protection: c_int, flags: c_int, file: c_int, offset: c_long) -> *mut c_void;
+        fn mmap(
+            at: *mut c_void,
+            length: usize,
+            protection: c_int,
+            flags: c_int,
+            file: c_int,
+            offset: c_long,
+        ) -> *mut c_void;
         fn munmap(at: *mut c_void, length: usize) -> c_int;
     }
 
     impl Map {
         /// Maps the first so many bytes of a file; none where the system can't, or where there is nothing to map.
         pub(in super::super) fn of(file: &File, length: u64) -> Option<Self> {
-            let length = usize::try_from(length).ok().filter(|length| *length > 0 && isize::try_from(*length).is_ok())?;
+            let length =
+                usize::try_from(length).ok().filter(|length| *length > 0 && isize::try_from(*length).is_ok())?;
             // SAFETY: it asks for a fresh map of an open file, and touches no memory that is in use.
-            let start = unsafe {
-                mmap(std::ptr::null_mut(), length, PROT_READ, MAP_PRIVATE, file.as_raw_fd(), 0)
-            };
+            let start = unsafe { mmap(std::ptr::null_mut(), length, PROT_READ, MAP_PRIVATE, file.as_raw_fd(), 0) };
             // a map that failed is told by the address -1
             (start as isize != -1 && !start.is_null()).then_some(Self { start: start.cast(), length })
         }
