@@ -142,10 +142,10 @@ impl<R: BufRead + Seek> Reader<R> {
     pub fn query_raw(&mut self, index: &fai::Index, region: &Region) -> io::Result<Record> {
         let record = index.find(region)?;
         let bounds = region.interval().bounds();
-        let (start, end) = (bounds.start.unwrap_or(1), bounds.end.unwrap_or(u64::MAX));
-        let Some(before) = end.checked_sub(start) else {
-            return Err(refused(Refusal::new(Call::ReadRaw, 16, 0, 0)));
-        };
+        let start = bounds.start.unwrap_or(1);
+        // with no end there is no limit
+        let before = bounds.end.map_or(Some(u64::MAX), |end| end.checked_sub(start));
+        let before = before.ok_or_else(|| refused(Refusal::new(Call::ReadRaw, 16, 0, 0)))?;
         let at = record.query(region.interval())?;
         let limit = before.saturating_add(1);
         let lines = if self.seek_to(at)? { sequence::lines(&mut self.inner, limit)? } else { vec![] };
