@@ -1,6 +1,6 @@
 /* Wakeluri's entry points: a FASTA index library whose every answer is proved right.
  *
- * Bytes are lent as a pointer and a length; the pointer may be any non-null value where the length is 0. A table is bytes, eight to
+ * Bytes are lent as a pointer and a length; where the length is 0 the pointer may be any value, NULL too. A table is bytes, eight to
  * a number, low byte first; a row is eight numbers (name start, name length, length, position, line bases, line width, description
  * start, description length), 64 bytes, and what is left of a last part of a row is ignored and stays. Name and description are spans
  * of the file that was indexed, or of the index text that was read; a row from an index has 0 and 0 for the description, and so has one
@@ -148,6 +148,8 @@ struct wakeluri_score wakeluri_score_typed(const uint8_t *key, size_t key_length
 
 /* Accepts a FASTA file and an index of any program exactly if the index leads to every base. Refuses 1, 2 to 4, 19, 9 to 12, 21 to 23, 20. */
 struct wakeluri_answer wakeluri_check(const uint8_t *fasta, size_t fasta_length, const uint8_t *index, size_t index_length);
+
+#include "wakeluri_host.h"
 
 #ifdef __cplusplus
 }
