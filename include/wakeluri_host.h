@@ -116,8 +116,8 @@ static inline struct wakeluri_numbers wakeluri_numbers_of(const uint8_t *table, 
     return numbers;
 }
 
-/* wakeluri_read_exact with structs. The entry point itself takes numbers and bytes alone: the proved language lends an entry point
- * numbers and slices of bytes, and no structs. */
+/* wakeluri_read_exact with structs. The entry point itself takes numbers and lent bytes alone, so that every value of every argument is
+ * allowed: the language can lend an entry point a struct, but only behind a pointer that has to be good. */
 static inline struct wakeluri_answer wakeluri_read_region(const struct wakeluri_rows *of, const struct wakeluri_region *region, uint8_t *out, size_t out_length) {
     return wakeluri_read_exact(of->file, of->file_length, of->table, of->table_length, of->in_use, region->row, region->has_start, region->start, region->has_end, region->end, out, out_length);
 }
