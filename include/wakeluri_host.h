@@ -1,7 +1,7 @@
 /* What stands around the entry points for a host in C: refusals by name and in words, the version, the rows of a table, a region as a
  * struct. wakeluri.h includes it. The entry points are proved; what is here only hands numbers on, and is tested.
  *
- * wakeluri_version, wakeluri_form, wakeluri_words and wakeluri_read_bases are in the libraries that `tools/dev clibs` makes, which have the
+ * wakeluri_version, wakeluri_form, wakeluri_words, wakeluri_read_bases and wakeluri_read_near are in the libraries that `tools/dev clibs` makes, which have the
  * proved code in them too. The rest needs no library.
  */
 #ifndef WAKELURI_HOST_H
@@ -76,6 +76,12 @@ struct wakeluri_rows {
     uint64_t in_use;
 };
 
+/* A row of them: a record to read from. */
+struct wakeluri_record {
+    const struct wakeluri_rows *of;
+    uint64_t row;
+};
+
 /* Some bases of a row's record, counted from 1, both bounds included; a bound is absent where its flag is 0. */
 struct wakeluri_region {
     uint64_t row, has_start, start, has_end, end;
@@ -88,9 +94,12 @@ uint64_t wakeluri_form(void);
 /* A refusal's number in words, without its places. The text is the library's own, and stays. */
 const char *wakeluri_words(uint64_t number);
 
-/* The bases from `start` to `end` of a row, for a host whose calls are dear: `out` has room for end - start + 1 bytes. Tells the refusal's
+/* The bases from `start` to `end` of a record, for a host whose calls are dear: `out` has room for end - start + 1 bytes. Tells the refusal's
  * number, 0 for none; wakeluri_read_exact tells its two numbers. */
-uint64_t wakeluri_read_bases(const struct wakeluri_rows *of, uint64_t row, uint64_t start, uint64_t end, uint8_t *out);
+uint64_t wakeluri_read_bases(const struct wakeluri_record *record, uint64_t start, uint64_t end, uint8_t *out);
+
+/* The same of small numbers, which some hosts hand over quicker. */
+int wakeluri_read_near(const struct wakeluri_record *record, uint32_t start, uint32_t end, uint8_t *out);
 
 /* Whether the library is one that this header speaks of. */
 static inline int wakeluri_fits(void) {

@@ -9,11 +9,15 @@ uint64_t wakeluri_form(void) {
     return WAKELURI_FORM;
 }
 
-uint64_t wakeluri_read_bases(const struct wakeluri_rows *of, uint64_t row, uint64_t start, uint64_t end, uint8_t *out) {
-    const struct wakeluri_region region = {row, 1, start, 1, end};
+uint64_t wakeluri_read_bases(const struct wakeluri_record *record, uint64_t start, uint64_t end, uint8_t *out) {
+    const struct wakeluri_region region = {record->row, 1, start, 1, end};
     /* the room that was promised; a start after the end is refused before it is used */
     const size_t room = start <= end ? (size_t)(end - start) + 1 : 0;
-    return wakeluri_read_region(of, &region, out, room).refusal;
+    return wakeluri_read_region(record->of, &region, out, room).refusal;
+}
+
+int wakeluri_read_near(const struct wakeluri_record *record, uint32_t start, uint32_t end, uint8_t *out) {
+    return (int)wakeluri_read_bases(record, start, end, out);
 }
 
 /* The same words as Reason::words_of of host/wakeluri/src/reason.rs, which a test holds against these. */

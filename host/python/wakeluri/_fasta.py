@@ -7,9 +7,9 @@ import mmap
 import os
 import struct
 from time import monotonic
-from typing import Iterator, Union, overload
+from typing import Dict, Iterator, Union, overload
 
-from ._library import ROW_BYTES, Rows, address, held, library
+from ._library import NEAR, ROW_BYTES, OneRow, Rows, address, held, library, read_near
 from ._refusal import Changed, Refusal, refused
 
 Path = Union[str, "os.PathLike[str]"]
@@ -26,7 +26,17 @@ _DUE = 0.01
 
 _row = struct.Struct("<8Q")
 _read_short = held.wakeluri_read_bases
-_rooms: dict[int, type[ctypes.Array[ctypes.c_char]]] = {}
+
+
+class _Rooms(Dict[int, "type[ctypes.Array[ctypes.c_char]]"]):
+    """The kinds of rooms for so many bytes."""
+
+    def __missing__(self, count: int) -> type[ctypes.Array[ctypes.c_char]]:
+        room = self[count] = ctypes.c_char * count
+        return room
+
+
+_rooms = _Rooms()
 
 
 def _bytes_of(source: Source) -> bytes:
@@ -148,7 +158,7 @@ class _File:
 class Record:
     """A record of a `Fasta`. Slices count from 0, as everywhere in Python, and are exact: they give all that was asked for, or raise."""
 
-    __slots__ = ("_fasta", "_row", "_rows", "_length", "name")
+    __slots__ = ("_fasta", "_row", "_one", "_at", "_length", "name")
 
     #: Its name.
     name: str
@@ -156,7 +166,10 @@ class Record:
     def __init__(self, fasta: Fasta, row: int, name: str, length: int) -> None:
         self._fasta = fasta
         self._row = row
-        self._rows = fasta._rows_at
+        row_of = OneRow(fasta._rows_at, row)
+        self._at = ctypes.addressof(row_of)
+        # this keeps it, and is handed over as it is
+        self._one = ctypes.byref(row_of)
         self._length = length
         self.name = name
 
@@ -184,11 +197,9 @@ class Record:
         if type(key) is slice and key.step is None:
             start, stop = key.start, key.stop
             # most reads: both bounds are given, and there are few bases
-            if type(start) is int and type(stop) is int and 0 <= start < stop <= start + _SHORT:
-                count = stop - start
-                room = _rooms.get(count) or _rooms.setdefault(count, ctypes.c_char * count)
-                out = room()
-                if _read_short(self._rows, self._row, start + 1, stop, out):
+            if type(start) is int and type(stop) is int and 0 <= start < stop <= start + _SHORT and stop < NEAR:
+                out = _rooms[stop - start]()
+                if read_near(self._one, start + 1, stop, out):
                     raise self._refused(start + 1, stop)
                 if monotonic() >= fasta._due:
                     fasta.unchanged()
@@ -234,7 +245,7 @@ class Record:
         out = ctypes.create_string_buffer(count)
         read = library.wakeluri_read_bases if count > _SHORT else _read_short
         self._fasta._open()
-        if read(self._rows, self._row, first, last, out):
+        if read(self._at, first, last, out):
             raise self._refused(first, last)
         if monotonic() >= self._fasta._due:
             self._fasta.unchanged()

@@ -53,6 +53,12 @@ class Rows(ctypes.Structure):
     _fields_ = [("file", _pointer), ("file_length", _size), ("table", _pointer), ("table_length", _size), ("in_use", _u64)]
 
 
+class OneRow(ctypes.Structure):
+    """A row of them: a record to read from."""
+
+    _fields_ = [("of", _pointer), ("row", _u64)]
+
+
 _BYTES: list[type] = [_pointer, _size]
 _CALLS: dict[str, tuple[list[type], type]] = {
     "wakeluri_check": ([*_BYTES, *_BYTES], Answer),
@@ -64,7 +70,7 @@ _CALLS: dict[str, tuple[list[type], type]] = {
     "wakeluri_complement": ([*_BYTES, *_BYTES], Answer),
     "wakeluri_reverse_complement": ([*_BYTES, *_BYTES], Answer),
     "wakeluri_definition_content": (_BYTES, Definition),
-    "wakeluri_read_bases": ([_pointer, _u64, _u64, _u64, _pointer], _u64),
+    "wakeluri_read_bases": ([_pointer, _u64, _u64, _pointer], ctypes.c_int),
     "wakeluri_words": ([_u64], ctypes.c_char_p),
     "wakeluri_version": ([], _u64),
     "wakeluri_form": ([], _u64),
@@ -104,6 +110,11 @@ def _load() -> tuple[ctypes.CDLL, ctypes.PyDLL]:
 
 #: The library, whose calls let other threads go on; and the same, for calls that are so short that this would cost more.
 library, held = _load()
+
+#: The quickest call: what it takes is not declared, so a number is handed over as an int of C, and must be less than `NEAR`.
+read_near = held["wakeluri_read_near"]
+read_near.restype = ctypes.c_int
+NEAR = 1 << 31
 
 
 def address(bytes_: bytes) -> int:

@@ -21,31 +21,36 @@ use alloc::string::{String, ToString};
 use alloc::vec::Vec;
 use core::cmp::Ordering;
 
-/// A number as it is written: its digits without needless zeros, and its value where 64 bits hold it.
+/// A number as it is written: its value where 64 bits hold it, and else its digits without needless zeros.
 #[derive(Clone, Debug, Eq, PartialEq)]
 pub struct Number {
-    digits: String,
     /// The value, if 64 bits hold it.
     pub value: Option<u64>,
+    /// The digits, if they don't.
+    digits: String,
 }
 
 impl Number {
     /// Digits, with commas before each group of three or none.
     fn of(text: &str) -> Result<Self, String> {
-        let mut groups = text.split(',');
-        let first = groups.next().unwrap_or_default();
-        let rest: Vec<&str> = groups.collect();
         let all_digits = |part: &str| !part.is_empty() && part.bytes().all(|byte| byte.is_ascii_digit());
-        if !all_digits(first) || !rest.iter().all(|group| all_digits(group)) {
+        if all_digits(text) {
+            return Ok(Self::of_digits(text));
+        }
+        let (first, rest) = text.split_once(',').unwrap_or((text, ""));
+        if !all_digits(first) || !rest.split(',').all(all_digits) {
             return Err(format!("'{}' is no number", short(text.as_bytes())));
         }
-        if !rest.is_empty() && (first.len() > 3 || rest.iter().any(|group| group.len() != 3)) {
+        if first.len() > 3 || rest.split(',').any(|group| group.len() != 3) {
             return Err(format!("the commas of '{}' don't part its digits in threes", short(text.as_bytes())));
         }
-        let digits = text.replace(',', "");
-        let digits = digits.trim_start_matches('0');
-        let digits = if digits.is_empty() { "0" } else { digits };
-        Ok(Self { digits: digits.to_string(), value: digits.parse().ok() })
+        Ok(Self::of_digits(&text.replace(',', "")))
+    }
+
+    fn of_digits(digits: &str) -> Self {
+        let value = digits.parse().ok();
+        let kept = if value.is_some() { "" } else { digits.trim_start_matches('0') };
+        Self { value, digits: kept.to_string() }
     }
 }
 
@@ -57,13 +62,21 @@ impl PartialOrd for Number {
 
 impl Ord for Number {
     fn cmp(&self, other: &Self) -> Ordering {
-        self.digits.len().cmp(&other.digits.len()).then_with(|| self.digits.cmp(&other.digits))
+        match (self.value, other.value) {
+            (Some(value), Some(other)) => value.cmp(&other),
+            (Some(_), None) => Ordering::Less,
+            (None, Some(_)) => Ordering::Greater,
+            (None, None) => self.digits.len().cmp(&other.digits.len()).then_with(|| self.digits.cmp(&other.digits)),
+        }
     }
 }
 
 impl core::fmt::Display for Number {
     fn fmt(&self, f: &mut core::fmt::Formatter<'_>) -> core::fmt::Result {
-        f.write_str(&self.digits)
+        match self.value {
+            Some(value) => value.fmt(f),
+            None => f.write_str(&self.digits),
+        }
     }
 }
 
@@ -172,14 +185,17 @@ pub enum Meaning<'r> {
 
 /// What a region means, where `find` tells the row of a name.
 pub fn meaning(region: &[u8], find: impl Fn(&[u8]) -> Option<Row>) -> Meaning<'_> {
-    let there: Vec<(Reading<'_>, Row)> =
-        readings(region).filter_map(|reading| Some((reading, find(reading.name)?))).collect();
-    let sensible = || there.iter().filter(|(reading, _)| reading.is_sensible());
+    // there are three ways at most
+    let mut there = [None; 3];
+    let found = readings(region).filter_map(|reading| Some((reading, find(reading.name)?)));
+    there.iter_mut().zip(found).for_each(|(place, way)| *place = Some(way));
+    let there = || there.iter().flatten();
+    let sensible = || there().filter(|(reading, _)| reading.is_sensible());
     if sensible().nth(1).is_some() {
         return Meaning::Several(sensible().copied().collect());
     }
     // bounds that make no sense are told only where there is nothing better
-    match sensible().next().or(there.first()) {
+    match sensible().next().or(there().next()) {
         Some((Reading { bounds: None, .. }, row)) => Meaning::Row(*row, Written::default()),
         Some((Reading { bounds: Some(bounds), .. }, row)) => bounded(*row, bounds),
         None => Meaning::NoName(meant(region)),

@@ -263,11 +263,14 @@ static void around_the_calls(void) {
     a = wakeluri_read_region(&of, &whole, out, sizeof out);
     MUST(a.refusal == WAKELURI_FINE && a.count == 2 && memcmp(out, "GG.", 3) == 0);
     memset(out, '.', sizeof out);
-    MUST(wakeluri_read_bases(&of, 0, 2, 4, out) == WAKELURI_FINE && memcmp(out, "CGT.", 4) == 0);
-    MUST(wakeluri_read_bases(&of, 0, 5, 7, out) == WAKELURI_PAST_LENGTH && memcmp(out, "CGT.", 4) == 0);
-    MUST(wakeluri_read_bases(&of, 0, 5, 4, NULL) == WAKELURI_BAD_BOUNDS);
-    MUST(wakeluri_read_bases(&of, 0, 0, UINT64_MAX, NULL) == WAKELURI_BAD_BOUNDS);
-    MUST(wakeluri_read_bases(&of, 2, 1, 1, out) == WAKELURI_BAD_ROW);
+    const struct wakeluri_record first = {&of, 0}, none = {&of, 2};
+    MUST(wakeluri_read_bases(&first, 2, 4, out) == WAKELURI_FINE && memcmp(out, "CGT.", 4) == 0);
+    MUST(wakeluri_read_bases(&first, 5, 7, out) == WAKELURI_PAST_LENGTH && memcmp(out, "CGT.", 4) == 0);
+    MUST(wakeluri_read_bases(&first, 5, 4, NULL) == WAKELURI_BAD_BOUNDS);
+    MUST(wakeluri_read_bases(&first, 0, UINT64_MAX, NULL) == WAKELURI_BAD_BOUNDS);
+    MUST(wakeluri_read_bases(&none, 1, 1, out) == WAKELURI_BAD_ROW);
+    MUST(wakeluri_read_near(&first, 1, 2, out) == WAKELURI_FINE && memcmp(out, "ACT.", 4) == 0);
+    MUST(wakeluri_read_near(&first, 6, 7, out) == WAKELURI_PAST_LENGTH);
 
     MUST(wakeluri_version() == WAKELURI_VERSION && wakeluri_form() == WAKELURI_FORM && wakeluri_fits());
     MUST(strcmp(wakeluri_words(WAKELURI_NAME_UNKNOWN), "no record has that name") == 0);
