@@ -11,6 +11,7 @@ macro_rules! structs {
         $(#[$doc])*
         #[repr(C)]
         #[derive(Clone, Copy, Debug, Default, Eq, PartialEq)]
+        #[non_exhaustive]
         #[allow(missing_docs)]
         pub struct $name {
             pub refusal: u64,
