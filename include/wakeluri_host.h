@@ -7,6 +7,10 @@
 #ifndef WAKELURI_HOST_H
 #define WAKELURI_HOST_H
 
+#ifndef WAKELURI_H
+#error "include wakeluri.h, which includes this"
+#endif
+
 /* The version of this header: a ten-thousandth of it is the first number, and so on: 100 is 0.1.0. A host that finds another first or
  * second number in the library than in its header, or another form, was compiled for another library. */
 #define WAKELURI_VERSION 100

@@ -282,3 +282,16 @@ def test_another_library_is_refused(tmp_path: Path) -> None:
         env = {**os.environ, "WAKELURI_LIBRARY": named, "PYTHONPATH": str(ROOT / "host/python")}
         run = subprocess.run([sys.executable, "-c", "import wakeluri"], env=env, capture_output=True, text=True)
         assert run.returncode != 0 and says in run.stderr
+
+
+def test_an_empty_file(tmp_path: Path) -> None:
+    path = tmp_path / "empty.fa"
+    path.write_bytes(b"")
+    for index in (None, b""):
+        if index is not None:
+            (tmp_path / "empty.fa.fai").write_bytes(index)
+        fasta = Fasta(path)
+        assert (len(fasta), fasta.keys(), list(fasta), fasta.index_text()) == (0, [], [], b"")
+        with pytest.raises(NameUnknown):
+            fasta["s"]
+    check(b"", b"")

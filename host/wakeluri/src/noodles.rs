@@ -25,7 +25,7 @@
 //!   noodles' `query` does is [`io::Reader::query_raw`].
 //! - No answer depends on how a reader's buffer is filled.
 //! - Nothing panics, but [`record::Sequence`]'s `[..]` with a position that isn't there, which has no other way.
-//! - A refusal is an [`std::io::Error`] whose inner error is a [`Refusal`](crate::Refusal): [`refusal`] finds it.
+//! - A refusal is an [`std::io::Error`] whose inner error is a [`Refusal`]: [`refusal`] finds it.
 //!
 //! A record is read whole before it is judged, so the memory that is used is that of the longest record; [`Fasta`](crate::Fasta) maps a file
 //! instead.

@@ -15,6 +15,13 @@ pub struct Definition<'t> {
     pub description: Option<&'t [u8]>,
 }
 
+impl<'t> Definition<'t> {
+    /// A definition of a name and, where there is one, a description. Nothing is judged here.
+    pub const fn new(name: &'t [u8], description: Option<&'t [u8]>) -> Self {
+        Self { name, description }
+    }
+}
+
 /// A part of some bytes, by its place; nothing where it isn't there.
 fn part(bytes: &[u8], start: u64, length: u64) -> &[u8] {
     let part = || bytes.get(usize::try_from(start).ok()?..)?.get(..usize::try_from(length).ok()?);

@@ -99,7 +99,7 @@ impl Record {
         self.offset_of(start).ok_or_else(|| refused(Refusal::new(Call::ReadRaw, 18, start, 0)))
     }
 
-    /// The addressing rule (docs/RULES.md, R31): the offset of a base that is counted from 1.
+    /// The addressing rule (docs/RULES.md, R18): the offset of a base that is counted from 1.
     pub(crate) fn offset_of(&self, base: u64) -> Option<u64> {
         let before = base.checked_sub(1)?;
         let lines = (before / self.line_base_count).checked_mul(self.line_width.get())?;
