@@ -5,7 +5,6 @@
 
 use std::fmt::Write as _;
 use std::path::Path;
-use std::time::Instant;
 use std::{env, fs, hint, process};
 use wakeluri::{Bounds, Fasta, entry};
 
@@ -39,61 +38,103 @@ fn make(folder: &Path) -> Result<(), Box<dyn std::error::Error>> {
     Ok(())
 }
 
-/// The nanoseconds of one turn of some work, in the fastest of some rounds of so many turns.
-fn fastest(rounds: usize, turns: u64, mut work: impl FnMut(u64)) -> f64 {
-    let round = |work: &mut dyn FnMut(u64)| {
-        let begun = Instant::now();
-        (0..turns).for_each(work);
-        begun.elapsed().as_nanos() as f64 / turns as f64
-    };
-    (0..rounds).map(|_| round(&mut work)).fold(f64::INFINITY, f64::min)
+/// The time of this thread on its processor, in nanoseconds: that of others does not count.
+#[allow(unsafe_code)]
+fn thread_time() -> f64 {
+    #[repr(C)]
+    struct Time {
+        seconds: std::ffi::c_long,
+        nanoseconds: std::ffi::c_long,
+    }
+    unsafe extern "C" {
+        fn clock_gettime(clock: std::ffi::c_int, time: *mut Time) -> std::ffi::c_int;
+    }
+    const CLOCK_THREAD_CPUTIME_ID: std::ffi::c_int = 3;
+    let mut time = Time { seconds: 0, nanoseconds: 0 };
+    // SAFETY: it writes one time to where it is told.
+    unsafe { clock_gettime(CLOCK_THREAD_CPUTIME_ID, &mut time) };
+    time.seconds as f64 * 1e9 + time.nanoseconds as f64
+}
+
+/// Some work, by its name; a turn of it is told its number.
+type Work<'w> = (&'static str, Box<dyn FnMut(u64) + 'w>);
+
+/// A line for each work: the nanoseconds of a turn, in the fastest of some rounds of so many turns. The works go in turns, round by round.
+fn fastest(told: &mut String, what: &str, rounds: usize, turns: u64, mut works: Vec<Work<'_>>) {
+    let mut best = vec![f64::INFINITY; works.len()];
+    for _ in 0..rounds {
+        for ((_, work), best) in works.iter_mut().zip(&mut best) {
+            let begun = thread_time();
+            (0..turns).for_each(work);
+            *best = best.min((thread_time() - begun) / turns as f64);
+        }
+    }
+    for ((by, _), best) in works.iter().zip(best) {
+        let _ = writeln!(told, "{what}\t{by}\t{best:.0}");
+    }
 }
 
 fn time(folder: &Path) -> Result<String, Box<dyn std::error::Error>> {
     let mut told = String::new();
-    let mut row = |what: &str, by: &str, nanoseconds: f64| writeln!(told, "{what}\t{by}\t{nanoseconds:.0}");
     let (long, many) = (folder.join("long.fa"), folder.join("many.fa"));
 
     let fasta = Fasta::open(&long)?;
     let index = fs::read(folder.join("long.fa.fai"))?;
-    let check = || hint::black_box(entry::check(fasta.bytes(), &index).refusal);
-    assert_eq!(check(), 0, "the index is right");
-    row("open and check 64 MB", "entry point, bytes in memory", fastest(9, 1, |_| assert_eq!(check(), 0)))?;
-    let fresh = || Fasta::options().unchecked().open(&long).map(|fresh| entry::check(fresh.bytes(), &index).refusal);
-    row("open and check 64 MB", "entry point, a fresh map", fastest(9, 1, |_| assert!(matches!(fresh(), Ok(0)))))?;
-    row("open and check 64 MB", "Rust, Fasta::open", fastest(9, 1, |_| assert!(Fasta::open(&long).is_ok())))?;
+    let check = |bytes: &[u8]| entry::check(bytes, &index).refusal;
+    let fresh = || Fasta::options().unchecked().open(&long).map(|fresh| check(fresh.bytes()));
+    fastest(
+        &mut told,
+        "open and check 64 MB",
+        15,
+        1,
+        vec![
+            ("entry point, bytes in memory", Box::new(|_| assert_eq!(check(fasta.bytes()), 0))),
+            ("entry point, a fresh map", Box::new(|_| assert!(matches!(fresh(), Ok(0))))),
+            ("Rust, Fasta::open", Box::new(|_| assert!(Fasta::open(&long).is_ok()))),
+        ],
+    );
 
     let length = fasta.record("chr1")?.length();
     let start = |turn: u64| turn.wrapping_mul(7_919_000_021) % (length - 10_000) + 1;
     let table = wakeluri::read_index(&index)?;
-    let mut out = vec![0; 10_000];
     let (bytes, rows) = (fasta.bytes(), table.as_bytes());
-    for (what, count, turns) in [("a read of 10,000 bases", 10_000, 1000), ("a read of 100 bases", 100, 1000)] {
+    for (what, count) in [("a read of 10,000 bases", 10_000_u64), ("a read of 100 bases", 100)] {
         let bounds = |turn| Bounds::from(start(turn)..=start(turn) + count - 1);
-        let own = fastest(60, turns, |turn| {
-            assert_eq!(entry::read_exact(bytes, rows, 1, 0, bounds(turn), &mut out).count, count);
-        });
-        row(what, "entry point, room that is lent", own)?;
-        let own = fastest(60, turns, |turn| {
-            let mut fresh = vec![0; count as usize];
-            assert_eq!(entry::read_exact(bytes, rows, 1, 0, bounds(turn), &mut fresh).count, count);
-            hint::black_box(fresh);
-        });
-        row(what, "entry point, fresh room", own)?;
+        let read =
+            |turn, out: &mut [u8]| assert_eq!(entry::read_exact(bytes, rows, 1, 0, bounds(turn), out).count, count);
         let record = fasta.record("chr1")?;
-        let into = fastest(60, turns, |turn| assert!(record.read_into(bounds(turn), &mut out).is_ok()));
-        row(what, "Rust, Record::read_into", into)?;
-        row(
-            what,
-            "Rust, Record::read",
-            fastest(60, turns, |turn| assert!(hint::black_box(record.read(bounds(turn))).is_ok())),
-        )?;
         let text = |turn| format!("chr1:{}-{}", start(turn), start(turn) + count - 1);
-        let regions: Vec<String> = (0..turns).map(text).collect();
-        let by_text = fastest(60, turns, |turn| {
-            assert!(regions.get(turn as usize).is_some_and(|region| hint::black_box(fasta.read(region)).is_ok()));
-        });
-        row(what, "Rust, Fasta::read of a region's text", by_text)?;
+        let regions: Vec<String> = (0..1000).map(text).collect();
+        let (mut lent, mut lent_too) = (vec![0; 10_000], vec![0; 10_000]);
+        fastest(
+            &mut told,
+            what,
+            60,
+            1000,
+            vec![
+                ("entry point, room that is lent", Box::new(|turn| read(turn, &mut lent))),
+                (
+                    "Rust, Record::read_into",
+                    Box::new(|turn| assert!(record.read_into(bounds(turn), &mut lent_too).is_ok())),
+                ),
+                (
+                    "entry point, fresh room",
+                    Box::new(|turn| {
+                        let mut fresh = vec![0; count as usize];
+                        read(turn, &mut fresh);
+                        hint::black_box(fresh);
+                    }),
+                ),
+                ("Rust, Record::read", Box::new(|turn| assert!(hint::black_box(record.read(bounds(turn))).is_ok()))),
+                (
+                    "Rust, Fasta::read of a region's text",
+                    Box::new(|turn| {
+                        let region = regions.get(turn as usize).map_or("", String::as_str);
+                        assert!(hint::black_box(fasta.read(region)).is_ok());
+                    }),
+                ),
+            ],
+        );
     }
 
     let fasta = Fasta::open(&many)?;
@@ -102,30 +143,48 @@ fn time(folder: &Path) -> Result<String, Box<dyn std::error::Error>> {
     let names: Vec<String> =
         (0..1000).map(|turn: usize| format!("record{}", turn.wrapping_mul(7_919) % RECORDS)).collect();
     let name = |turn: u64| names.get(turn as usize).map_or("", String::as_str);
+    let regions: Vec<String> = names.iter().map(|name| format!("{name}:3-3")).collect();
     let what = "one base by name among 100,000 records";
     let (rows, in_use) = (table.as_bytes(), table.len() as u64);
-    let own = fastest(3, 50, |turn| {
-        let found = entry::find(&index, rows, in_use, name(turn).as_bytes());
-        let base = entry::read_exact(fasta.bytes(), rows, in_use, found.count, (3..=3).into(), &mut out);
-        assert_eq!((base.count, out[0]), (1, b'G'));
-    });
-    row(what, "entry points: the walk, and the read", own)?;
-    let known = fastest(60, 1000, |turn| {
-        let row = turn.wrapping_mul(7_919) % in_use;
-        assert_eq!(entry::read_exact(fasta.bytes(), rows, in_use, row, (3..=3).into(), &mut out).count, 1);
-    });
-    row(what, "entry point: the read alone, of a known row", known)?;
-    let found = fastest(60, 1000, |turn| {
-        let record = fasta.record(name(turn));
-        assert!(record.is_ok_and(|record| record.read_into(3..=3, &mut out).is_ok() && out[0] == b'G'));
-    });
-    row(what, "Rust, Fasta::record and read_into", found)?;
-    let regions: Vec<String> = names.iter().map(|name| format!("{name}:3-3")).collect();
-    let by_text = fastest(60, 1000, |turn| {
-        let read = regions.get(turn as usize).map(|region| fasta.read(region));
-        assert!(matches!(read, Some(Ok(base)) if base == b"G"));
-    });
-    row(what, "Rust, Fasta::read of a region's text", by_text)?;
+    let read = |row| {
+        let mut base = [0];
+        let told = entry::read_exact(fasta.bytes(), rows, in_use, row, (3..=3).into(), &mut base);
+        assert_eq!((told.count, base), (1, *b"G"));
+    };
+    fastest(
+        &mut told,
+        what,
+        3,
+        50,
+        vec![(
+            "entry points: the walk, and the read",
+            Box::new(|turn| read(entry::find(&index, rows, in_use, name(turn).as_bytes()).count)),
+        )],
+    );
+    fastest(
+        &mut told,
+        what,
+        60,
+        1000,
+        vec![
+            ("entry point: the read alone, of a known row", Box::new(|turn| read(turn.wrapping_mul(7_919) % in_use))),
+            (
+                "Rust, Fasta::record and read_into",
+                Box::new(|turn| {
+                    let mut base = [0];
+                    let record = fasta.record(name(turn));
+                    assert!(record.is_ok_and(|record| record.read_into(3..=3, &mut base).is_ok() && base == *b"G"));
+                }),
+            ),
+            (
+                "Rust, Fasta::read of a region's text",
+                Box::new(|turn| {
+                    let region = regions.get(turn as usize).map_or("", String::as_str);
+                    assert!(fasta.read(region).is_ok_and(|base| base == b"G"));
+                }),
+            ),
+        ],
+    );
     Ok(told)
 }
 

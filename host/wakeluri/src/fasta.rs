@@ -76,7 +76,7 @@ pub enum Trust {
 /// what the file has now, and so does a read that comes ten milliseconds or more after the last such look; from then on every read fails with
 /// [`Error::Changed`]. What is not seen:
 ///
-/// - a change since the last look, for up to ten milliseconds;
+/// - a change since the last look, for ten milliseconds and the few that the clock is off;
 /// - a change after which the file's time was set back, and its length is the same.
 ///
 /// A file that was read into memory gives the bytes that it had, whatever becomes of it. Of a mapped file, bytes that another program

@@ -92,6 +92,9 @@ pub struct Written {
 impl Written {
     /// What stands after the colon.
     pub fn of(text: &[u8]) -> Result<Self, String> {
+        if let Some(written) = Self::of_plain(text) {
+            return Ok(written);
+        }
         let text = core::str::from_utf8(text).map_err(|_| "the bounds are no text".to_string())?;
         let number = |text: &str| if text.is_empty() { Ok(None) } else { Number::of(text).map(Some) };
         match text.split_once('-') {
@@ -100,6 +103,20 @@ impl Written {
             Some(("", "")) => Err("there is no number at either side of '-'".to_string()),
             Some((start, end)) => Ok(Self { start: number(start)?, end: number(end)? }),
         }
+    }
+
+    /// The same of what is written most often, which needs no more than a look at each byte: `5-9`, in digits that 64 bits hold.
+    fn of_plain(text: &[u8]) -> Option<Self> {
+        let mut values = [None, None];
+        let mut parts = text.split(|byte| *byte == b'-');
+        for value in &mut values {
+            let digits = parts.next().filter(|digits| (1..=19).contains(&digits.len()))?;
+            let add = |sum: u64, byte: &u8| byte.is_ascii_digit().then(|| sum * 10 + u64::from(byte - b'0'));
+            *value = Some(digits.iter().try_fold(0, add)?);
+        }
+        let number = |value| Some(Number { value, digits: String::new() });
+        let [start, end] = values.map(number);
+        parts.next().is_none().then_some(Self { start, end })
     }
 
     /// Whether a bound is 0, or the start after the end.
@@ -189,13 +206,14 @@ pub fn meaning(region: &[u8], find: impl Fn(&[u8]) -> Option<Row>) -> Meaning<'_
     let mut there = [None; 3];
     let found = readings(region).filter_map(|reading| Some((reading, find(reading.name)?)));
     there.iter_mut().zip(found).for_each(|(place, way)| *place = Some(way));
-    let there = || there.iter().flatten();
-    let sensible = || there().filter(|(reading, _)| reading.is_sensible());
-    if sensible().nth(1).is_some() {
-        return Meaning::Several(sensible().copied().collect());
+    let sensible = there.map(|way| way.filter(|(reading, _)| reading.is_sensible()));
+    let mut ways = sensible.iter().flatten();
+    let first = ways.next();
+    if ways.next().is_some() {
+        return Meaning::Several(sensible.into_iter().flatten().collect());
     }
     // bounds that make no sense are told only where there is nothing better
-    match sensible().next().or(there().next()) {
+    match first.or(there.iter().flatten().next()) {
         Some((Reading { bounds: None, .. }, row)) => Meaning::Row(*row, Written::default()),
         Some((Reading { bounds: Some(bounds), .. }, row)) => bounded(*row, bounds),
         None => Meaning::NoName(meant(region)),

@@ -1,10 +1,11 @@
 //! Whether a file is still what it was.
 
 use super::Error;
+use super::mapped::now;
 use std::fs::{self, Metadata};
 use std::path::{Path, PathBuf};
 use std::sync::atomic::{AtomicBool, AtomicU64, Ordering};
-use std::time::{Instant, SystemTime};
+use std::time::SystemTime;
 
 /// A look is due if the last one is as old as this, in microseconds.
 const DUE: u64 = 10_000;
@@ -35,7 +36,6 @@ impl Seen {
 pub(super) struct Watch {
     path: PathBuf,
     seen: Seen,
-    begun: Instant,
     /// When it was last looked at, in microseconds.
     looked: AtomicU64,
     /// Once it was seen to have changed, it stays so.
@@ -45,17 +45,13 @@ pub(super) struct Watch {
 impl Watch {
     pub(super) fn new(path: &Path, seen: Seen) -> Self {
         let (looked, changed) = (AtomicU64::new(0), AtomicBool::new(false));
-        Self { path: path.to_path_buf(), seen, begun: Instant::now(), looked, changed }
-    }
-
-    fn now(&self) -> u64 {
-        u64::try_from(self.begun.elapsed().as_micros()).unwrap_or(u64::MAX)
+        Self { path: path.to_path_buf(), seen, looked, changed }
     }
 
     /// Looks at the file.
     pub(super) fn look(&self) -> Result<(), Error> {
         let same = fs::metadata(&self.path).is_ok_and(|meta| Seen::of(&meta) == self.seen);
-        self.looked.store(self.now(), Ordering::Relaxed);
+        self.looked.store(now(), Ordering::Relaxed);
         if !same {
             self.changed.store(true, Ordering::Relaxed);
         }
@@ -64,7 +60,7 @@ impl Watch {
 
     /// Looks at the file, if the last look is old.
     pub(super) fn look_if_due(&self) -> Result<(), Error> {
-        if self.now().saturating_sub(self.looked.load(Ordering::Relaxed)) >= DUE { self.look() } else { self.last() }
+        if now().saturating_sub(self.looked.load(Ordering::Relaxed)) >= DUE { self.look() } else { self.last() }
     }
 
     /// What the last look told.
