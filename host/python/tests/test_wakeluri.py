@@ -191,7 +191,7 @@ def test_a_change_is_noticed(tmp_path: Path) -> None:
     other.write_bytes(TWO)
     os.utime(other, ns=(0, path.stat().st_mtime_ns))
     other.rename(path)
-    time.sleep(0.012)
+    time.sleep(0.03)
     with pytest.raises(Changed):
         record[0:2]
     for again in (fasta.unchanged, lambda: record[0:2], lambda: record.read(1, 2), lambda: fasta["t"]):

@@ -183,7 +183,7 @@ fn threads_read_one_file() {
 
 /// A change is noticed at once by a look, and by a read that comes after a while; and it stays noticed.
 fn noticed(fasta: &Fasta) {
-    std::thread::sleep(Duration::from_millis(12));
+    std::thread::sleep(Duration::from_millis(50));
     assert!(matches!(fasta.read("s:1-1"), Err(Error::Changed { .. })));
     assert!(matches!(fasta.unchanged(), Err(Error::Changed { .. })));
     assert!(matches!(fasta.record("s").unwrap().read_into(1..=1, &mut [0]), Err(Error::Changed { .. })));
