@@ -57,29 +57,19 @@ mod bounds;
 mod course;
 #[allow(unsafe_code)]
 pub mod entry;
-#[cfg(feature = "std")]
-pub mod fasta;
 mod list;
 mod names;
-#[cfg(feature = "std")]
-pub mod noodles;
 mod primer;
-mod reason;
 mod refusal;
-pub mod region;
 mod row;
-pub mod shown;
 mod table;
 mod text;
 mod writer;
 
 pub use bounds::Bounds;
 pub use course::{Exercise, Score, read_exercise, score_typed, write_exercise};
-#[cfg(feature = "std")]
-pub use fasta::{Error, Fasta};
 pub use names::Names;
 pub use primer::{Places, degeneracy, find_primer, find_primer_from, primer_places};
-pub use reason::Reason;
 pub use refusal::{Call, Refusal};
 pub use row::Row;
 pub use table::{
@@ -97,3 +87,16 @@ pub use writer::{write_record, write_record_into, write_sequence_into};
 
 /// The identity of the kit that the linked library was proved with.
 pub const PROVED_WITH: &str = env!("WAKELURI_KIT");
+
+// what an app has over these: a file that it opens, refusals as cases, regions as people write them, noodles' names
+#[cfg(feature = "std")]
+pub mod fasta;
+#[cfg(feature = "std")]
+pub mod noodles;
+mod reason;
+pub mod region;
+pub mod shown;
+
+#[cfg(feature = "std")]
+pub use fasta::{Error, Fasta};
+pub use reason::Reason;
