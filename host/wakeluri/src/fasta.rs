@@ -275,9 +275,15 @@ impl Fasta {
         numbers(self.row_bytes(row))
     }
 
+    /// A number of a row, by its column.
+    fn number(&self, row: usize, column: usize) -> u64 {
+        let from = row.saturating_mul(ROW_BYTES).saturating_add(8 * column);
+        let bytes = self.table.get(from..).and_then(|rest| rest.first_chunk());
+        bytes.map_or(0, |bytes| u64::from_le_bytes(*bytes))
+    }
+
     fn name(&self, row: usize) -> &[u8] {
-        let [start, length, ..] = self.numbers(row);
-        part(self.named(), start, length)
+        part(self.named(), self.number(row, 0), self.number(row, 1))
     }
 
     /// The first row of a name: the map guesses, and the proved look-up has to find the name in a table of that row alone.
@@ -445,22 +451,22 @@ impl<'f> Record<'f> {
 
     /// How many bases it has.
     pub fn length(&self) -> u64 {
-        self.fasta.numbers(self.row)[2]
+        self.fasta.number(self.row, 2)
     }
 
     /// The offset of its first base in the file.
     pub fn position(&self) -> u64 {
-        self.fasta.numbers(self.row)[3]
+        self.fasta.number(self.row, 3)
     }
 
     /// How many bases are in a line of it.
     pub fn line_bases(&self) -> u64 {
-        self.fasta.numbers(self.row)[4]
+        self.fasta.number(self.row, 4)
     }
 
     /// How many bytes are in a line of it, with its end.
     pub fn line_width(&self) -> u64 {
-        self.fasta.numbers(self.row)[5]
+        self.fasta.number(self.row, 5)
     }
 
     /// The text behind its name in the definition line, without whitespace at its ends. It is looked up in the file: an index has none.
