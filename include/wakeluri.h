@@ -1,6 +1,6 @@
 /* Wakeluri's entry points: a FASTA index library whose every answer is proved right.
  *
- * Bytes are lent as a pointer and a length; the pointer may be any non-null value where the length is 0. A table is bytes, eight to
+ * Bytes are lent as a pointer and a length; where the length is 0 the pointer may be any value, NULL too. A table is bytes, eight to
  * a number, low byte first; a row is eight numbers (name start, name length, length, position, line bases, line width, description
  * start, description length), 64 bytes, and what is left of a last part of a row is ignored and stays. Name and description are spans
  * of the file that was indexed, or of the index text that was read; a row from an index has 0 and 0 for the description, and so has one
@@ -204,6 +204,8 @@ struct wakeluri_answer wakeluri_check(const uint8_t *fasta, size_t fasta_length,
 /* Uses the code for a level of x86-64 (1, 3 or 4), or for the best that the processor has where that is less; 0 asks for the best, which
  * is in use from the start. Returns the level in use. Every level gives the same answers: this is for tests and timings. */
 uint64_t wakeluri_use_level(uint64_t level);
+
+#include "wakeluri_host.h"
 
 #ifdef __cplusplus
 }

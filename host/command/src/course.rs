@@ -5,10 +5,10 @@ use crate::input::{self, Input};
 use crate::json::Object;
 use crate::nearest::nearest;
 use crate::place::{commas, count, quoted, short};
-use crate::region::{self, Written};
 use std::fmt::Write;
 use std::fs;
 use std::path::{Path, PathBuf};
+use wakeluri::region::{self, Written};
 use wakeluri::{Edition, Exercise, Refusal, Score, Table};
 
 /// What is asked, as it is written in the words of the command: a name and two bounds.

@@ -20,7 +20,6 @@ mod place;
 mod primer;
 mod progress;
 mod read;
-mod region;
 mod sheet;
 mod twins;
 mod unusual;

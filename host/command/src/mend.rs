@@ -55,7 +55,7 @@ pub fn base(word: &[u8]) -> Result<u8, Failure> {
         words: format!("'{}' can't be written as a base: {why}", byte.escape_ascii()),
         shown: String::new(),
         next: "nothing was changed; write the file anew if its lines are to change".to_string(),
-        refusal: Refusal { number: 30, first: 0, second: 0, call: Call::WriteRecord },
+        refusal: Refusal::new(Call::WriteRecord, 30, 0, 0),
         file: String::new(),
         place: None,
         region: None,

@@ -2,6 +2,8 @@
 
 use wakeluri::Table;
 use wakeluri::entry::ROW_BYTES;
+use wakeluri::shown::is_unseen;
+pub use wakeluri::shown::{commas, count, quoted, short};
 
 /// A line of a file.
 #[derive(Clone, Copy, Debug, Eq, PartialEq)]
@@ -123,58 +125,12 @@ pub fn said([position, line_bases, line_width]: [u64; 3], base: u64) -> Option<u
     position.checked_add(lines)?.checked_add(before.checked_rem(line_bases)?)
 }
 
-/// A name or some bytes in a message: letters as they are, all else escaped.
-pub fn quoted(bytes: &[u8]) -> String {
-    match std::str::from_utf8(bytes) {
-        Ok(text) if !text.chars().any(is_unseen) => text.to_string(),
-        _ => bytes.escape_ascii().to_string(),
-    }
-}
-
-/// Whether a letter is none that is seen, but changes how others are: a control byte, or a mark that turns or joins text.
-fn is_unseen(letter: char) -> bool {
-    let mark =
-        matches!(letter, '\u{200b}'..='\u{200f}' | '\u{2028}'..='\u{202e}' | '\u{2060}'..='\u{2069}' | '\u{feff}');
-    letter.is_control() || mark
-}
-
 /// A message, whose lines end in LF, without other letters that are not seen.
 pub fn seen(text: &str) -> String {
     let escaped = |letter: char| letter.escape_default().collect::<String>();
     text.chars()
         .map(|letter| if letter != '\n' && is_unseen(letter) { escaped(letter) } else { letter.into() })
         .collect()
-}
-
-/// A name or some bytes in a message, of which a person sees the start where they are long.
-pub fn short(bytes: &[u8]) -> String {
-    const SHOWN: usize = 100;
-    let all = quoted(bytes);
-    match all.char_indices().nth(SHOWN) {
-        None => all,
-        Some(_) => {
-            let start: String = all.chars().take(SHOWN * 3 / 4).collect();
-            format!("{start}.. ({})", count(bytes.len() as u64, "byte"))
-        }
-    }
-}
-
-/// A number with commas.
-pub fn commas(number: u64) -> String {
-    let digits = number.to_string();
-    let mut told = String::new();
-    for (place, digit) in digits.chars().enumerate() {
-        if place > 0 && (digits.len() - place) % 3 == 0 {
-            told.push(',');
-        }
-        told.push(digit);
-    }
-    told
-}
-
-/// So many of a thing: "1 base", "2 bases".
-pub fn count(number: u64, thing: &str) -> String {
-    format!("{} {thing}{}", commas(number), if number == 1 { "" } else { "s" })
 }
 
 #[cfg(test)]

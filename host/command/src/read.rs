@@ -9,9 +9,9 @@ use crate::names::wanted_names;
 use crate::nearest::nearest;
 use crate::output::{Answers, failed};
 use crate::place::{commas, count, quoted, short};
-use crate::region::{Meaning, Number, Reading, Written, is_before_a_colon, meaning, plain_form, readings};
 use crate::warning::Warning;
 use std::ops::Range;
+use wakeluri::region::{Meaning, Number, Reading, Written, is_before_a_colon, meaning, plain_form, readings};
 use wakeluri::{Bounds, Call, Names, Refusal, Row, SHEET_REGIONS, Sheet, Table, Window, Writer};
 
 /// The bases that are read at a time.
@@ -184,7 +184,7 @@ impl Source<'_> {
 
     /// A region's row and bounds, or why it isn't good.
     fn resolve<'a>(self, asked: Asked<'a>, names: &Names<'_, '_>, look: bool) -> Result<Region<'a>, Failure> {
-        let no = |number, first| Refusal { number, first, second: 0, call: Call::ReadExact };
+        let no = |number, first| Refusal::new(Call::ReadExact, number, first, 0);
         let meaning = match (asked.row, asked.named) {
             (Some(row), _) => Meaning::Row(row, Written::default()),
             (_, Some(Named { name, start, end })) => {
@@ -381,7 +381,8 @@ impl Source<'_> {
         bases.and_then(|bases| turn.turned(bases)).map_err(|refusal| {
             // places are told as places in the region
             let before = if refusal.number == 24 { from - region.start } else { 0 };
-            let refusal = Refusal { first: refusal.first.saturating_add(before), ..refusal };
+            let Refusal { call, number, first, second, .. } = refusal;
+            let refusal = Refusal::new(call, number, first.saturating_add(before), second);
             let written = Written::of(format!("{}-{}", region.start, region.end).as_bytes()).unwrap_or_default();
             self.not_read(region.asked, region.row, &written, refusal)
         })

@@ -153,7 +153,7 @@ impl<'w> Wrapping<'w> {
 fn mended(content: &[u8]) -> Option<Definition<'_>> {
     let rest = content.strip_prefix(b">")?.trim_ascii_start();
     let meant = [b">", rest].concat();
-    let Definition { name, description } = wakeluri::definition_content(&meant).ok()?;
+    let Definition { name, description, .. } = wakeluri::definition_content(&meant).ok()?;
     // the same parts of the line itself, which lies one byte behind
     let part = |part: &[u8]| {
         let start = (part.as_ptr().addr() - meant.as_ptr().addr()).checked_sub(1)?;
@@ -163,5 +163,5 @@ fn mended(content: &[u8]) -> Option<Definition<'_>> {
         Some(description) => Some(part(description)?),
         None => None,
     };
-    Some(Definition { name: part(name)?, description })
+    Some(Definition::new(part(name)?, description))
 }

@@ -1,6 +1,6 @@
 //! The bounds of a region.
 
-use std::ops::{RangeFrom, RangeFull, RangeInclusive, RangeToInclusive};
+use core::ops::{RangeFrom, RangeFull, RangeInclusive, RangeToInclusive};
 
 /// Which bases of a record are meant: from a first to a last one, counted from 1, both of them included.
 ///

@@ -3,7 +3,8 @@
 use crate::refusal::Call;
 use crate::table::{counted, with_room};
 use crate::{Bounds, Refusal, Table, entry};
-use std::fmt;
+use alloc::vec::Vec;
+use core::fmt;
 
 /// The edition of an exercise: the rule of what is right.
 #[derive(Clone, Copy, Debug, Eq, Hash, Ord, PartialEq, PartialOrd)]
@@ -169,7 +170,7 @@ impl Table<'_> {
     /// As [`Table::score`], with the key that what was typed was counted against.
     pub fn score_with_key(&self, fasta: &[u8], exercise: &[u8], typed: &[u8]) -> Result<(Score, Vec<u8>), Refusal> {
         let likely = read_exercise(exercise).map_or(0, |asked| Bounds::from(asked.start..=asked.end).bases());
-        let score = std::cell::Cell::new(None);
+        let score = core::cell::Cell::new(None);
         let key = with_room(likely, |room| {
             let told = self.score_into(fasta, exercise, typed, room)?;
             score.set(Some(told));

@@ -11,6 +11,7 @@ macro_rules! structs {
         $(#[$doc])*
         #[repr(C)]
         #[derive(Clone, Copy, Debug, Default, Eq, PartialEq)]
+        #[non_exhaustive]
         #[allow(missing_docs)]
         pub struct $name {
             pub refusal: u64,
@@ -38,7 +39,7 @@ macro_rules! structs {
 crate::answers!(structs);
 
 /// The numbers of a row of a table: those of a [`Row`] from `name_start` on.
-pub const ROW_WORDS: usize = (size_of::<Row>() - std::mem::offset_of!(Row, name_start)) / size_of::<u64>();
+pub const ROW_WORDS: usize = (size_of::<Row>() - core::mem::offset_of!(Row, name_start)) / size_of::<u64>();
 
 /// The bytes of a row of a table.
 pub const ROW_BYTES: usize = ROW_WORDS * size_of::<u64>();
@@ -47,7 +48,7 @@ impl Row {
     /// The numbers of the row, as a table has them.
     pub fn row(&self) -> [u64; ROW_WORDS] {
         let numbers = self.numbers();
-        std::array::from_fn(|word| numbers[Self::NUMBERS - ROW_WORDS + word])
+        core::array::from_fn(|word| numbers[Self::NUMBERS - ROW_WORDS + word])
     }
 }
 

@@ -3,13 +3,15 @@
 use crate::entry::{self, ROW_BYTES};
 use crate::refusal::Call;
 use crate::{Refusal, Table};
-use std::collections::VecDeque;
+use alloc::collections::VecDeque;
+use alloc::vec::Vec;
+#[cfg(feature = "std")]
 use std::io::{self, Write};
 
 /// How many bytes are fed at a time: so much room for rows is made before.
 const PIECE: usize = 1 << 16;
 
-/// Indexes a file while it arrives, in any pieces: it is a [`Write`], so [`io::copy`] feeds it. Rows and refusals are those of one
+/// Indexes a file while it arrives, in any pieces: it is a [`std::io::Write`], so [`std::io::copy`] feeds it. Rows and refusals are those of one
 /// call on the whole file. It keeps the rows, the names and descriptions of the rows so far, and the definition line on its way.
 ///
 /// ```
@@ -161,6 +163,7 @@ impl Feeder {
     }
 }
 
+#[cfg(feature = "std")]
 impl Write for Feeder {
     fn write(&mut self, piece: &[u8]) -> io::Result<usize> {
         self.feed(piece).map_err(|refusal| io::Error::new(io::ErrorKind::InvalidData, refusal))?;

@@ -30,7 +30,28 @@
 //! The work is done by a static library of proved code; this crate makes it safe and comfortable to call, and adds nothing else.
 //! [`entry`] has the calls as they are. No call panics, whatever it is given, and none copies the file.
 
+//!
+//! # Which call
+//!
+//! | To | |
+//! |---|---|
+//! | open a file with its index, and read from it in any thread | [`Fasta`] |
+//! | have an index of bytes in memory, or of another's text | [`index`], [`read_index`], [`check`], [`Table`] |
+//! | read regions as people write them | [`Fasta::read`], [`region`] |
+//! | write FASTA | [`Writer`], [`write_record`] |
+//! | know why there is no answer | [`Refusal`], and [`Reason`] for a `match` |
+//! | come from noodles-fasta | [`noodles`] |
+//!
+//! # Features
+//!
+//! `std`, which is on if nothing else is said, brings [`Fasta`], [`Writer`] and [`noodles`], which need files and streams. Without it the
+//! crate needs `alloc` alone.
+
+#![cfg_attr(not(feature = "std"), no_std)]
 #![deny(unsafe_code)]
+
+#[cfg_attr(not(feature = "std"), macro_use)]
+extern crate alloc;
 
 mod bounds;
 mod course;
@@ -69,7 +90,22 @@ pub use text::{
 };
 
 pub use window::{ReadError, Window};
-pub use writer::{Writer, write_record, write_record_into, write_sequence_into};
+#[cfg(feature = "std")]
+pub use writer::Writer;
+pub use writer::{write_record, write_record_into, write_sequence_into};
 
 /// The identity of the kit that the linked library was proved with.
 pub const PROVED_WITH: &str = env!("WAKELURI_KIT");
+
+// what an app has over these: a file that it opens, refusals as cases, regions as people write them, noodles' names
+#[cfg(feature = "std")]
+pub mod fasta;
+#[cfg(feature = "std")]
+pub mod noodles;
+mod reason;
+pub mod region;
+pub mod shown;
+
+#[cfg(feature = "std")]
+pub use fasta::{Error, Fasta};
+pub use reason::Reason;

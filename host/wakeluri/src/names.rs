@@ -4,7 +4,10 @@ use crate::entry::ROW_BYTES;
 use crate::refusal::Call;
 use crate::table::counted;
 use crate::{Refusal, Row, Table, entry};
-use std::collections::HashMap;
+#[cfg(not(feature = "std"))]
+use alloc::collections::BTreeMap as Map;
+#[cfg(feature = "std")]
+use std::collections::HashMap as Map;
 
 /// The first row that has a name, and the second.
 #[derive(Clone, Copy, Debug)]
@@ -37,13 +40,15 @@ struct Rows {
 #[derive(Clone, Debug)]
 pub struct Names<'t, 'n> {
     table: &'t Table<'n>,
-    rows: HashMap<&'n [u8], Rows>,
+    rows: Map<&'n [u8], Rows>,
 }
 
 impl<'t, 'n> Names<'t, 'n> {
     /// Walks over a table once, and keeps the rows of all names.
     pub fn new(table: &'t Table<'n>) -> Self {
-        let mut names = Self { table, rows: HashMap::with_capacity(table.rows().len()) };
+        let mut names = Self { table, rows: Map::default() };
+        #[cfg(feature = "std")]
+        names.rows.reserve(table.rows().len());
         names.fill(|_| true);
         names
     }
@@ -60,7 +65,7 @@ impl<'t, 'n> Names<'t, 'n> {
     /// # Ok::<(), wakeluri::Refusal>(())
     /// ```
     pub fn of_some(table: &'t Table<'n>, may_be_asked_for: impl Fn(&[u8]) -> bool) -> Self {
-        let mut names = Self { table, rows: HashMap::new() };
+        let mut names = Self { table, rows: Map::default() };
         names.fill(may_be_asked_for);
         names
     }

@@ -2,7 +2,7 @@
 
 use crate::refusal::Call;
 use crate::{Refusal, entry};
-use std::iter::FusedIterator;
+use core::iter::FusedIterator;
 
 /// How many plain sequences a primer of 1 to 31 letters stands for. Refuses 1, 36, 37.
 ///

@@ -1,7 +1,9 @@
 //! Why a call gave no answer, in numbers and in words.
 
-use std::error::Error;
-use std::fmt;
+use crate::reason::Reason;
+use alloc::string::{String, ToString};
+use core::error::Error;
+use core::fmt;
 
 /// What was asked for when it was refused. The two numbers of some refusals mean different things in different calls.
 #[derive(Clone, Copy, Debug, Eq, PartialEq)]
@@ -51,7 +53,10 @@ pub enum Call {
 /// assert_eq!(refusal.to_string(), "the record has 6 bases, and the region goes past them: refused 17 (length 6)");
 /// # Ok::<(), wakeluri::Refusal>(())
 /// ```
+///
+/// [`Refusal::reason`] gives it as a case with named numbers, for a `match`.
 #[derive(Clone, Copy, Debug, Eq, PartialEq)]
+#[non_exhaustive]
 pub struct Refusal {
     /// The number, from 1.
     pub number: u64,
@@ -75,6 +80,22 @@ fn column(field: u64) -> &'static str {
 }
 
 impl Refusal {
+    /// A refusal by its numbers, for whoever judges in place of a call.
+    pub const fn new(call: Call, number: u64, first: u64, second: u64) -> Self {
+        Self { number, first, second, call }
+    }
+
+    /// Why, as a case with named numbers.
+    ///
+    /// ```
+    /// use wakeluri::Reason;
+    /// let refusal = wakeluri::index(b">s\nACGT\n>\nAC\n").unwrap_err();
+    /// assert_eq!(refusal.reason(), Reason::NoName { record: None, offset: 9 });
+    /// ```
+    pub fn reason(&self) -> Reason {
+        Reason::of(self)
+    }
+
     /// The refusal of an answer's three numbers, if there is one.
     pub(crate) fn of(call: Call, number: u64, first: u64, second: u64) -> Result<(), Self> {
         if number == 0 { Ok(()) } else { Err(Self { number, first, second, call }) }

@@ -1,6 +1,6 @@
 //! A row of a table, as it is handed from a look-up to the reads.
 
-use std::sync::atomic::{AtomicU64, Ordering};
+use core::sync::atomic::{AtomicU64, Ordering};
 
 /// Which table a row is of. A table and its clones are one; any other that is made has another number, from 1.
 #[derive(Clone, Copy, Debug, Eq, Hash, PartialEq)]

@@ -4,8 +4,9 @@ use crate::refusal::Call;
 use crate::row::Row;
 use crate::table::{FIRST_ROOM, room};
 use crate::{Bounds, Refusal, Table, entry};
-use std::error::Error;
-use std::fmt;
+use alloc::vec::Vec;
+use core::error::Error;
+use core::fmt;
 
 /// The most regions of a sheet.
 pub const SHEET_REGIONS: usize = 200;

@@ -4,12 +4,14 @@ use crate::entry::{ROW_BYTES, ROW_WORDS};
 use crate::refusal::Call;
 use crate::row::{Identity, Row};
 use crate::{Bounds, Refusal, entry};
+use alloc::vec::Vec;
 
 /// A table of this many rows is tried first: enough for most files, and so small that it costs little beside any.
 const FIRST_ROWS: usize = 1 << 10;
 
 /// What an index says of one record.
 #[derive(Clone, Copy, Debug, Eq, PartialEq)]
+#[non_exhaustive]
 pub struct Record<'n> {
     /// Its name.
     pub name: &'n [u8],
@@ -232,6 +234,7 @@ impl<'n> Table<'n> {
     }
 
     /// A table of one row: a name, and the numbers of its index line.
+    #[cfg(feature = "std")]
     pub(crate) fn of_one(name: &'n [u8], [length, position, line_bases, line_width]: [u64; 4]) -> Self {
         let row = entry::Row {
             name_length: name.len() as u64,
@@ -257,6 +260,11 @@ impl<'n> Table<'n> {
     /// The rows as bytes.
     pub fn as_bytes(&self) -> &[u8] {
         &self.bytes
+    }
+
+    /// The rows as bytes, and no longer a table: [`Table::from_bytes`] makes one of them again.
+    pub fn into_bytes(self) -> Vec<u8> {
+        self.bytes
     }
 
     /// The bytes that names are parts of.
@@ -491,7 +499,7 @@ pub(crate) fn room(bytes: u64) -> Option<Vec<u8>> {
     let mut tried = Vec::<u8>::new();
     tried.try_reserve_exact(bytes).ok()?;
     // the compiler may not drop the trial
-    std::hint::black_box(&tried);
+    core::hint::black_box(&tried);
     drop(tried);
     Some(vec![0; bytes])
 }

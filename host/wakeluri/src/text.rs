@@ -3,14 +3,23 @@
 use crate::refusal::Call;
 use crate::table::{Record, counted, with_room};
 use crate::{Refusal, entry};
+use alloc::vec::Vec;
 
 /// What a definition line says.
 #[derive(Clone, Copy, Debug, Eq, PartialEq)]
+#[non_exhaustive]
 pub struct Definition<'t> {
     /// The name: what follows '>', up to the first whitespace.
     pub name: &'t [u8],
     /// The rest, without whitespace at its ends, if anything is left.
     pub description: Option<&'t [u8]>,
+}
+
+impl<'t> Definition<'t> {
+    /// A definition of a name and, where there is one, a description. Nothing is judged here.
+    pub const fn new(name: &'t [u8], description: Option<&'t [u8]>) -> Self {
+        Self { name, description }
+    }
 }
 
 /// A part of some bytes, by its place; nothing where it isn't there.
@@ -89,7 +98,7 @@ pub fn read_sequence_limit(file: &[u8], at: u64, limit: u64) -> Result<(Vec<u8>,
 }
 
 fn scanned(likely: u64, read: impl Fn(&mut [u8]) -> entry::Answer) -> Result<(Vec<u8>, u64), Refusal> {
-    let next = std::cell::Cell::new(0);
+    let next = core::cell::Cell::new(0);
     let bases = with_room(likely, |out| {
         let answer = read(out);
         next.set(answer.next);

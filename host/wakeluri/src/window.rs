@@ -3,10 +3,12 @@
 use crate::refusal::Call;
 use crate::table::{counted, with_room};
 use crate::{Bounds, Refusal, Row, Table, entry};
-use std::error::Error;
-use std::fmt;
+use alloc::vec::Vec;
+use core::error::Error;
+use core::fmt;
+use core::ops::Range;
+#[cfg(feature = "std")]
 use std::io::{self, Read, Seek, SeekFrom};
-use std::ops::Range;
 
 /// Some bytes of a file, and where in it they lie.
 ///
@@ -139,6 +141,7 @@ impl Table<'_> {
     /// assert_eq!(bases.unwrap(), b"TA");
     /// # Ok::<(), wakeluri::Refusal>(())
     /// ```
+    #[cfg(feature = "std")]
     pub fn read_sought(
         &self,
         file: &mut (impl Read + Seek),

@@ -1,8 +1,12 @@
 //! FASTA written: a record in one call, or a file of any size, piece by piece, with its index.
 
 use crate::refusal::Call;
-use crate::table::{Table, counted, with_known_room};
+#[cfg(feature = "std")]
+use crate::table::Table;
+use crate::table::{counted, with_known_room};
 use crate::{Refusal, entry};
+use alloc::vec::Vec;
+#[cfg(feature = "std")]
 use std::io::{self, Write};
 
 /// A FASTA record: its definition line, and its bases in lines of a width. Refuses 1, 27 to 30.
@@ -53,6 +57,7 @@ pub fn write_sequence_into(bases: &[u8], width: u64, out: &mut [u8]) -> Result<u
 }
 
 /// About so many bytes are written at a time, in whole lines.
+#[cfg(feature = "std")]
 const PIECE: u64 = 1 << 16;
 
 /// Writes FASTA records of any size to any place, in lines of one width, and makes their index on the way if it is asked to.
@@ -73,6 +78,7 @@ const PIECE: u64 = 1 << 16;
 /// assert_eq!(index, b"s\t8\t13\t4\t5\nt\t2\t26\t2\t3\n");
 /// # Ok::<(), std::io::Error>(())
 /// ```
+#[cfg(feature = "std")]
 #[derive(Debug)]
 pub struct Writer<W> {
     to: W,
@@ -89,6 +95,7 @@ pub struct Writer<W> {
     index: Option<Vec<u8>>,
 }
 
+#[cfg(feature = "std")]
 impl<W: Write> Writer<W> {
     /// Nothing is written yet, and no index is made. A width of 0 is refused with the first record (27).
     pub fn new(to: W, width: u64) -> Self {
@@ -183,6 +190,7 @@ impl<W: Write> Writer<W> {
     }
 }
 
+#[cfg(feature = "std")]
 fn refused(refusal: Refusal) -> io::Error {
     io::Error::new(io::ErrorKind::InvalidInput, refusal)
 }

@@ -404,7 +404,7 @@ fn complements() {
 fn every_refusal_has_words() {
     for number in (1..=25).chain([42]) {
         for call in [wakeluri::Call::Index, wakeluri::Call::Check, wakeluri::Call::ReadIndex] {
-            let told = wakeluri::Refusal { number, first: 3, second: 4, call }.to_string();
+            let told = wakeluri::Refusal::new(call, number, 3, 4).to_string();
             assert!(!told.contains("no words for"), "{told}");
             assert!(told.contains(&format!(": refused {number}")), "{told}");
         }

@@ -2,7 +2,7 @@
 
 use std::io::{self, Read, Write};
 use std::time::Duration;
-use wakeluri::entry::{self, Feed, ROW_BYTES};
+use wakeluri::entry::{self, ROW_BYTES};
 use wakeluri::{Feeder, index, index_strict};
 
 const ROWS: usize = 3;
@@ -72,12 +72,14 @@ fn refusals_stay() {
 #[test]
 fn a_state_that_no_call_leaves_is_refused() {
     let mut table = vec![7; ROW_BYTES];
-    let far = Feed { total: u64::MAX, ..entry::feed_start(1) };
+    let mut far = entry::feed_start(1);
+    far.total = u64::MAX;
     assert_eq!(entry::feed_piece(far, b">", &mut table).no(), Some([1, 0, 0]));
-    let far = Feed { total: 1 << 40, ..entry::feed_start(1) };
+    far.total = 1 << 40;
     assert_eq!(entry::feed_piece(far, b">", &mut table).no(), Some([1, 0, 0]));
     assert_eq!(entry::feed_end(far, &mut table).no(), None);
-    let odd = Feed { stage: 1, lines: 2, ..entry::feed_start(1) };
+    let mut odd = entry::feed_start(1);
+    (odd.stage, odd.lines) = (1, 2);
     assert_eq!(entry::feed_end(odd, &mut table).no(), Some([1, 0, 0]));
     assert_eq!(table, vec![7; ROW_BYTES]);
 }

@@ -261,9 +261,102 @@ static void levels(void) {
     MUST(wakeluri_use_level(0) == best);
 }
 
-int main(void) {
+/* NULL stands for no bytes wherever the length is 0, in every call. */
+static void nothing_at_null(void) {
+    const uint64_t numbers[8] = {0, 0, 1, 0, 1, 2, 0, 0};
+    uint8_t table[ROW_BYTES];
+    put_row(table, numbers);
+#define GIVES(call, number) MUST((call).refusal == (number))
+    GIVES(wakeluri_definition_line(NULL, 0), WAKELURI_EMPTY_DEFINITION);
+    GIVES(wakeluri_definition_content(NULL, 0), WAKELURI_EMPTY_DEFINITION);
+    GIVES(wakeluri_read_line(NULL, 0, 0), WAKELURI_FINE);
+    GIVES(wakeluri_read_line(NULL, 0, UINT64_MAX), WAKELURI_FINE);
+    GIVES(wakeluri_read_run(NULL, 0, 0), WAKELURI_FINE);
+    GIVES(wakeluri_read_sequence(NULL, 0, 0, NULL, 0), WAKELURI_FINE);
+    GIVES(wakeluri_read_sequence(BYTES("AC"), 0, NULL, 0), WAKELURI_NO_ROOM);
+    GIVES(wakeluri_read_sequence_limit(NULL, 0, 0, 9, NULL, 0), WAKELURI_FINE);
+    GIVES(wakeluri_index_record(NULL, 0, 0), WAKELURI_FINE);
+    GIVES(wakeluri_index_file(NULL, 0, NULL, 0), WAKELURI_FINE);
+    GIVES(wakeluri_index_file(BYTES(fasta), NULL, 0), WAKELURI_TABLE_FULL);
+    GIVES(wakeluri_index_complete(NULL, 0, NULL, 0), WAKELURI_FINE);
+    GIVES(wakeluri_index_complete(BYTES(fasta), NULL, 0), WAKELURI_TABLE_FULL);
+    GIVES(wakeluri_index_line(NULL, 0), WAKELURI_EMPTY_INDEX_LINE);
+    GIVES(wakeluri_index_content(NULL, 0), WAKELURI_EMPTY_INDEX_LINE);
+    GIVES(wakeluri_read_index(NULL, 0, NULL, 0), WAKELURI_FINE);
+    GIVES(wakeluri_read_index(BYTES("s\t6\t7\t4\t5\n"), NULL, 0), WAKELURI_TABLE_FULL);
+    GIVES(wakeluri_write_index_line(NULL, 0, NULL, 0, 0, 0, NULL, 0), WAKELURI_BAD_ROW);
+    GIVES(wakeluri_write_index_line(NULL, 0, table, sizeof table, 1, 0, NULL, 0), WAKELURI_NO_ROOM);
+    GIVES(wakeluri_find(NULL, 0, NULL, 0, 0, NULL, 0), WAKELURI_NAME_UNKNOWN);
+    GIVES(wakeluri_find(NULL, 0, table, sizeof table, 1, NULL, 0), WAKELURI_FINE);
+    GIVES(wakeluri_read_exact(NULL, 0, NULL, 0, 0, 0, 0, 0, 0, 0, NULL, 0), WAKELURI_BAD_ROW);
+    GIVES(wakeluri_read_exact(NULL, 0, table, sizeof table, 1, 0, 0, 0, 0, 0, NULL, 0), WAKELURI_NO_ROOM);
+    GIVES(wakeluri_read_raw(NULL, 0, NULL, 0, 0, 0, 0, 0, 0, 0, NULL, 0), WAKELURI_BAD_ROW);
+    GIVES(wakeluri_read_raw(NULL, 0, table, sizeof table, 1, 0, 0, 0, 0, 0, NULL, 0), WAKELURI_FINE);
+    GIVES(wakeluri_complement(NULL, 0, NULL, 0), WAKELURI_FINE);
+    GIVES(wakeluri_complement(BYTES("A"), NULL, 0), WAKELURI_NO_ROOM);
+    GIVES(wakeluri_reverse_complement(NULL, 0, NULL, 0), WAKELURI_FINE);
+    GIVES(wakeluri_write_record(NULL, 0, 0, NULL, 0, NULL, 0, 4, NULL, 0), WAKELURI_NAME_UNFIT);
+    GIVES(wakeluri_write_record(BYTES("s"), 0, NULL, 0, NULL, 0, 4, NULL, 0), WAKELURI_NO_ROOM);
+    GIVES(wakeluri_write_record(BYTES("s"), 1, NULL, 0, NULL, 0, 4, NULL, 0), WAKELURI_DESCRIPTION_UNFIT);
+    GIVES(wakeluri_write_sequence(NULL, 0, 4, NULL, 0), WAKELURI_FINE);
+    GIVES(wakeluri_degeneracy(NULL, 0), WAKELURI_PRIMER_LENGTH);
+    GIVES(wakeluri_find_primer(NULL, 0, NULL, 0, 0), WAKELURI_PRIMER_LENGTH);
+    GIVES(wakeluri_find_primer(BYTES("A"), NULL, 0, 0), WAKELURI_FINE);
+    GIVES(wakeluri_read_exercise(NULL, 0), WAKELURI_MALFORMED_EXERCISE);
+    GIVES(wakeluri_write_exercise(NULL, 0, 1, 1, 1, NULL, 0), WAKELURI_NO_ROOM);
+    GIVES(wakeluri_score_typed(NULL, 0, NULL, 0, 1), WAKELURI_FINE);
+    GIVES(wakeluri_check(NULL, 0, NULL, 0), WAKELURI_FINE);
+    GIVES(wakeluri_check(BYTES(fasta), NULL, 0), WAKELURI_LINE_ABSENT);
+}
+
+/* What wakeluri_host.h has: rows, regions, words and the version. */
+static void around_the_calls(void) {
+    uint8_t table[2 * ROW_BYTES], out[8] = "........";
+    struct wakeluri_answer a = wakeluri_index_file(BYTES(fasta), table, sizeof table);
+    MUST(a.refusal == WAKELURI_FINE && a.count == 2 && WAKELURI_ROW_BYTES == ROW_BYTES);
+    struct wakeluri_numbers n = wakeluri_numbers_of(table, sizeof table, 0);
+    MUST(n.name_start == 1 && n.name_length == 1 && n.length == 6 && n.position == 7 && n.line_bases == 4 && n.line_width == 5);
+    MUST(n.description_start == 3 && n.description_length == 3 && memcmp(fasta + n.description_start, "one", 3) == 0);
+    n = wakeluri_numbers_of(table, sizeof table, 1);
+    MUST(n.length == 2 && n.position == 18 && n.description_length == 0);
+    n = wakeluri_numbers_of(table, sizeof table, 2);
+    MUST(n.name_length == 0 && n.line_bases == 0);
+    n = wakeluri_numbers_of(NULL, 0, UINT64_MAX);
+    MUST(n.length == 0);
+
+    const struct wakeluri_rows of = {BYTES(fasta), table, sizeof table, 2};
+    const struct wakeluri_region region = {0, 1, 4, 1, 5}, past = {0, 1, 5, 1, 7}, whole = {1, 0, 0, 0, 0};
+    a = wakeluri_read_region(&of, &region, out, sizeof out);
+    MUST(a.refusal == WAKELURI_FINE && a.count == 2 && memcmp(out, "TA.", 3) == 0);
+    a = wakeluri_read_region(&of, &past, out, sizeof out);
+    MUST(a.refusal == WAKELURI_PAST_LENGTH && a.first == 6);
+    a = wakeluri_read_region(&of, &whole, out, sizeof out);
+    MUST(a.refusal == WAKELURI_FINE && a.count == 2 && memcmp(out, "GG.", 3) == 0);
+    memset(out, '.', sizeof out);
+    const struct wakeluri_record first = {&of, 0}, none = {&of, 2};
+    MUST(wakeluri_read_bases(&first, 2, 4, out) == WAKELURI_FINE && memcmp(out, "CGT.", 4) == 0);
+    MUST(wakeluri_read_bases(&first, 5, 7, out) == WAKELURI_PAST_LENGTH && memcmp(out, "CGT.", 4) == 0);
+    MUST(wakeluri_read_bases(&first, 5, 4, NULL) == WAKELURI_BAD_BOUNDS);
+    MUST(wakeluri_read_bases(&first, 0, UINT64_MAX, NULL) == WAKELURI_BAD_BOUNDS);
+    MUST(wakeluri_read_bases(&none, 1, 1, out) == WAKELURI_BAD_ROW);
+    MUST(wakeluri_read_near(&first, 1, 2, out) == WAKELURI_FINE && memcmp(out, "ACT.", 4) == 0);
+    MUST(wakeluri_read_near(&first, 6, 7, out) == WAKELURI_PAST_LENGTH);
+
+    MUST(wakeluri_version() == WAKELURI_VERSION && wakeluri_form() == WAKELURI_FORM && wakeluri_fits());
+    MUST(strcmp(wakeluri_words(WAKELURI_NAME_UNKNOWN), "no record has that name") == 0);
+}
+
+/* With the word `words`, what each number says, for the test in Rust. */
+int main(int count, char **words) {
+    if (count > 1 && strcmp(words[1], "words") == 0) {
+        printf("%s\n", WAKELURI_VERSION_TEXT);
+        for (uint64_t number = 0; number < 60; number++) printf("%s\n", wakeluri_words(number));
+        return 0;
+    }
     ordinary_calls();
     levels();
+    nothing_at_null();
+    around_the_calls();
     beyond_the_limit();
     return 0;
 }

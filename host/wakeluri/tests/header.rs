@@ -25,9 +25,36 @@ fn compiler() -> Command {
 fn calls_from_c_are_answered() {
     let program = Path::new(env!("CARGO_TARGET_TMPDIR")).join("header");
     let source = Path::new(env!("CARGO_MANIFEST_DIR")).join("tests/header.c");
+    let around = root().join("host/c/wakeluri.c");
     let warnings = ["-std=c11", "-Wall", "-Wextra", "-pedantic", "-Werror"];
-    run(compiler().args(warnings).arg("-o").arg(&program).arg(source).arg(env!("WAKELURI_LINKED")));
-    run(&mut Command::new(program));
+    run(compiler().args(warnings).arg("-o").arg(&program).arg(source).arg(around).arg(env!("WAKELURI_LINKED")));
+    run(&mut Command::new(&program));
+
+    // in C and in Rust a refusal has the same words, and both are of one version
+    let said = Command::new(program).arg("words").output().expect("words").stdout;
+    let said = String::from_utf8(said).expect("text");
+    let mut lines = said.lines();
+    assert_eq!(lines.next(), Some(env!("CARGO_PKG_VERSION")));
+    for (number, words) in lines.enumerate() {
+        assert_eq!(words, wakeluri::Reason::words_of(number as u64));
+    }
+}
+
+/// The refusals by name are those of Rust, and the version is the crate's.
+#[test]
+fn constants_of_the_header_are_those_of_rust() {
+    let header = std::fs::read_to_string(root().join("include/wakeluri_host.h")).expect("the header");
+    let constant = |line: &str| -> Option<(String, u64)> {
+        let (name, rest) = line.trim().strip_prefix("WAKELURI_")?.split_once(" = ")?;
+        Some((name.replace('_', "").to_lowercase(), rest.split_once(',')?.0.parse().ok()?))
+    };
+    let constants: Vec<(String, u64)> = header.lines().filter_map(constant).collect();
+    let reason = |number| wakeluri::Refusal::new(wakeluri::Call::Check, number, 0, 0).reason();
+    let named = (1..=wakeluri::Reason::LAST).map(|number| (reason(number).name().to_lowercase(), number));
+    assert_eq!(constants, [("fine".to_string(), 0)].into_iter().chain(named).collect::<Vec<_>>());
+    let number = |text: &str| text.split('.').fold(0, |sum, part| sum * 100 + part.parse::<u64>().expect("a number"));
+    let version = format!("#define WAKELURI_VERSION {}\n", number(env!("CARGO_PKG_VERSION")));
+    assert!(header.contains(&version), "{version}");
 }
 
 #[test]

@@ -254,7 +254,7 @@ const STATED: [&str; 2] = ["read_window", "needed_bytes"];
 
 /// No refusal, or one that the library has words for. That of size is only of a length that is stated: nothing so long is lent.
 fn has_words(call: &str, number: u64) -> bool {
-    let refusal = Refusal { number, first: 0, second: 0, call: Call::Check };
+    let refusal = Refusal::new(Call::Check, number, 0, 0);
     (number != 1 || STATED.contains(&call)) && (number == 0 || !refusal.words().contains("no words for"))
 }
 

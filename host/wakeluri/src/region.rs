@@ -1,38 +1,56 @@
 //! Regions as people write them: `name`, `name:5`, `name:5-`, `name:-9`, `name:5-9`, with thousands commas, `{name}:5-9`.
 //!
+//! ```
+//! use wakeluri::region::{Meaning, meaning};
+//! let table = wakeluri::index(b">chr1\nACGT\n>HLA:A\nAC\n")?;
+//! let find = |name: &[u8]| table.find(name).ok();
+//! let Meaning::Row(row, written) = meaning(b"chr1:2-1,000", find) else { panic!("a row") };
+//! assert_eq!((row.number(), written.bounds()), (0, Some((2..=1000).into())));
+//! let Meaning::Row(row, written) = meaning(b"HLA:A", find) else { panic!("a row") };
+//! assert_eq!((row.number(), written.bounds()), (1, Some((..).into())));
+//! # Ok::<(), wakeluri::Refusal>(())
+//! ```
+//!
 //! As in samtools, `name:5` is from base 5 to the end. A region may be read in three ways: as a name in braces, as a name, and as a
 //! name with bounds behind its last colon. It is answered where one of them leads to a record that exists. Where more than one does,
 //! nobody can know which is meant, and it is refused.
 
-use crate::place::short;
-use std::cmp::Ordering;
-use wakeluri::Row;
+use crate::shown::short;
+use crate::{Bounds, Row};
+use alloc::string::{String, ToString};
+use alloc::vec::Vec;
+use core::cmp::Ordering;
 
-/// A number as it is written: its digits without needless zeros, and its value where 64 bits hold it.
+/// A number as it is written: its value where 64 bits hold it, and else its digits without needless zeros.
 #[derive(Clone, Debug, Eq, PartialEq)]
 pub struct Number {
-    digits: String,
     /// The value, if 64 bits hold it.
     pub value: Option<u64>,
+    /// The digits, if they don't.
+    digits: String,
 }
 
 impl Number {
     /// Digits, with commas before each group of three or none.
     fn of(text: &str) -> Result<Self, String> {
-        let mut groups = text.split(',');
-        let first = groups.next().unwrap_or_default();
-        let rest: Vec<&str> = groups.collect();
         let all_digits = |part: &str| !part.is_empty() && part.bytes().all(|byte| byte.is_ascii_digit());
-        if !all_digits(first) || !rest.iter().all(|group| all_digits(group)) {
+        if all_digits(text) {
+            return Ok(Self::of_digits(text));
+        }
+        let (first, rest) = text.split_once(',').unwrap_or((text, ""));
+        if !all_digits(first) || !rest.split(',').all(all_digits) {
             return Err(format!("'{}' is no number", short(text.as_bytes())));
         }
-        if !rest.is_empty() && (first.len() > 3 || rest.iter().any(|group| group.len() != 3)) {
+        if first.len() > 3 || rest.split(',').any(|group| group.len() != 3) {
             return Err(format!("the commas of '{}' don't part its digits in threes", short(text.as_bytes())));
         }
-        let digits = text.replace(',', "");
-        let digits = digits.trim_start_matches('0');
-        let digits = if digits.is_empty() { "0" } else { digits };
-        Ok(Self { digits: digits.to_string(), value: digits.parse().ok() })
+        Ok(Self::of_digits(&text.replace(',', "")))
+    }
+
+    fn of_digits(digits: &str) -> Self {
+        let value = digits.parse().ok();
+        let kept = if value.is_some() { "" } else { digits.trim_start_matches('0') };
+        Self { value, digits: kept.to_string() }
     }
 }
 
@@ -44,13 +62,21 @@ impl PartialOrd for Number {
 
 impl Ord for Number {
     fn cmp(&self, other: &Self) -> Ordering {
-        self.digits.len().cmp(&other.digits.len()).then_with(|| self.digits.cmp(&other.digits))
+        match (self.value, other.value) {
+            (Some(value), Some(other)) => value.cmp(&other),
+            (Some(_), None) => Ordering::Less,
+            (None, Some(_)) => Ordering::Greater,
+            (None, None) => self.digits.len().cmp(&other.digits.len()).then_with(|| self.digits.cmp(&other.digits)),
+        }
     }
 }
 
-impl std::fmt::Display for Number {
-    fn fmt(&self, f: &mut std::fmt::Formatter<'_>) -> std::fmt::Result {
-        f.write_str(&self.digits)
+impl core::fmt::Display for Number {
+    fn fmt(&self, f: &mut core::fmt::Formatter<'_>) -> core::fmt::Result {
+        match self.value {
+            Some(value) => value.fmt(f),
+            None => f.write_str(&self.digits),
+        }
     }
 }
 
@@ -66,7 +92,10 @@ pub struct Written {
 impl Written {
     /// What stands after the colon.
     pub fn of(text: &[u8]) -> Result<Self, String> {
-        let text = std::str::from_utf8(text).map_err(|_| "the bounds are no text".to_string())?;
+        if let Some(written) = Self::of_plain(text) {
+            return Ok(written);
+        }
+        let text = core::str::from_utf8(text).map_err(|_| "the bounds are no text".to_string())?;
         let number = |text: &str| if text.is_empty() { Ok(None) } else { Number::of(text).map(Some) };
         match text.split_once('-') {
             None if text.is_empty() => Err("nothing stands after the colon".to_string()),
@@ -76,11 +105,34 @@ impl Written {
         }
     }
 
+    /// The same of what is written most often, which needs no more than a look at each byte: `5-9`, in digits that 64 bits hold.
+    fn of_plain(text: &[u8]) -> Option<Self> {
+        let mut values = [None, None];
+        let mut parts = text.split(|byte| *byte == b'-');
+        for value in &mut values {
+            let digits = parts.next().filter(|digits| (1..=19).contains(&digits.len()))?;
+            let add = |sum: u64, byte: &u8| byte.is_ascii_digit().then(|| sum * 10 + u64::from(byte - b'0'));
+            *value = Some(digits.iter().try_fold(0, add)?);
+        }
+        let number = |value| Some(Number { value, digits: String::new() });
+        let [start, end] = values.map(number);
+        parts.next().is_none().then_some(Self { start, end })
+    }
+
     /// Whether a bound is 0, or the start after the end.
     pub fn senseless(&self) -> bool {
         let zero = |number: &Option<Number>| number.as_ref().is_some_and(|number| number.value == Some(0));
         let crossed = matches!((&self.start, &self.end), (Some(start), Some(end)) if start > end);
         zero(&self.start) || zero(&self.end) || crossed
+    }
+
+    /// The bounds as numbers, if 64 bits hold them.
+    pub fn bounds(&self) -> Option<Bounds> {
+        let value = |number: &Option<Number>| match number {
+            None => Some(None),
+            Some(number) => number.value.map(Some),
+        };
+        Some(Bounds { start: value(&self.start)?, end: value(&self.end)? })
     }
 
     /// The first bound that 64 bits don't hold.
@@ -150,14 +202,18 @@ pub enum Meaning<'r> {
 
 /// What a region means, where `find` tells the row of a name.
 pub fn meaning(region: &[u8], find: impl Fn(&[u8]) -> Option<Row>) -> Meaning<'_> {
-    let there: Vec<(Reading<'_>, Row)> =
-        readings(region).filter_map(|reading| Some((reading, find(reading.name)?))).collect();
-    let sensible = || there.iter().filter(|(reading, _)| reading.is_sensible());
-    if sensible().nth(1).is_some() {
-        return Meaning::Several(sensible().copied().collect());
+    // there are three ways at most
+    let mut there = [None; 3];
+    let found = readings(region).filter_map(|reading| Some((reading, find(reading.name)?)));
+    there.iter_mut().zip(found).for_each(|(place, way)| *place = Some(way));
+    let sensible = there.map(|way| way.filter(|(reading, _)| reading.is_sensible()));
+    let mut ways = sensible.iter().flatten();
+    let first = ways.next();
+    if ways.next().is_some() {
+        return Meaning::Several(sensible.into_iter().flatten().collect());
     }
     // bounds that make no sense are told only where there is nothing better
-    match sensible().next().or(there.first()) {
+    match first.or(there.iter().flatten().next()) {
         Some((Reading { bounds: None, .. }, row)) => Meaning::Row(*row, Written::default()),
         Some((Reading { bounds: Some(bounds), .. }, row)) => bounded(*row, bounds),
         None => Meaning::NoName(meant(region)),

@@ -1,0 +1,54 @@
+//! A map from names to rows that keeps no name: only the numbers of rows, by the hashes of their names.
+
+use std::hash::{BuildHasher, RandomState};
+
+/// The first row of each name. The names themselves stay where they are; whoever asks tells them.
+#[derive(Debug, Default)]
+pub(super) struct NameMap {
+    hasher: RandomState,
+    /// The number of a row and 1 more, 0 where there is none; a power of two of places, at most half of them taken.
+    places: Vec<usize>,
+    /// A bit for each length that a name has; the last for all from there on. A region's text is asked for as a name too, and most often no
+    /// name is as long.
+    lengths: u64,
+}
+
+/// The bit of a length.
+fn bit(name: &[u8]) -> u64 {
+    1 << name.len().min(63)
+}
+
+impl NameMap {
+    /// The map of so many rows, from the first on: a name that is there stays as it is.
+    pub(super) fn of<'n>(rows: usize, name: impl Fn(usize) -> &'n [u8]) -> Self {
+        let size = rows.saturating_mul(2).next_power_of_two().max(2);
+        let mut map = Self { hasher: RandomState::new(), places: vec![0; size], lengths: 0 };
+        for row in 0..rows {
+            map.lengths |= bit(name(row));
+            let (place, there) = map.place(name(row), &name);
+            if let (None, Some(free)) = (there, map.places.get_mut(place)) {
+                *free = row + 1;
+            }
+        }
+        map
+    }
+
+    /// The first row of a name, if there is one.
+    pub(super) fn find<'n>(&self, wanted: &[u8], name: impl Fn(usize) -> &'n [u8]) -> Option<usize> {
+        if self.lengths & bit(wanted) == 0 { None } else { self.place(wanted, &name).1 }
+    }
+
+    /// The place of a name, and its row; or the free place where it would be put.
+    fn place<'n>(&self, wanted: &[u8], name: &impl Fn(usize) -> &'n [u8]) -> (usize, Option<usize>) {
+        let size = self.places.len();
+        let mut place = self.hasher.hash_one(wanted) as usize & size.saturating_sub(1);
+        // half of the places are free, so the walk ends
+        while let Some(row) = self.places.get(place).copied().unwrap_or(0).checked_sub(1) {
+            if name(row) == wanted {
+                return (place, Some(row));
+            }
+            place = (place + 1) & size.saturating_sub(1);
+        }
+        (place, None)
+    }
+}
