@@ -318,7 +318,7 @@ fn check_one(file: &Path, index: Option<&Path>, strict: bool, common: Common) ->
         return Err(Failure::Usage("the file and its index can't both come from standard input".to_string()));
     }
     let fasta = common.open(file, common.how)?;
-    let index = open_index(&index, file, common)?;
+    let index = open_index(&index, &fasta, common)?;
     work::check(&fasta, &index)?;
     Odd::of_file(fasta.bytes()).tell(&fasta, strict)?;
     fasta.unchanged()?;
@@ -336,11 +336,10 @@ fn check_one(file: &Path, index: Option<&Path>, strict: bool, common: Common) ->
 }
 
 /// The index, read plainly; where there is none, the message says how to make one.
-fn open_index(index: &Path, file: &Path, common: Common) -> Result<Input, Failure> {
+fn open_index(index: &Path, fasta: &Input, common: Common) -> Result<Input, Failure> {
     match common.open(index, How::Read) {
         Err(Failure::InputOutput { words, .. }) if !is_standard(index) && !index.exists() => {
-            let next = format!("make the index with `wakeluri index {}`", advice::word(&input::shown(file)));
-            Err(Failure::InputOutput { words, next })
+            Err(Failure::InputOutput { words, next: advice::first_index(fasta) })
         }
         opened => opened,
     }
@@ -386,11 +385,11 @@ struct Way<'w> {
 }
 
 /// The index that is named, or the one beside the file, if there is one.
-fn index_beside(words: &ArgMatches, file: &Path, common: Common) -> Result<Option<Input>, Failure> {
+fn index_beside(words: &ArgMatches, file: &Path, fasta: &Input, common: Common) -> Result<Option<Input>, Failure> {
     match read_index(words) {
-        Some(index) => open_index(index, file, common).map(Some),
+        Some(index) => open_index(index, fasta, common).map(Some),
         None if is_placeless(file) || !index_of(file).exists() => Ok(None),
-        None => open_index(&index_of(file), file, common).map(Some),
+        None => open_index(&index_of(file), fasta, common).map(Some),
     }
 }
 
@@ -415,7 +414,7 @@ fn answer(
     Way { turn, header, to }: Way<'_>,
     common: Common,
 ) -> Result<(), Failure> {
-    let index = index_beside(words, file, common)?;
+    let index = index_beside(words, file, fasta, common)?;
     let width = words.get_one::<usize>("width").copied().unwrap_or(60);
     let (strict, rna) = (said(words, "strict"), said(words, "rna"));
     let form = Form { turn, width, json: common.json, strict, rna, header, to };
@@ -564,7 +563,7 @@ fn primer(words: &ArgMatches, common: Common) -> Result<(), Failure> {
     let asked = asked(words, sheet.as_ref())?;
     sheet::warn_of_strands(&asked);
     let fasta = common.open(file, common.how)?;
-    let index = index_beside(words, file, common)?;
+    let index = index_beside(words, file, &fasta, common)?;
     let rows = match &index {
         None => work::index(&fasta, rule(words))?,
         Some(index) if words.get_flag("unchecked") => {

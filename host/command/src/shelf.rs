@@ -26,6 +26,9 @@ use std::thread;
 /// How the names of FASTA files end, in folders.
 const ENDINGS: [&str; 8] = ["fa", "fasta", "fna", "ffn", "faa", "frn", "fas", "fsa"];
 
+/// So many times as many threads as there are cores wait for the disk.
+const WAITING: usize = 8;
+
 /// How packed files end, which are passed over in folders.
 const PACKED: [&str; 6] = ["gz", "bgz", "bz2", "xz", "zst", "zip"];
 
@@ -203,11 +206,13 @@ impl Shelf<'_> {
         common: Common<'_>,
         one: &(dyn Fn(&Item, Common<'_>) -> Result<String, Failure> + Sync),
     ) -> Result<(), Failure> {
-        let cores = thread::available_parallelism().map_or(1, usize::from).min(self.items.len());
+        let cores = thread::available_parallelism().map_or(1, usize::from);
+        // an index is on the disk before it is told of, and disks take many at a time
+        let threads = if self.work == Work::Index { cores * WAITING } else { cores }.min(self.items.len());
         let (next, over) = (AtomicUsize::new(0), AtomicBool::new(false));
         let (sender, receiver) = mpsc::channel();
         thread::scope(|scope| {
-            for _ in 0..cores {
+            for _ in 0..threads {
                 let (sender, next, over) = (sender.clone(), &next, &over);
                 scope.spawn(move || {
                     while !over.load(Ordering::Relaxed) {
