@@ -2,12 +2,13 @@
 
 use crate::advice;
 use crate::failure::{Failure, Refused, Unreadable};
+use crate::header::{self, Header};
 use crate::input::Input;
 use crate::json::Object;
 use crate::letters::{Odd, of_rna};
 use crate::names::wanted_names;
 use crate::nearest::nearest;
-use crate::output::{Answers, failed};
+use crate::output::{Answers, Output, failed};
 use crate::place::{commas, count, quoted, short};
 use crate::warning::Warning;
 use std::ops::Range;
@@ -36,7 +37,7 @@ pub enum Turn {
 
 impl Turn {
     /// What a definition line says of it.
-    fn said(self) -> Option<&'static [u8]> {
+    pub fn said(self) -> Option<&'static [u8]> {
         match self {
             Self::AsIs => None,
             Self::Complement => Some(b"complement"),
@@ -70,6 +71,8 @@ pub struct Asked<'a> {
     pub named: Option<Named<'a>>,
     /// What a sheet says behind the region.
     pub label: Option<&'a [u8]>,
+    /// Whether a sheet asks for the other strand.
+    pub is_reverse: bool,
 }
 
 /// Bases of a name.
@@ -92,7 +95,7 @@ const LOOKED_FOR: usize = 20;
 impl<'a> Asked<'a> {
     /// A region in words.
     pub fn of(text: &'a [u8]) -> Self {
-        Self { text, sheet: None, row: None, named: None, label: None }
+        Self { text, sheet: None, row: None, named: None, label: None, is_reverse: false }
     }
 
     /// The names that it may mean.
@@ -116,7 +119,8 @@ impl<'a> Asked<'a> {
 /// A region that is known to be good.
 #[derive(Clone, Copy, Debug)]
 pub struct Region<'a> {
-    asked: Asked<'a>,
+    /// As it was asked for.
+    pub asked: Asked<'a>,
     /// The record's row.
     pub row: Row,
     /// The first base.
@@ -129,6 +133,11 @@ impl Region<'_> {
     /// How many bases it has: none for a record without any, where all records are meant.
     pub fn bases(self) -> u64 {
         if self.end < self.start { 0 } else { (self.end - self.start).saturating_add(1) }
+    }
+
+    /// What is done with its bases.
+    pub fn turn(self, form: Form<'_>) -> Turn {
+        if self.asked.is_reverse { Turn::Reverse } else { form.turn }
     }
 }
 
@@ -143,9 +152,9 @@ pub struct Source<'s> {
     pub numbers: Option<&'s [usize]>,
 }
 
-/// How the answers are written.
+/// How the answers are written, and where to.
 #[derive(Clone, Copy, Debug)]
-pub struct Form {
+pub struct Form<'f> {
     /// What is done with the bases.
     pub turn: Turn,
     /// Bases to a line, 0 for all in one.
@@ -156,6 +165,10 @@ pub struct Form {
     pub rna: bool,
     /// Bytes that are no letters are refused.
     pub strict: bool,
+    /// What a definition line says beside the region.
+    pub header: Header<'f>,
+    /// Where to.
+    pub to: &'f Output,
 }
 
 impl Source<'_> {
@@ -361,13 +374,16 @@ impl Source<'_> {
 
     /// Bases of a region, turned.
     pub fn piece(self, region: Region<'_>, from: u64, to: u64, turn: Turn) -> Result<Vec<u8>, Failure> {
-        let read = if self.fasta.is_in_parts() {
-            let mut bases = vec![];
-            self.fetch(region.row, from, to, &mut bases)?.map(|()| bases)
-        } else {
-            self.rows.read_exact(self.fasta.bytes(), region.row, from..=to)
-        };
-        self.turned(region, from, read, turn)
+        self.turned(region, from, self.bases(region.row, from, to)?, turn)
+    }
+
+    /// Bases of a record, or the refusal of the read. Of a file that is read in parts only the bytes between them are read.
+    fn bases(self, row: Row, from: u64, to: u64) -> Result<Result<Vec<u8>, Refusal>, Failure> {
+        if !self.fasta.is_in_parts() {
+            return Ok(self.rows.read_exact(self.fasta.bytes(), row, from..=to));
+        }
+        let mut bases = vec![];
+        Ok(self.fetch(row, from, to, &mut bases)?.map(|()| bases))
     }
 
     /// Bases of a region from a base position on, as they were read, turned.
@@ -419,13 +435,13 @@ impl Source<'_> {
     }
 
     /// The pieces of a region, in the order that they are written in.
-    fn pieces(self, region: Region<'_>, form: Form) -> impl Iterator<Item = Result<Vec<u8>, Failure>> {
+    fn pieces(self, region: Region<'_>, form: Form<'_>) -> impl Iterator<Item = Result<Vec<u8>, Failure>> {
         let pieces = region.bases().div_ceil(PIECE);
         (0..pieces).map(move |number| {
-            let number = if form.turn == Turn::Reverse { pieces - 1 - number } else { number };
+            let number = if region.turn(form) == Turn::Reverse { pieces - 1 - number } else { number };
             let from = region.start + number * PIECE;
             let to = region.end.min(from.saturating_add(PIECE - 1));
-            self.written(region, from, self.rows.read_exact(self.fasta.bytes(), region.row, from..=to), form)
+            self.written(region, from, self.bases(region.row, from, to)?, form)
         })
     }
 
@@ -435,9 +451,9 @@ impl Source<'_> {
         region: Region<'_>,
         from: u64,
         bases: Result<Vec<u8>, Refusal>,
-        Form { turn, rna, .. }: Form,
+        form: Form<'_>,
     ) -> Result<Vec<u8>, Failure> {
-        self.turned(region, from, bases, turn).map(|bases| of_rna(bases, rna))
+        self.turned(region, from, bases, region.turn(form)).map(|bases| of_rna(bases, form.rna))
     }
 
     /// Says it aloud where a name could mean another record too.
@@ -487,7 +503,7 @@ impl Source<'_> {
     }
 
     /// Reads all regions, and only then writes them.
-    pub fn give(self, regions: &[Region<'_>], form: Form) -> Result<(), Failure> {
+    pub fn give(self, regions: &[Region<'_>], form: Form<'_>) -> Result<(), Failure> {
         let (mut kept, mut faults, mut odd) = (vec![], vec![], Odd::default());
         let mut places: Vec<Option<Range<usize>>> = Vec::with_capacity(regions.len());
         for together in sheets(regions) {
@@ -499,12 +515,12 @@ impl Source<'_> {
                 let take = |piece: Result<Vec<u8>, Failure>| {
                     let piece = piece?;
                     // what is turned has letters alone
-                    if form.turn == Turn::AsIs {
+                    if region.turn(form) == Turn::AsIs {
                         odd.of_bases(&piece, self.rows.record(region.row), from);
                         from += piece.len() as u64;
                     }
                     if !form.json {
-                        self.writable(*region, &piece)?;
+                        self.writable(*region, &piece, form)?;
                     }
                     if keep {
                         kept.extend_from_slice(&piece);
@@ -525,25 +541,24 @@ impl Source<'_> {
         self.fasta.unchanged()?;
         odd.tell(self.fasta, form.strict)?;
 
-        let mut answers = Answers::new();
-        for (region, place) in regions.iter().zip(&places) {
-            match place.clone().and_then(|place| kept.get(place)) {
-                Some(bases) => self.write(*region, [Ok(bases)], form, &mut answers)?,
-                None => self.write(*region, self.pieces(*region, form), form, &mut answers)?,
+        form.to.give(&mut |answers| {
+            for (region, place) in regions.iter().zip(&places) {
+                match place.clone().and_then(|place| kept.get(place)) {
+                    Some(bases) => self.write(*region, [Ok(bases)], form, answers)?,
+                    None => self.write(*region, self.pieces(*region, form), form, answers)?,
+                }
             }
-        }
-        if places.iter().any(Option::is_none) {
-            self.fasta.unchanged()?;
-        }
-        answers.done()
+            if places.iter().any(Option::is_none) { self.fasta.unchanged() } else { Ok(()) }
+        })?;
+        header::tell_of_file(self.fasta, regions, form)
     }
 
     fn write(
         self,
         region: Region<'_>,
         pieces: impl IntoIterator<Item = Result<impl AsRef<[u8]>, Failure>>,
-        form: Form,
-        answers: &mut Answers,
+        form: Form<'_>,
+        answers: &mut Answers<'_>,
     ) -> Result<(), Failure> {
         if form.json {
             let mut bases = vec![];
@@ -555,11 +570,14 @@ impl Source<'_> {
             object.bytes("region", region.asked.text).bytes("name", record.map_or(&[], |record| record.name));
             object.number("start", region.start).number("end", region.end);
             object.number("length", record.map_or(0, |record| record.length));
-            if let Some(turned) = form.turn.said() {
+            if let Some(turned) = region.turn(form).said() {
                 object.bytes("turned", turned);
             }
             if let Some(label) = region.asked.label {
                 object.bytes("label", label);
+            }
+            if form.header.is_full {
+                object.bytes("description", record.and_then(|record| record.description()).unwrap_or_default());
             }
             object.bytes("bases", &bases);
             return answers.write(object.line().as_bytes());
@@ -570,9 +588,8 @@ impl Source<'_> {
             Ok(refusal) => self.not_written(region, refusal),
             Err(error) => failed(&error),
         };
-        let said_of_it: Vec<&[u8]> = form.turn.said().into_iter().chain(region.asked.label).collect();
-        let description = said_of_it.join(&b' ');
-        writer.begin(region.asked.text, (!description.is_empty()).then_some(&description)).map_err(said)?;
+        let (name, description) = form.header.of(region, form, self.rows.record(region.row));
+        writer.begin(&name, (!description.is_empty()).then_some(&description)).map_err(said)?;
         for piece in pieces {
             writer.push(piece?.as_ref()).map_err(said)?;
         }
@@ -580,9 +597,11 @@ impl Source<'_> {
     }
 
     /// Bases of a region, and its text as a name, are judged before anything is written.
-    fn writable(self, region: Region<'_>, bases: &[u8]) -> Result<(), Failure> {
+    fn writable(self, region: Region<'_>, bases: &[u8], form: Form<'_>) -> Result<(), Failure> {
+        let (name, description) = form.header.of(region, form, self.rows.record(region.row));
+        let description = (!description.is_empty()).then_some(&*description);
         let judged = [
-            wakeluri::write_record_into(region.asked.text, region.asked.label, &[], 1, &mut []),
+            wakeluri::write_record_into(&name, description, &[], 1, &mut []),
             wakeluri::write_sequence_into(bases, 1, &mut []),
         ];
         match judged.into_iter().filter_map(Result::err).find(|refusal| refusal.number != 14) {
