@@ -279,9 +279,10 @@ async function opened() {
 
 for (const which of ["fasta", "fai"]) {
     byId(which).addEventListener("change", (e) => {
+        const before = chosen[which];
         chosen[which] = e.target.files[0];
-        // a new FASTA file leaves no index of another behind
-        if (which === "fasta" && chosen.fai && chosen.fasta) choose("fai", undefined);
+        // another FASTA file leaves no index of the one before behind
+        if (which === "fasta" && before && before.name !== chosen.fasta?.name) choose("fai", undefined);
         open();
     });
 }

@@ -87,10 +87,10 @@ export function about(bytes, line, offset) {
     };
 }
 
-// Bytes as text: those that are no UTF-8, and control characters, are shown as escapes.
+// Bytes as text: a tab as an arrow; those that are no UTF-8, and control characters, as escapes.
 export function shown(bytes) {
     try {
-        const text = new TextDecoder("utf-8", { fatal: true, ignoreBOM: true }).decode(bytes);
+        const text = new TextDecoder("utf-8", { fatal: true, ignoreBOM: true }).decode(bytes).replace(/\t/g, "→");
         if (!/[\p{Cc}\p{Cf}\p{Zl}\p{Zp}]/u.test(text)) return text;
     } catch {
         // not UTF-8

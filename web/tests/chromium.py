@@ -134,7 +134,6 @@ def chosen_and_saved():
     at("fai").send_keys(stale + ".fai")
     browser.wait_for("return document.getElementById('verdict').className === 'bad' ? 1 : null", what="a refusal")
     person.expect("files that are chosen", person.judged(), "Refused", "stale.fa.fai, line 1", "stale.fa, line 2")
-    picture("refused")
     at("make").click()
     person.says("made")
     index = named("stale.fa.fai")
@@ -229,8 +228,6 @@ def contrast():
             person.tab(tab)
             bad = browser.run(CONTRAST)
             check(f"contrast of '{tab}', {scheme}", not bad, bad)
-        person.tab("exercise")
-        picture(f"exercise-{scheme}")
         person.open(b">s\nACGT\nAC\n", b"s\t6\t3\t4\t6\n")
         bad = browser.run(CONTRAST)
         check(f"contrast of a refusal, {scheme}", not bad, bad)
@@ -247,10 +244,6 @@ def narrow_and_zoomed():
             over = browser.run("""return Array.from(document.querySelectorAll("main *")).filter((e) => e.checkVisibility() && !e.closest("pre, .scrolled, .apart, select")
                 && e.getBoundingClientRect().right > innerWidth + 1).map((e) => e.tagName + e.id)""")
             check(f"'{tab}' on {what} needs no sideways scrolling", wide <= 0 and not over, f"{wide} {over}")
-        if what == "a phone":
-            person.tab("read")
-            browser.run("window.scrollTo(0, 0)")
-            picture("phone")
     cdp("Emulation.clearDeviceMetricsOverride")
 
 
@@ -383,16 +376,34 @@ def without_its_server():
 
 
 def pictures_for_the_readme():
-    size(820, 1000)
-    person.open(open(os.path.join(samples, "two.fa"), "rb").read(), name="two.fa")
-    browser.run("document.activeElement.blur()")
-    person.read("3", "6", "both", row=1)
+    size(720, 700)
+    with open(os.path.join(samples, "stale.fa"), "rb") as fasta, open(os.path.join(samples, "stale.fa.fai"), "rb") as index:
+        person.open(fasta.read(), index.read(), name="stale.fa")
+    picture("refused")
+    size(720, 1330)
+    with open(os.path.join(samples, "primers.fa"), "rb") as fasta:
+        person.open(fasta.read(), name="primers.fa")
+    person.read("3", "12", "both", row=1)
     picture("read")
+    size(720, 900)
+    person.open(b">chr1 a first drill\n" + b"ACGTACGTNN\n" * 6, name="course.fa")
+    person.tab("exercise")
+    person.fill(**{"from": "1", "to": "20"})
+    browser.run("document.getElementById('make-exercise').click()")
+    person.says("asks")
+    person.drop(("class.csv", "who,answer\nAda,ACGTACGTNNACGTACGTNN\nBob,ACGTACGA\n"), on="#panel-exercise")
+    person.says("scored")
+    browser.run("document.getElementById('scored').scrollIntoView()")
+    picture("marks")
+    size(360, 700, 2, mobile=True)
+    person.open(b">chr1 a first drill\n" + b"ACGTACGTNN\n" * 6 + b">chr2 a second one\nGGGGCCCC\n", name="course.fa")
     person.tab("sheet")
-    person.fill(regions="sq0:1-4 exercise 1\nsq1:3-60 exercise 2\nsq2:1-5 exercise 3\n")
+    person.fill(regions="chr1:1-12 exercise A\nchr1:51-150 exercise B\nchr3:1-5 exercise C\n")
+    cdp("Emulation.setEmulatedMedia", features=[{"name": "prefers-color-scheme", "value": "dark"}])
     person.press("answer", "sheet-told")
     browser.run("document.getElementById('tabs').scrollIntoView()")
-    picture("sheet")
+    picture("phone-dark")
+    cdp("Emulation.setEmulatedMedia", features=[])
     cdp("Emulation.clearDeviceMetricsOverride")
 
 
