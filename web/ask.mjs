@@ -29,12 +29,25 @@ const KINDS = {
     bytes: (word) => [proved.lend(raw(word))],
     maybe: (word) => (word === "-" ? [0n, proved.lend([])] : [1n, proved.lend(raw(word))]),
     number: (word) => [number(word)],
-    bound: (word) => (word === "-" ? [0n, 0n] : [1n, number(word)]),
+    bound: (word) => bound(word),
     rows: (word) => [table(word)],
     table: (word) => [table(word)],
     output: (word) => [proved.lend(raw(word))],
+    numbers: (word) => [table(word)],
+    regions: (word) => [proved.lend(new Uint8Array(BigUint64Array.from(regions(word)).buffer))],
 };
+// What is told of lent memory afterwards.
+const LEFT = { table: (room) => told(room), numbers: (room) => told(room), output: (room) => hex(room) };
 const table = (word) => proved.lend(new Uint8Array(BigUint64Array.from(numbers(word)).buffer));
+const bound = (word) => (word === "-" ? [0n, 0n] : [1n, number(word)]);
+// each region is a row and its bounds: five numbers
+function regions(word) {
+    if (need(word, /^r/) === "r") return [];
+    return word.slice(1).split(",").flatMap((one) => {
+        const [row, start, end] = one.split(":");
+        return [number(row), ...bound(start), ...bound(end)];
+    });
+}
 const hex = (room) => "x" + Buffer.from(proved.bytes(room)).toString("hex");
 function told(room) {
     const view = new DataView(proved.memory.buffer, room.start, room.length);
@@ -83,16 +96,35 @@ const FAMILIES = {
     exd: ["read_exercise", ["bytes"], ifOk((a, [bytes]) => `${hex(bytes.part(Number(a.name_start), Number(a.name_length)))} ${a.start} ${a.end} ${a.edition}`)],
     sco: ["score_typed", ["bytes", "bytes", "number"], bare((a) => `${a.right} ${a.wrong} ${a.missing} ${a.surplus} ${a.score}`)],
     chk: ["check", ["bytes", "bytes"], ifOk(() => "")],
+    // calls that a module may have or not
+    scr: ["score_exercise", ["bytes", "bytes", "bytes", "bytes", "rows", "number", "output"], always((a) => `${a.right} ${a.wrong} ${a.missing} ${a.surplus} ${a.score}`)],
+    win: ["read_window", ["number", "bytes", "number", ...region.slice(1)], counted],
+    ned: ["needed_bytes", ["number", "number", "rows", "number", "number", "bound", "bound"], always((a) => `${a.from} ${a.to}`)],
+    sht: ["read_sheet", ["bytes", "rows", "number", "regions", "output", "numbers"], always((a) => `${no(a) ? a.next : "-"} ${a.count}`)],
+    fed: (words) => fed(0n, ...words),
+    ffd: (words) => fed(1n, ...words),
 };
+// A file in pieces: what each step tells, and the table.
+function fed(complete, rows, steps) {
+    if (!proved.has("feed_start")) throw new NotKnown();
+    const lent = table(rows);
+    let feed = proved.call("feed_start", complete);
+    const each = need(steps, /^(?:(?:f(?:[0-9a-f]{2})*|e)(?:,|$))+$/).split(",").map((step) => {
+        feed = proved.using(() => (step === "e" ? proved.call("feed_end", feed, lent) : proved.call("feed_piece", feed, proved.lend(raw(`x${step.slice(1)}`)), lent)));
+        return [feed.refusal, feed.first, feed.second, feed.rows].join(":");
+    });
+    return [...each, told(lent)].join(" ");
+}
 
 function answer(family, words) {
-    const [name, kinds, tell, more] = FAMILIES[family] ?? [];
-    if (!name || words.length !== kinds.length) throw new NotKnown();
-    const lent = kinds.flatMap((kind, k) => KINDS[kind](words[k]));
-    const answered = proved.call(name, ...lent, ...(more ?? []));
-    const changed = lent.filter((_, k) => proved.calls[name].takes[k] === "output");
-    const left = changed.map((room) => (kinds.includes("table") ? told(room) : hex(room)));
-    return [tell(answered, lent), ...left].join(" ");
+    const asked = FAMILIES[family];
+    if (typeof asked === "function") return asked(words);
+    const [name, kinds, tell, more] = asked ?? [];
+    if (!name || words.length !== kinds.length || !proved.has(name)) throw new NotKnown();
+    const lent = kinds.map((kind, k) => KINDS[kind](words[k]));
+    const answered = proved.call(name, ...lent.flat(), ...(more ?? []));
+    const left = kinds.flatMap((kind, k) => (LEFT[kind] ? [LEFT[kind](lent[k][0])] : []));
+    return [tell(answered, lent.flat()), ...left].join(" ");
 }
 
 const lines = [];

@@ -5,7 +5,8 @@
 //
 //   "find": { takes: ["bytes", "bytes", "number", "bytes"], tells: ["refusal", "first", "second", "count", "next"] }
 //
-// bytes are lent to be read, an output to be changed; both are a place and a length. A declaration of another form is an error.
+// bytes are lent to be read, an output to be changed, and so are numbers; all are a place and a length. A state is a struct that an earlier
+// answer told, handed back. A declaration of another form is an error.
 import { readFileSync } from "node:fs";
 import { argv } from "node:process";
 import { pathToFileURL } from "node:url";
@@ -13,7 +14,9 @@ import { pathToFileURL } from "node:url";
 const KINDS = [
     ["bytes", /^const uint8_t \*(\w+), size_t \1_length$/],
     ["output", /^uint8_t \*(\w+), size_t \1_length$/],
+    ["numbers", /^uint64_t \*(\w+), size_t \1_length$/],
     ["number", /^uint64_t \w+$/],
+    ["state", /^struct wakeluri_\w+ \w+$/],
 ];
 
 function kinds(name, declared) {

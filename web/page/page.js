@@ -286,6 +286,11 @@ for (const which of ["fasta", "fai"]) {
         open();
     });
 }
+// a file that was changed can be chosen again: browsers tell nothing where the same one is chosen, unless none was
+for (const which of ["fasta", "fai"]) {
+    byId(which).addEventListener("click", () => { byId(which).value = ""; });
+    byId(which).addEventListener("cancel", () => choose(which, chosen[which]));
+}
 byId("strict").addEventListener("change", () => { if (chosen.fasta) open(); });
 byId("again").addEventListener("click", open);
 byId("stop").addEventListener("click", () => {

@@ -39,7 +39,9 @@ export class Wakeluri {
         this.memory = this.exports.memory;
         // below: the module's own stack and constants, which `__heap_base` is behind
         this.answer = Math.ceil(Number(this.exports.__heap_base.value) / 16) * 16;
-        this.bottom = this.free = this.answer + ANSWER;
+        // a struct that is handed back lies behind the answer
+        this.state = this.answer + ANSWER;
+        this.bottom = this.free = this.state + ANSWER;
         this.room(0);
         this.grow(this.bottom);
     }
@@ -49,8 +51,9 @@ export class Wakeluri {
         return Object.hasOwn(this.calls, name) && `wakeluri_${name}` in this.exports;
     }
 
-    // One call, and the only place where the proved code is entered. A room goes as its place and length, a number as itself. Each room
-    // has to lie inside the memory that rooms were made of, and one that the call may change may overlap no other.
+    // One call, and the only place where the proved code is entered. A room goes as its place and length, a number as itself, and an answer
+    // that is handed back as the place of its numbers. Each room has to lie inside the memory that rooms were made of, and one that the
+    // call may change may overlap no other.
     call(name, ...given) {
         const { takes, tells } = this.calls[name];
         if (given.length !== takes.length) throw new RangeError(`${name} takes ${takes.length}, and was given ${given.length}`);
@@ -62,11 +65,18 @@ export class Wakeluri {
                 words.push(one);
                 return;
             }
+            if (kind === "state") {
+                const view = new DataView(this.memory.buffer, this.state, 8 * tells.length);
+                tells.forEach((field, j) => view.setBigUint64(8 * j, one[field], true));
+                words.push(BigInt(this.state));
+                return;
+            }
             if (!(one instanceof Room) || !this.isMade(one)) throw new RangeError(`${name}: a room that was not made`);
-            if (kind === "output" && given.some((other, j) => j !== k && other instanceof Room && one.overlaps(other))) {
+            if (kind !== "bytes" && given.some((other, j) => j !== k && other instanceof Room && one.overlaps(other))) {
                 throw new RangeError(`${name}: an output that overlaps`);
             }
-            words.push(BigInt(one.start), BigInt(one.length));
+            if (kind === "numbers" && one.length % 8 !== 0) throw new RangeError(`${name}: no room of whole numbers`);
+            words.push(BigInt(one.start), BigInt(kind === "numbers" ? one.length / 8 : one.length));
         });
         this.exports[`wakeluri_${name}`](...words);
         const view = new DataView(this.memory.buffer, this.answer, 8 * tells.length);

@@ -22,6 +22,13 @@ const CALL_WORDS = {
     read_exercise: "Exercise",
     write_exercise: "Exercise",
     score_typed: "Score",
+    score_exercise: "Score",
+    read_window: "ReadExact",
+    needed_bytes: "ReadExact",
+    read_sheet: "ReadExact",
+    feed_start: "Index",
+    feed_piece: "Index",
+    feed_end: "Index",
     degeneracy: "Primer",
     find_primer: "Primer",
 };

@@ -27,7 +27,7 @@ with tempfile.TemporaryDirectory() as room:
     person = Person(browser, page)
 
     def chosen(which, path):
-        browser.run("document.body.dataset.round = '0'")
+        browser.run("document.body.dataset.round = '0'; document.getElementById(arguments[0]).value = ''", which)
         browser.browser.find_element(By.ID, which).send_keys(path)
         browser.wait_for("return Number(document.body.dataset.round) >= 1 && document.getElementById('working').hidden ? 1 : null", what="a verdict", seconds=600)
         return " | ".join((person.text("verdict"), person.text("lines")))
