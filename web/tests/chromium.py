@@ -380,7 +380,7 @@ def pictures_for_the_readme():
     with open(os.path.join(samples, "stale.fa"), "rb") as fasta, open(os.path.join(samples, "stale.fa.fai"), "rb") as index:
         person.open(fasta.read(), index.read(), name="stale.fa")
     picture("refused")
-    size(720, 1330)
+    size(720, 1440)
     with open(os.path.join(samples, "primers.fa"), "rb") as fasta:
         person.open(fasta.read(), name="primers.fa")
     person.read("3", "12", "both", row=1)
