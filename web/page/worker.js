@@ -206,7 +206,9 @@ const ASKED = {
     begin(asked) {
         own = kept = undefined;
         round = asked.round;
-        if (files) proved.giveBack(files.fasta);
+        const before = files;
+        files = undefined;
+        if (before) proved.giveBack(before.fasta);
         files = { fasta: proved.room(asked.fasta) };
         if (asked.index !== undefined) files.index = proved.room(asked.index);
         return {};

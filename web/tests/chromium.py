@@ -156,6 +156,30 @@ def chosen_and_saved():
     person.passed += 1
 
 
+def changed_or_too_large():
+    path = write("changing.fa", b">c\nACGT\n")
+    person.fresh()
+    at("fasta").send_keys(path)
+    person.expect("a file", person.judged(), "1 record")
+    time.sleep(0.1)
+    write("changing.fa", b">c\nACGTACGT\n>d\nAC\n")
+    os.utime(path, (time.time() + 100, time.time() + 100))
+    browser.run("document.body.dataset.round = '0'; document.getElementById('strict').click()")
+    person.expect("a file that changed since it was chosen", person.judged(), "The file changed while it was read", never=["record"])
+    huge = os.path.join(room, "huge.fa")
+    with open(huge, "wb") as file:
+        file.truncate(5 << 30)
+    person.fresh()
+    at("fasta").send_keys(huge)
+    person.expect("a file that the memory does not hold", person.judged(), "not enough memory", "Nothing was judged")
+    os.remove(huge)
+    for what in ("a small one after it", "and another"):
+        browser.run("document.body.dataset.round = '0'")
+        person.drop(("a.fa", b">s\nAC\n"))
+        person.expect(what, person.judged(), "1 record")
+    person.expect("which is read", person.read("1", "2"), "AC")
+
+
 def by_keyboard():
     person.open(b">a one\nACGT\n>b two\nGGCC\n")
     browser.run("document.getElementById('search').focus()")
@@ -411,7 +435,7 @@ browser = Chromium(saved=saved)
 person = Person(browser, page)
 try:
     print(f"== {browser.name} {browser.version}")
-    for test in (chosen_and_saved, by_keyboard, names_and_roles, contrast, narrow_and_zoomed, on_paper, every_text_is_in_the_table, stopping, without_simd,
+    for test in (chosen_and_saved, changed_or_too_large, by_keyboard, names_and_roles, contrast, narrow_and_zoomed, on_paper, every_text_is_in_the_table, stopping, without_simd,
                  pictures_for_the_readme, nothing_is_sent_or_kept, without_its_server):
         if len(sys.argv) > 4 and test.__name__ not in sys.argv[4:]:
             continue
