@@ -354,14 +354,25 @@ def without_simd():
 
 def nothing_is_sent_or_kept():
     person.fresh()
-    told = browser.browser.execute_async_script("const done = arguments[0]; fetch('https://example.org/').then(() => done('sent'), () => done('blocked'))")
-    check("a request is blocked by the policy", told == "blocked", told)
-    for what, script in (("an image", "const i = new Image(); i.onload = () => done('sent'); i.onerror = () => done('blocked'); i.src = 'https://example.org/i.png'"),
-                         ("a script", "const s = document.createElement('script'); s.onload = () => done('sent'); s.onerror = () => done('blocked'); s.src = 'https://example.org/s.js'; document.head.append(s)"),
-                         ("a socket", "try { const s = new WebSocket('wss://example.org/'); s.onopen = () => done('sent'); s.onerror = () => done('blocked') } catch { done('blocked') }"),
-                         ("a beacon", "document.addEventListener('securitypolicyviolation', () => done('blocked')); navigator.sendBeacon('https://example.org/', 'x'); setTimeout(() => done('sent'), 2000)")):
-        told = browser.browser.execute_async_script("const done = arguments[0]; " + script)
-        check(f"{what} is blocked", told == "blocked", told)
+    # each is stopped by the policy, and not because the machine has no network: the browser tells which directive did it
+    for what, attempt in (
+            ("a request", "fetch('https://example.org/').catch(() => 0)"),
+            ("an image", "new Image().src = 'https://example.org/i.png'"),
+            ("a script", "const s = document.createElement('script'); s.src = 'https://example.org/s.js'; document.head.append(s)"),
+            ("a style", "const s = document.createElement('link'); s.rel = 'stylesheet'; s.href = 'https://example.org/s.css'; document.head.append(s)"),
+            ("a frame", "const f = document.createElement('iframe'); f.src = 'https://example.org/'; document.body.append(f)"),
+            ("a socket", "try { new WebSocket('wss://example.org/') } catch { }"),
+            ("a beacon", "navigator.sendBeacon('https://example.org/', 'x')"),
+            ("a form", "const f = document.createElement('form'); f.action = 'https://example.org/'; f.method = 'post'; document.body.append(f); f.submit()"),
+            ("a request of a worker", """
+                const source = "self.addEventListener('securitypolicyviolation', (e) => postMessage(e.effectiveDirective)); fetch('https://example.org/').catch(() => 0)";
+                new Worker(URL.createObjectURL(new Blob([source], { type: 'text/javascript' }))).onmessage = ({ data }) => done(data)""")):
+        told = browser.browser.execute_async_script("""
+            const done = arguments[0];
+            document.addEventListener("securitypolicyviolation", (e) => done(e.effectiveDirective), { once: true });
+            setTimeout(() => done(null), 3000);
+        """ + attempt)
+        check(f"{what} is stopped by the policy", told is not None, told)
     kept = browser.browser.execute_async_script("""
         const done = arguments[0];
         Promise.all([indexedDB.databases().catch(() => []), (async () => ("caches" in window ? caches.keys() : []))().catch(() => [])])
@@ -375,7 +386,7 @@ def nothing_is_sent_or_kept():
         if message["method"] == "Network.responseReceived":
             answered.add(message["params"]["response"]["url"].split(":")[0])
     away = {url.split("?")[0] for url in asked if url.split(":")[0] not in ("file", "blob", "data")} - {
-        "https://example.org/", "https://example.org/i.png", "https://example.org/s.js"}
+        "https://example.org/", "wss://example.org/", *(f"https://example.org/{name}" for name in ("i.png", "s.js", "s.css"))}
     check("in all these tests nothing else was asked for", not away, away)
     check("and nothing was answered but from the file itself", answered <= {"file", "blob", "data"}, answered)
     errors = [e["message"] for e in browser.browser.get_log("browser") if e["level"] == "SEVERE" and "example.org" not in e["message"]]
