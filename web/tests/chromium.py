@@ -436,7 +436,7 @@ def pictures_for_the_readme():
     person.fill(regions="chr1:1-12 exercise A\nchr1:51-150 exercise B\nchr3:1-5 exercise C\n")
     cdp("Emulation.setEmulatedMedia", features=[{"name": "prefers-color-scheme", "value": "dark"}])
     person.press("answer", "sheet-told")
-    browser.run("document.getElementById('tabs').scrollIntoView()")
+    browser.run("document.getElementById('answer').scrollIntoView()")
     picture("phone-dark")
     cdp("Emulation.setEmulatedMedia", features=[])
     cdp("Emulation.clearDeviceMetricsOverride")
