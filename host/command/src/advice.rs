@@ -6,8 +6,18 @@ use crate::wrap::Wrapping;
 
 /// What to do about an index that isn't right for a file.
 pub fn new_index(fasta: &Input) -> String {
+    index_by("make the index again:", fasta)
+}
+
+/// What to do where a file has no index.
+pub fn first_index(fasta: &Input) -> String {
+    index_by("make the index with", fasta)
+}
+
+/// To index a file, if that can be done; else what is wrong with it.
+fn index_by(how: &str, fasta: &Input) -> String {
     let (rows, refusal) = wakeluri::index_until_refused(fasta.bytes());
-    let Some(refusal) = refusal else { return format!("make the index again: `wakeluri index {}`", fasta.given()) };
+    let Some(refusal) = refusal else { return format!("{how} `wakeluri index {}`", fasta.given()) };
     let place = place::refused_definition(fasta.bytes(), &rows);
     let line = place.map_or(String::new(), |line| format!(" (the record of line {})", place::commas(line.number)));
     let how = anew(fasta).unwrap_or_else(|| format!("`wakeluri index {}` says more", fasta.given()));

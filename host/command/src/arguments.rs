@@ -9,6 +9,7 @@ const EXAMPLES: &str = "\
 Examples:
   wakeluri index ref.fa                     writes ref.fa.fai
   wakeluri check ref.fa                     is ref.fa.fai right for ref.fa?
+  wakeluri check refs/                      of every file in a folder, a line for each
   wakeluri read ref.fa chr1:101-200         exactly those hundred bases
   wakeluri read ref.fa --regions sheet.txt  all regions of a sheet, or none
   wakeluri revcomp ref.fa chr1:101-200      their reverse complement
@@ -23,6 +24,7 @@ const INDEX_EXAMPLES: &str = "\
 Examples:
   wakeluri index ref.fa               writes ref.fa.fai, as samtools would
   wakeluri index ref.fa -o other.fai  writes it elsewhere
+  wakeluri index a.fa b.fa refs/      of several files, and of those in folders; all cores work
   zcat ref.fa.gz | wakeluri index -   of standard input, to standard output
 
 Blank lines, and records without bases, are taken wherever an index can lead to every base, and counted. A file is refused only
@@ -35,7 +37,12 @@ Examples:
   wakeluri check ref.fa                       with ref.fa.fai
   wakeluri check ref.fa old.fai               with another index, of any program; or -i old.fai
   wakeluri check ref.fa && sheet-maker ..     only if every base is where the index says
-  zcat ref.fa.gz | wakeluri check - ref.fai   a file on standard input";
+  zcat ref.fa.gz | wakeluri check - ref.fai   a file on standard input
+  wakeluri check a.fa b.fa refs/              several files, and those in folders: a line for each, and a summary
+
+Of several files each has its own index behind it (a name that ends in .fai) or beside it. In folders, and the folders in them, files
+whose names end in .fa, .fasta, .fna, .ffn, .faa, .frn, .fas or .fsa are taken. What is said of a file, good or bad, is a line on standard
+output, and is the same whatever else is in the list. The status is the worst of all.";
 
 const READ_EXAMPLES: &str = "\
 Regions, counted from 1, both ends included, with commas or without:
@@ -48,6 +55,8 @@ Regions, counted from 1, both ends included, with commas or without:
 Examples:
   wakeluri read ref.fa chr1:1,000,001-1,000,100
   wakeluri read ref.fa --regions sheet.txt    a region to a line; all of them, or nothing
+  wakeluri read ref.fa chr1 -o chr1.fa        to a file, which is there whole or not at all
+  wakeluri read ref.fa --full-header          all records, with their descriptions
   zcat ref.fa.gz | wakeluri read - chr1:5-9
 
 With an index (ref.fa.fai, or --index) it is first checked with the whole file; without one, one is made in memory.
@@ -98,7 +107,7 @@ A primer has 1 to 31 letters of ACGTU and MRWSYKVHDBN, the IUPAC codes; small on
 letter of the file lie among those of its letter: N is found by N alone. A gap, or another byte, is in no match.
 A line has the record, the first and the last base counted from 1, the strand, and the bases as that strand has them. Places may overlap.";
 
-fn file() -> Arg {
+pub fn file() -> Arg {
     Arg::new("file")
         .value_name("FILE")
         .help("the FASTA file; - is standard input")
@@ -106,12 +115,22 @@ fn file() -> Arg {
         .value_hint(ValueHint::FilePath)
 }
 
-fn index_file() -> Arg {
-    Arg::new("index")
-        .value_name("INDEX")
-        .help("the index, if it isn't FILE.fai")
+/// Files and folders; behind one file its index may stand.
+fn files() -> Arg {
+    Arg::new("files")
+        .value_name("FILE")
+        .help("the FASTA file, and its INDEX behind it; or several files and folders; - is standard input")
+        .num_args(1..)
+        .required(true)
         .value_parser(value_parser!(PathBuf))
-        .value_hint(ValueHint::FilePath)
+        .value_hint(ValueHint::AnyPath)
+}
+
+/// One file alone is judged, and what is said of it is the line that a list has for it.
+pub const ALONE: &str = "--alone";
+
+fn alone() -> Arg {
+    flag("alone").hide(true)
 }
 
 /// The index by a word of its own.
@@ -125,7 +144,7 @@ fn index_option() -> Arg {
         .value_hint(ValueHint::FilePath)
 }
 
-fn flag(name: &'static str) -> Arg {
+pub fn flag(name: &'static str) -> Arg {
     Arg::new(name).long(name).action(ArgAction::SetTrue)
 }
 
@@ -133,7 +152,7 @@ fn strict() -> Arg {
     flag("strict").help("take a file only if the lines of each record are alike but the last, as noodles-fasta does, and hold letters alone")
 }
 
-fn regions() -> Arg {
+pub fn regions() -> Arg {
     Arg::new("region")
         .value_name("REGION")
         .help("name, name:5, name:5-, name:-9, name:5-9; before them an INDEX may stand, a file that ends in .fai")
@@ -176,8 +195,25 @@ fn searching(command: Command) -> Command {
         .arg(strict())
 }
 
+/// Where answers go.
+pub fn output(name: &'static str, help: &'static str) -> Arg {
+    Arg::new("output")
+        .long("output")
+        .short('o')
+        .value_name(name)
+        .help(help)
+        .value_parser(value_parser!(PathBuf))
+        .value_hint(ValueHint::FilePath)
+}
+
+fn full_header() -> Arg {
+    flag("full-header").help("the description of the record too, behind the region")
+}
+
 fn turning(command: Command) -> Command {
     reading(command.arg(file().default_value("-")).arg(regions()))
+        .arg(full_header())
+        .arg(output("OUT", "where to, if not to standard output"))
         .arg(flag("each-line").help("of plain bases: each line is a sequence of its own").conflicts_with("joined"))
         .arg(flag("joined").help("of plain bases: all lines together are one sequence"))
         .arg(flag("rna").help("write U for the complement of A, and not T"))
@@ -208,18 +244,12 @@ pub fn command() -> Command {
             Command::new("index")
                 .about("Write the index of a file, in samtools' form, or say what is wrong and where")
                 .after_help(INDEX_EXAMPLES)
-                .arg(file().required(true))
-                .arg(index_file().help("where to, by a name that ends in .fai"))
+                .arg(files())
+                .arg(alone())
                 .arg(index_option().help("where to, as --output"))
                 .arg(
-                    Arg::new("output")
-                        .long("output")
-                        .short('o')
-                        .conflicts_with_all(["index", "index-option"])
-                        .value_name("INDEX")
-                        .help("where to, if not to FILE.fai; - is standard output")
-                        .value_parser(value_parser!(PathBuf))
-                        .value_hint(ValueHint::FilePath),
+                    output("INDEX", "where to, if not to FILE.fai; - is standard output")
+                        .conflicts_with("index-option"),
                 )
                 .arg(strict()),
         )
@@ -227,8 +257,8 @@ pub fn command() -> Command {
             Command::new("check")
                 .about("Accept an index of any program, exactly if it leads to every base of the file")
                 .after_help(CHECK_EXAMPLES)
-                .arg(file().required(true))
-                .arg(index_file())
+                .arg(files())
+                .arg(alone())
                 .arg(index_option())
                 .arg(flag("strict").help("refuse bytes among the bases that are no letters")),
         )
@@ -237,8 +267,11 @@ pub fn command() -> Command {
                 .about("Read exactly the bases of some regions, as FASTA; never fewer")
                 .after_help(READ_EXAMPLES)
                 .arg(file().required(true))
-                .arg(regions().required_unless_present("regions")),
+                .arg(regions())
+                .arg(full_header())
+                .arg(output("OUT", "where to, if not to standard output")),
         ))
+        .subcommand(crate::faidx::command())
         .subcommand(
             Command::new("list")
                 .about("List the records of a file: name, length and description")
@@ -266,15 +299,7 @@ pub fn command() -> Command {
                         .value_parser(value_parser!(u64))
                         .default_value("60"),
                 )
-                .arg(
-                    Arg::new("output")
-                        .long("output")
-                        .short('o')
-                        .value_name("OUT")
-                        .help("where to, if not to standard output")
-                        .value_parser(value_parser!(PathBuf))
-                        .value_hint(ValueHint::FilePath),
-                )
+                .arg(output("OUT", "where to, if not to standard output"))
                 .arg(
                     Arg::new("index")
                         .long("index")

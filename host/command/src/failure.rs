@@ -23,6 +23,8 @@ pub enum Failure {
         /// What to do next.
         next: String,
     },
+    /// All is told already, and this is the status.
+    Told(u8),
     /// There is nobody to tell: whoever read the answer has gone, or words would be written to a file that is read. Status 3.
     Gone,
 }
@@ -102,6 +104,7 @@ impl Failure {
             Self::Refused(_) | Self::NotLetters(_) => 1,
             Self::Usage(_) | Self::Unreadable(_) => 2,
             Self::Several(all) => all.iter().map(Self::status).max().unwrap_or(3),
+            Self::Told(status) => *status,
             Self::InputOutput { .. } | Self::Gone => 3,
         }
     }
@@ -110,7 +113,7 @@ impl Failure {
     pub fn told(&self, json: bool) -> String {
         let status = u64::from(self.status());
         match self {
-            Self::Gone => String::new(),
+            Self::Gone | Self::Told(_) => String::new(),
             Self::NotLetters(found) => {
                 let NotLetters { words, next, file, place: (line, column) } = &**found;
                 let code = format!("refused by --strict (line {line}, column {column})");

@@ -19,7 +19,7 @@ use std::path::Path;
 use std::sync::OnceLock;
 
 /// Files from this size on are mapped: below it a copy costs little, and nobody can change it.
-const MAPPED_FROM: u64 = 16 << 20;
+pub const MAPPED_FROM: u64 = 16 << 20;
 
 /// How much is read at a time.
 const PIECE: u64 = 4 << 20;

@@ -4,8 +4,11 @@
 mod advice;
 mod apart;
 mod arguments;
+mod colour;
+mod faidx;
 mod failure;
 mod faults;
+mod header;
 mod input;
 mod json;
 mod letters;
@@ -20,6 +23,7 @@ mod progress;
 mod read;
 mod region;
 mod sheet;
+mod shelf;
 mod twins;
 mod unusual;
 mod usage;
@@ -30,6 +34,7 @@ mod wrap;
 use apart::Outputs;
 use clap::ArgMatches;
 use failure::{Failure, Refused};
+use header::Header;
 use input::{How, Input, is_placeless, is_standard};
 use json::Object;
 use letters::Odd;
@@ -39,6 +44,7 @@ use place::count;
 use primer::{Primer, counted};
 use read::{AllAsked, Asked, Form, Source, Turn};
 use sheet::Sheet;
+use shelf::{Item, Named, Shelf, Work};
 use std::ffi::OsString;
 use std::io::Write;
 use std::os::unix::ffi::OsStrExt;
@@ -52,13 +58,13 @@ use wrap::Wrapping;
 
 /// What all commands have: some words, and where they write to.
 #[derive(Clone, Copy)]
-struct Common {
+struct Common<'o> {
     how: How,
     json: bool,
-    outputs: Outputs<'static>,
+    outputs: Outputs<'o>,
 }
 
-impl Common {
+impl Common<'_> {
     fn open(self, path: &Path, how: How) -> Result<Input, Failure> {
         Input::open(path, how, self.json, &self.outputs)
     }
@@ -85,7 +91,8 @@ fn main() -> ExitCode {
     let answered = match matches.subcommand() {
         Some(("index", words)) => index(words, common),
         Some(("check", words)) => check(words, common),
-        Some(("read", words)) => read(words, Turn::AsIs, common),
+        Some(("read", words)) => read(words, common),
+        Some(("faidx", words)) => faidx::faidx(words, common),
         Some(("complement", words)) => complement(words, Turn::Complement, common),
         Some(("revcomp", words)) => complement(words, Turn::Reverse, common),
         Some(("list", words)) => list(words, common),
@@ -98,7 +105,8 @@ fn main() -> ExitCode {
         Ok(()) => ExitCode::SUCCESS,
         Err(failure) => {
             let told = failure.told(common.json);
-            let _ = std::io::stderr().write_all(if common.json { told } else { place::seen(&told) }.as_bytes());
+            let told = if common.json { told } else { colour::of_messages(place::seen(&told)) };
+            let _ = std::io::stderr().write_all(told.as_bytes());
             ExitCode::from(failure.status())
         }
     }
@@ -109,8 +117,8 @@ fn path<'m>(words: &'m ArgMatches, name: &str) -> Option<&'m Path> {
 }
 
 /// The index of `check` and `index`, behind the file or by a word of its own.
-fn named_index(words: &ArgMatches, is_written: bool) -> Result<Option<&Path>, Failure> {
-    let (behind, by_word) = (path(words, "index"), path(words, "index-option"));
+fn named_index<'m>(words: &'m ArgMatches, item: &'m Item, is_written: bool) -> Result<Option<&'m Path>, Failure> {
+    let (behind, by_word) = (item.index.as_deref(), path(words, "index-option"));
     if behind.is_some() && by_word.is_some() {
         return Err(Failure::Usage("two indexes are named, and one is needed".to_string()));
     }
@@ -141,7 +149,7 @@ fn index_before_regions(words: &ArgMatches) -> Option<&Path> {
 
 /// The rule that a file without an index is indexed by.
 fn rule(words: &ArgMatches) -> Rule {
-    if words.get_flag("strict") { Rule::Strict } else { Rule::Complete }
+    if said(words, "strict") { Rule::Strict } else { Rule::Complete }
 }
 
 /// Whether a word is said that not all commands have.
@@ -157,13 +165,31 @@ fn index_of(file: &Path) -> PathBuf {
 }
 
 fn index(words: &ArgMatches, common: Common) -> Result<(), Failure> {
-    let file = path(words, "file").unwrap_or(Path::new("-"));
-    let named = named_index(words, true)?;
+    let strict = words.get_flag("strict");
+    let one = |item: &Item, common: Common| {
+        let place = item.index.clone().unwrap_or_else(|| index_of(&item.file));
+        index_one(&item.file, &Output::of(&place)?, strict, common)
+    };
+    let item = match shelf::named(words)? {
+        Named::One(item) if words.get_flag("alone") => {
+            return shelf::alone(&item, Work::Index, one(&item, common), common.json);
+        }
+        Named::One(item) => item,
+        Named::Many(items, passed_over) => {
+            return Shelf { items: &items, passed_over, work: Work::Index, strict }.run(common, &one);
+        }
+    };
+    let named = named_index(words, &item, true)?;
     let output = match path(words, "output").or(named) {
         Some(output) => Output::of(output)?,
-        None if is_placeless(file) => Output::Standard,
-        None => Output::of(&index_of(file))?,
+        None if is_placeless(&item.file) => Output::Standard,
+        None => Output::of(&index_of(&item.file))?,
     };
+    report(index_one(&item.file, &output, strict, common)?.as_bytes())
+}
+
+/// Indexes a file, and says so in a line; of standard output nothing is said.
+fn index_one(file: &Path, output: &Output, strict: bool, common: Common) -> Result<String, Failure> {
     if common.json && output.is_standard() {
         return Err(Failure::Usage(
             "the index itself is written to standard output: --json needs --output FILE".to_string(),
@@ -172,7 +198,7 @@ fn index(words: &ArgMatches, common: Common) -> Result<(), Failure> {
     let outputs = || output.path().map_or(common.outputs, |place| common.outputs.and("the index", place));
     let fasta = Input::open(file, common.how, common.json, &outputs())?;
     output.free()?;
-    let rows = work::index(&fasta, rule(words))?;
+    let rows = work::index(&fasta, if strict { Rule::Strict } else { Rule::Complete })?;
     let text = rows.write_index().map_err(|refusal| {
         let words = format!("{}: {}", fasta.shown, refusal.words());
         Failure::Refused(Box::new(Refused {
@@ -186,14 +212,14 @@ fn index(words: &ArgMatches, common: Common) -> Result<(), Failure> {
             sheet: None,
         }))
     })?;
-    Odd::of_file(fasta.bytes()).tell(&fasta, words.get_flag("strict"))?;
+    Odd::of_file(fasta.bytes()).tell(&fasta, strict)?;
     twins::warn(&fasta, &rows);
     let unusual = Unusual::of(fasta.bytes(), &rows);
     fasta.unchanged()?;
     // by now the name may lead elsewhere
     fasta.apart_from(&outputs())?;
     output.write(&text)?;
-    let Some(place) = output.path() else { return Ok(()) };
+    let Some(place) = output.path() else { return Ok(String::new()) };
     let (records, bases) = (rows.len() as u64, rows.records().map(|record| record.length).sum());
     let shown = place::quoted(place.as_os_str().as_bytes());
     if common.json {
@@ -202,10 +228,10 @@ fn index(words: &ArgMatches, common: Common) -> Result<(), Failure> {
         object
             .number("records_with_blank_lines", unusual.blank_lines)
             .number("records_without_bases", unusual.no_bases);
-        return report(object.line().as_bytes());
+        return Ok(object.line());
     }
     let records = format!("{}{}", count(records, "record"), unusual.told());
-    report(format!("{shown}: {records}, {}\n", count(bases, "base")).as_bytes())
+    Ok(format!("{shown}: {records}, {}\n", count(bases, "base")))
 }
 
 fn list(words: &ArgMatches, common: Common) -> Result<(), Failure> {
@@ -263,8 +289,24 @@ fn wrap(words: &ArgMatches, common: Common) -> Result<(), Failure> {
 }
 
 fn check(words: &ArgMatches, common: Common) -> Result<(), Failure> {
-    let file = path(words, "file").unwrap_or(Path::new("-"));
-    let index = match named_index(words, false)? {
+    let strict = words.get_flag("strict");
+    let one = |item: &Item, common: Common| check_one(&item.file, item.index.as_deref(), strict, common);
+    match shelf::named(words)? {
+        Named::One(item) if words.get_flag("alone") => {
+            shelf::alone(&item, Work::Check, one(&item, common), common.json)
+        }
+        Named::One(item) => {
+            report(check_one(&item.file, named_index(words, &item, false)?, strict, common)?.as_bytes())
+        }
+        Named::Many(items, passed_over) => {
+            Shelf { items: &items, passed_over, work: Work::Check, strict }.run(common, &one)
+        }
+    }
+}
+
+/// Checks an index with its file, and says so in a line.
+fn check_one(file: &Path, index: Option<&Path>, strict: bool, common: Common) -> Result<String, Failure> {
+    let index = match index {
         Some(index) => index.to_path_buf(),
         None if is_placeless(file) => {
             let words = format!("name the index that {} is to be checked with", input::shown(file));
@@ -276,9 +318,9 @@ fn check(words: &ArgMatches, common: Common) -> Result<(), Failure> {
         return Err(Failure::Usage("the file and its index can't both come from standard input".to_string()));
     }
     let fasta = common.open(file, common.how)?;
-    let index = open_index(&index, file, common)?;
+    let index = open_index(&index, &fasta, common)?;
     work::check(&fasta, &index)?;
-    Odd::of_file(fasta.bytes()).tell(&fasta, words.get_flag("strict"))?;
+    Odd::of_file(fasta.bytes()).tell(&fasta, strict)?;
     fasta.unchanged()?;
     let rows = work::read_index(&fasta, &index)?;
     twins::warn(&fasta, &rows);
@@ -287,42 +329,67 @@ fn check(words: &ArgMatches, common: Common) -> Result<(), Failure> {
         let mut object = Object::new();
         object.truth("accepted", true).text("file", &fasta.shown).text("index", &index.shown);
         object.number("records", records).number("bases", bases);
-        return report(object.line().as_bytes());
+        return Ok(object.line());
     }
     let (records, bases) = (count(records, "record"), count(bases, "base"));
-    report(
-        format!("accepted: {} leads to every base of {} ({records}, {bases})\n", index.shown, fasta.shown).as_bytes(),
-    )
+    Ok(format!("accepted: {} leads to every base of {} ({records}, {bases})\n", index.shown, fasta.shown))
 }
 
 /// The index, read plainly; where there is none, the message says how to make one.
-fn open_index(index: &Path, file: &Path, common: Common) -> Result<Input, Failure> {
+fn open_index(index: &Path, fasta: &Input, common: Common) -> Result<Input, Failure> {
     match common.open(index, How::Read) {
         Err(Failure::InputOutput { words, .. }) if !is_standard(index) && !index.exists() => {
-            let next = format!("make the index with `wakeluri index {}`", advice::word(&input::shown(file)));
-            Err(Failure::InputOutput { words, next })
+            Err(Failure::InputOutput { words, next: advice::first_index(fasta) })
         }
         opened => opened,
     }
 }
 
-fn read(words: &ArgMatches, turn: Turn, common: Common) -> Result<(), Failure> {
+fn read(words: &ArgMatches, common: Common) -> Result<(), Failure> {
+    let header = Header { mark: None, is_full: said(words, "full-header") };
+    read_as(words, Turn::AsIs, header, common)
+}
+
+/// Reads what is asked for, to where it is asked for.
+fn read_as(words: &ArgMatches, turn: Turn, header: Header<'_>, common: Common) -> Result<(), Failure> {
     let file = path(words, "file").unwrap_or(Path::new("-"));
+    let output = output_of(words)?;
+    let common = to_output(common, &output)?;
     let sheet = open_sheet(words, file, common)?;
     let asked = asked(words, sheet.as_ref())?;
-    if asked.is_empty() {
-        return Err(Failure::Usage("no region is named: name one behind the index".to_string()));
+    if turn != Turn::AsIs {
+        sheet::no_strands(&asked)?;
     }
     let fasta = common.open(file, common.how)?;
-    answer(words, file, &fasta, asked, turn, common)
+    answer(words, file, &fasta, asked, Way { turn, header, to: &output }, common)
+}
+
+/// Where answers are to go.
+fn output_of(words: &ArgMatches) -> Result<Output, Failure> {
+    path(words, "output").map_or(Ok(Output::Standard), Output::of)
+}
+
+/// What a command has that writes answers there, unless something is there that nobody means to be replaced.
+fn to_output<'o>(common: Common<'o>, output: &'o Output) -> Result<Common<'o>, Failure> {
+    let Some(place) = output.path() else { return Ok(common) };
+    output.free_for_answers(common.json)?;
+    Ok(Common { outputs: common.outputs.and("the answer", place), ..common })
+}
+
+/// What is done with what is read, what is said of it, and where it goes.
+#[derive(Clone, Copy)]
+struct Way<'w> {
+    turn: Turn,
+    header: Header<'w>,
+    to: &'w Output,
 }
 
 /// The index that is named, or the one beside the file, if there is one.
-fn index_beside(words: &ArgMatches, file: &Path, common: Common) -> Result<Option<Input>, Failure> {
+fn index_beside(words: &ArgMatches, file: &Path, fasta: &Input, common: Common) -> Result<Option<Input>, Failure> {
     match read_index(words) {
-        Some(index) => open_index(index, file, common).map(Some),
+        Some(index) => open_index(index, fasta, common).map(Some),
         None if is_placeless(file) || !index_of(file).exists() => Ok(None),
-        None => open_index(&index_of(file), file, common).map(Some),
+        None => open_index(&index_of(file), fasta, common).map(Some),
     }
 }
 
@@ -344,17 +411,28 @@ fn answer(
     file: &Path,
     fasta: &Input,
     asked: AllAsked<'_>,
-    turn: Turn,
+    Way { turn, header, to }: Way<'_>,
     common: Common,
 ) -> Result<(), Failure> {
-    let index = index_beside(words, file, common)?;
+    let index = index_beside(words, file, fasta, common)?;
     let width = words.get_one::<usize>("width").copied().unwrap_or(60);
-    let form = Form { turn, width, json: common.json, strict: words.get_flag("strict"), rna: said(words, "rna") };
+    let (strict, rna) = (said(words, "strict"), said(words, "rna"));
+    let form = Form { turn, width, json: common.json, strict, rna, header, to };
+    let is_unchecked = said(words, "unchecked");
+    if header.is_full && is_unchecked {
+        let what = "--full-header looks at every definition line of the file: leave out --unchecked";
+        return Err(Failure::Usage(what.to_string()));
+    }
     let rows = match &index {
         None => work::index(fasta, rule(words))?,
-        Some(index) if words.get_flag("unchecked") => {
+        Some(index) if is_unchecked => {
             warn_of_unchecked(index, fasta);
             work::read_index(fasta, index)?
+        }
+        // an index has no descriptions
+        Some(index) if header.is_full => {
+            work::check(fasta, index)?;
+            work::index(fasta, rule(words))?
         }
         Some(index) => {
             work::check(fasta, index)?;
@@ -408,12 +486,16 @@ fn asked<'a>(words: &'a ArgMatches, sheet: Option<&'a Sheet>) -> Result<AllAsked
 
 fn complement(words: &ArgMatches, turn: Turn, common: Common) -> Result<(), Failure> {
     let file = path(words, "file").unwrap_or(Path::new("-"));
+    let output = output_of(words)?;
+    let common = to_output(common, &output)?;
     let sheet = open_sheet(words, file, common)?;
     let asked = asked(words, sheet.as_ref())?;
+    sheet::no_strands(&asked)?;
     let fasta = common.open(file, common.how)?;
     let is_fasta = matches!(fasta.bytes(), [b'>', ..] | [0xef, 0xbb, 0xbf, b'>', ..]);
     if !asked.is_empty() || is_fasta {
-        return answer(words, file, &fasta, asked, turn, common);
+        let header = Header { mark: None, is_full: said(words, "full-header") };
+        return answer(words, file, &fasta, asked, Way { turn, header, to: &output }, common);
     }
     // bases without a definition line
     let text = fasta.bytes();
@@ -461,7 +543,7 @@ fn complement(words: &ArgMatches, turn: Turn, common: Common) -> Result<(), Fail
         }
     }
     fasta.unchanged()?;
-    write(&answer)
+    output.give(&mut |answers| answers.write(&answer))
 }
 
 fn primer(words: &ArgMatches, common: Common) -> Result<(), Failure> {
@@ -479,8 +561,9 @@ fn primer(words: &ArgMatches, common: Common) -> Result<(), Failure> {
     let file = path(words, "file").unwrap_or(Path::new("-"));
     let sheet = open_sheet(words, file, common)?;
     let asked = asked(words, sheet.as_ref())?;
+    sheet::warn_of_strands(&asked);
     let fasta = common.open(file, common.how)?;
-    let index = index_beside(words, file, common)?;
+    let index = index_beside(words, file, &fasta, common)?;
     let rows = match &index {
         None => work::index(&fasta, rule(words))?,
         Some(index) if words.get_flag("unchecked") => {

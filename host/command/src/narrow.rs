@@ -53,7 +53,7 @@ impl Narrow {
     }
 
     /// The answer to all regions; none where one can't be answered with these lines alone.
-    pub fn answer(&self, fasta: &Input, asked: &AllAsked<'_>, form: Form) -> Option<Result<(), Failure>> {
+    pub fn answer(&self, fasta: &Input, asked: &AllAsked<'_>, form: Form<'_>) -> Option<Result<(), Failure>> {
         let rows = wakeluri::read_index(&self.text).ok()?;
         let source = Source { fasta, rows: &rows, numbers: Some(&self.numbers) };
         let asked = asked.iter().flatten().copied().map(Ok).collect();

@@ -11,14 +11,17 @@ use std::os::unix::ffi::OsStrExt;
 use std::os::unix::fs::{FileTypeExt, MetadataExt, OpenOptionsExt, chown};
 use std::path::{Path, PathBuf};
 
-/// Standard output, for everything at once.
-#[derive(Debug)]
-pub struct Answers(io::BufWriter<io::Stdout>);
+/// Where answers go, for everything at once.
+pub struct Answers<'w>(io::BufWriter<Box<dyn Write + 'w>>);
 
-impl Answers {
-    /// Nothing is written yet.
+impl<'w> Answers<'w> {
+    /// Standard output; nothing is written yet.
     pub fn new() -> Self {
-        Self(io::BufWriter::with_capacity(1 << 16, io::stdout()))
+        Self::to(io::stdout())
+    }
+
+    fn to(place: impl Write + 'w) -> Self {
+        Self(io::BufWriter::with_capacity(1 << 16, Box::new(place)))
     }
 
     /// Some bytes.
@@ -45,6 +48,34 @@ pub fn failed(error: &io::Error) -> Failure {
         error,
         "what was written so far is not all of it: don't use it",
     )
+}
+
+/// A place to write to that keeps the first error of the system.
+struct Noting<'w> {
+    to: &'w mut dyn Write,
+    error: Option<io::Error>,
+}
+
+impl Noting<'_> {
+    fn noted<T>(&mut self, done: io::Result<T>) -> io::Result<T> {
+        done.map_err(|error| {
+            let kind = error.kind();
+            self.error.get_or_insert(error);
+            kind.into()
+        })
+    }
+}
+
+impl Write for Noting<'_> {
+    fn write(&mut self, bytes: &[u8]) -> io::Result<usize> {
+        let done = self.to.write(bytes);
+        self.noted(done)
+    }
+
+    fn flush(&mut self) -> io::Result<()> {
+        let done = self.to.flush();
+        self.noted(done)
+    }
 }
 
 /// Writes a file, piece by piece.
@@ -118,6 +149,43 @@ impl Output {
     /// Writes all of a file that is at hand.
     pub fn write(&self, text: &[u8]) -> Result<(), Failure> {
         self.fill("index", &mut |to| to.write_all(text))
+    }
+
+    /// Fails if something is there that nobody means to be replaced by answers.
+    pub fn free_for_answers(&self, json: bool) -> Result<(), Failure> {
+        let Self::File(path) = self else { return Ok(()) };
+        let mut start = [0];
+        let is_there = File::open(path).and_then(|mut file| file.read(&mut start)).is_ok_and(|read| read == 1);
+        if is_there && start != *(if json { b"{" } else { b">" }) {
+            let form = if json { "JSON" } else { "FASTA" };
+            let what = format!("file that is not {form}, and the answer would take its place");
+            return Err(no_place(path, &what, "move it away first, or name another file"));
+        }
+        Ok(())
+    }
+
+    /// Answers, written to it: all of them, or, where it is a file, none.
+    pub fn give(&self, give: &mut dyn FnMut(&mut Answers<'_>) -> Result<(), Failure>) -> Result<(), Failure> {
+        if self.is_standard() {
+            let mut answers = Answers::new();
+            give(&mut answers)?;
+            return answers.done();
+        }
+        let mut why = None;
+        let filled = self.fill("file", &mut |to| {
+            let mut noting = Noting { to, error: None };
+            let mut answers = Answers::to(&mut noting);
+            let given = give(&mut answers).and_then(|()| answers.done());
+            match (noting.error, given) {
+                (Some(error), _) => Err(error),
+                (None, Ok(())) => Ok(()),
+                (None, Err(failure)) => {
+                    why = Some(failure);
+                    Err(io::Error::other("there is no answer"))
+                }
+            }
+        });
+        why.map_or(filled, Err)
     }
 
     /// Writes all of a file, piece by piece. A place that is a file holds the old one or the whole new one, whenever this is stopped.

@@ -1,6 +1,6 @@
 //! A progress bar on a terminal, for work that takes over a second; nothing elsewhere.
 
-use crate::warning::{in_json, is_quiet};
+use crate::warning::{in_json, is_gathered, is_quiet};
 use indicatif::{ProgressBar, ProgressStyle};
 use std::io::IsTerminal;
 use std::sync::Arc;
@@ -36,7 +36,7 @@ impl Progress {
     fn new(doing: String, bytes: u64, mapped: bool) -> Self {
         let at = Arc::new(AtomicU64::new(0));
         let over = Arc::new(AtomicBool::new(false));
-        let shower = (!in_json() && !is_quiet() && std::io::stderr().is_terminal()).then(|| {
+        let shower = (!in_json() && !is_quiet() && !is_gathered() && std::io::stderr().is_terminal()).then(|| {
             let (at, over) = (Arc::clone(&at), Arc::clone(&over));
             thread::spawn(move || show(&doing, bytes, mapped, &at, &over))
         });

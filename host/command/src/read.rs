@@ -7,7 +7,8 @@ use crate::json::Object;
 use crate::letters::{Odd, of_rna};
 use crate::names::wanted_names;
 use crate::nearest::nearest;
-use crate::output::{Answers, failed};
+use crate::header::{self, Header};
+use crate::output::{Answers, Output, failed};
 use crate::place::{commas, count, quoted, short};
 use crate::region::{Meaning, Number, Reading, Written, is_before_a_colon, meaning, plain_form, readings};
 use crate::warning::Warning;
@@ -33,7 +34,7 @@ pub enum Turn {
 
 impl Turn {
     /// What a definition line says of it.
-    fn said(self) -> Option<&'static [u8]> {
+    pub fn said(self) -> Option<&'static [u8]> {
         match self {
             Self::AsIs => None,
             Self::Complement => Some(b"complement"),
@@ -67,6 +68,8 @@ pub struct Asked<'a> {
     pub named: Option<Named<'a>>,
     /// What a sheet says behind the region.
     pub label: Option<&'a [u8]>,
+    /// Whether a sheet asks for the other strand.
+    pub is_reverse: bool,
 }
 
 /// Bases of a name.
@@ -89,7 +92,7 @@ const LOOKED_FOR: usize = 20;
 impl<'a> Asked<'a> {
     /// A region in words.
     pub fn of(text: &'a [u8]) -> Self {
-        Self { text, sheet: None, row: None, named: None, label: None }
+        Self { text, sheet: None, row: None, named: None, label: None, is_reverse: false }
     }
 
     /// The names that it may mean.
@@ -113,7 +116,8 @@ impl<'a> Asked<'a> {
 /// A region that is known to be good.
 #[derive(Clone, Copy, Debug)]
 pub struct Region<'a> {
-    asked: Asked<'a>,
+    /// As it was asked for.
+    pub asked: Asked<'a>,
     /// The record's row.
     pub row: Row,
     /// The first base.
@@ -126,6 +130,11 @@ impl Region<'_> {
     /// How many bases it has: none for a record without any, where all records are meant.
     pub fn bases(self) -> u64 {
         if self.end < self.start { 0 } else { (self.end - self.start).saturating_add(1) }
+    }
+
+    /// What is done with its bases.
+    pub fn turn(self, form: Form<'_>) -> Turn {
+        if self.asked.is_reverse { Turn::Reverse } else { form.turn }
     }
 }
 
@@ -140,9 +149,9 @@ pub struct Source<'s> {
     pub numbers: Option<&'s [usize]>,
 }
 
-/// How the answers are written.
+/// How the answers are written, and where to.
 #[derive(Clone, Copy, Debug)]
-pub struct Form {
+pub struct Form<'f> {
     /// What is done with the bases.
     pub turn: Turn,
     /// Bases to a line, 0 for all in one.
@@ -153,6 +162,10 @@ pub struct Form {
     pub rna: bool,
     /// Bytes that are no letters are refused.
     pub strict: bool,
+    /// What a definition line says beside the region.
+    pub header: Header<'f>,
+    /// Where to.
+    pub to: &'f Output,
 }
 
 impl Source<'_> {
@@ -368,11 +381,8 @@ impl Source<'_> {
     }
 
     /// The pieces of a region, in the order that they are written in.
-    fn pieces(
-        self,
-        region: Region<'_>,
-        Form { turn, rna, .. }: Form,
-    ) -> impl Iterator<Item = Result<Vec<u8>, Failure>> {
+    fn pieces(self, region: Region<'_>, form: Form<'_>) -> impl Iterator<Item = Result<Vec<u8>, Failure>> {
+        let (turn, rna) = (region.turn(form), form.rna);
         let pieces = region.bases().div_ceil(PIECE);
         (0..pieces).map(move |number| {
             let number = if turn == Turn::Reverse { pieces - 1 - number } else { number };
@@ -429,7 +439,7 @@ impl Source<'_> {
     }
 
     /// Reads all regions, and only then writes them.
-    pub fn give(self, regions: &[Region<'_>], form: Form) -> Result<(), Failure> {
+    pub fn give(self, regions: &[Region<'_>], form: Form<'_>) -> Result<(), Failure> {
         let (mut kept, mut faults, mut odd) = (vec![], vec![], Odd::default());
         let mut places: Vec<Option<Range<usize>>> = Vec::with_capacity(regions.len());
         for region in regions {
@@ -439,12 +449,12 @@ impl Source<'_> {
             let read = self.pieces(*region, form).try_for_each(|piece| {
                 let piece = piece?;
                 // what is turned has letters alone
-                if form.turn == Turn::AsIs {
+                if region.turn(form) == Turn::AsIs {
                     odd.of_bases(&piece, self.rows.record(region.row), from);
                     from += piece.len() as u64;
                 }
                 if !form.json {
-                    self.writable(*region, &piece)?;
+                    self.writable(*region, &piece, form)?;
                 }
                 if keep {
                     kept.extend_from_slice(&piece);
@@ -458,25 +468,24 @@ impl Source<'_> {
         self.fasta.unchanged()?;
         odd.tell(self.fasta, form.strict)?;
 
-        let mut answers = Answers::new();
-        for (region, place) in regions.iter().zip(&places) {
-            match place.clone().and_then(|place| kept.get(place)) {
-                Some(bases) => self.write(*region, [Ok(bases)], form, &mut answers)?,
-                None => self.write(*region, self.pieces(*region, form), form, &mut answers)?,
+        form.to.give(&mut |answers| {
+            for (region, place) in regions.iter().zip(&places) {
+                match place.clone().and_then(|place| kept.get(place)) {
+                    Some(bases) => self.write(*region, [Ok(bases)], form, answers)?,
+                    None => self.write(*region, self.pieces(*region, form), form, answers)?,
+                }
             }
-        }
-        if places.iter().any(Option::is_none) {
-            self.fasta.unchanged()?;
-        }
-        answers.done()
+            if places.iter().any(Option::is_none) { self.fasta.unchanged() } else { Ok(()) }
+        })?;
+        header::tell_of_file(self.fasta, regions, form)
     }
 
     fn write(
         self,
         region: Region<'_>,
         pieces: impl IntoIterator<Item = Result<impl AsRef<[u8]>, Failure>>,
-        form: Form,
-        answers: &mut Answers,
+        form: Form<'_>,
+        answers: &mut Answers<'_>,
     ) -> Result<(), Failure> {
         if form.json {
             let mut bases = vec![];
@@ -488,11 +497,14 @@ impl Source<'_> {
             object.bytes("region", region.asked.text).bytes("name", record.map_or(&[], |record| record.name));
             object.number("start", region.start).number("end", region.end);
             object.number("length", record.map_or(0, |record| record.length));
-            if let Some(turned) = form.turn.said() {
+            if let Some(turned) = region.turn(form).said() {
                 object.bytes("turned", turned);
             }
             if let Some(label) = region.asked.label {
                 object.bytes("label", label);
+            }
+            if form.header.is_full {
+                object.bytes("description", record.and_then(|record| record.description()).unwrap_or_default());
             }
             object.bytes("bases", &bases);
             return answers.write(object.line().as_bytes());
@@ -503,9 +515,8 @@ impl Source<'_> {
             Ok(refusal) => self.not_written(region, refusal),
             Err(error) => failed(&error),
         };
-        let said_of_it: Vec<&[u8]> = form.turn.said().into_iter().chain(region.asked.label).collect();
-        let description = said_of_it.join(&b' ');
-        writer.begin(region.asked.text, (!description.is_empty()).then_some(&description)).map_err(said)?;
+        let (name, description) = form.header.of(region, form, self.rows.record(region.row));
+        writer.begin(&name, (!description.is_empty()).then_some(&description)).map_err(said)?;
         for piece in pieces {
             writer.push(piece?.as_ref()).map_err(said)?;
         }
@@ -513,9 +524,11 @@ impl Source<'_> {
     }
 
     /// Bases of a region, and its text as a name, are judged before anything is written.
-    fn writable(self, region: Region<'_>, bases: &[u8]) -> Result<(), Failure> {
+    fn writable(self, region: Region<'_>, bases: &[u8], form: Form<'_>) -> Result<(), Failure> {
+        let (name, description) = form.header.of(region, form, self.rows.record(region.row));
+        let description = (!description.is_empty()).then_some(&*description);
         let judged = [
-            wakeluri::write_record_into(region.asked.text, region.asked.label, &[], 1, &mut []),
+            wakeluri::write_record_into(&name, description, &[], 1, &mut []),
             wakeluri::write_sequence_into(bases, 1, &mut []),
         ];
         match judged.into_iter().filter_map(Result::err).find(|refusal| refusal.number != 14) {

@@ -1,11 +1,12 @@
 //! Sheets of regions, as editors, spreadsheets and other tools write them.
 //!
-//! A line holds a region, and behind a blank or a tab a label may follow, which is kept in the answer. Lines that begin with '#' and
-//! blank lines are passed over. What may be a region written in another way is never taken for a label: it is a fault, and told.
+//! A line holds a region, and behind a blank or a tab a strand ('+' or '-') and a label may follow; the label is kept in the answer, and
+//! of the strand '-' the reverse complement is asked for. Lines that begin with '#' and blank lines are passed over. What may be a region
+//! written in another way is never taken for a label: it is a fault, and told.
 
 use crate::failure::{Failure, Unreadable};
 use crate::place::short;
-use crate::read::{Asked, Named};
+use crate::read::{AllAsked, Asked, Named};
 use crate::warning::Warning;
 use std::borrow::Cow;
 
@@ -63,20 +64,19 @@ impl Sheet {
 
     /// The regions that it asks for, and what is wrong with the other lines.
     pub fn asked(&self) -> Vec<Result<Asked<'_>, Failure>> {
-        let asked: Vec<_> = if self.bed {
+        if self.bed {
             self.lines().zip(&self.regions).map(|((number, line), region)| self.of_bed(number, line, region)).collect()
         } else {
             self.lines().map(|(number, line)| self.of_line(number, line)).collect()
-        };
-        self.warn_of_strands();
-        asked
+        }
     }
 
     fn of_line<'s>(&'s self, number: u64, line: &'s [u8]) -> Result<Asked<'s>, Failure> {
         let end = line.iter().position(u8::is_ascii_whitespace).unwrap_or(line.len());
         let (text, label) = line.split_at(end);
-        let label = Some(label.trim_ascii()).filter(|label| !label.is_empty());
-        let asked = Asked { text, sheet: Some((&self.shown, number)), row: None, named: None, label };
+        let (is_reverse, label) = strand(text, label.trim_ascii());
+        let label = Some(label).filter(|label| !label.is_empty());
+        let asked = Asked { sheet: Some((&self.shown, number)), label, is_reverse, ..Asked::of(text) };
         match label.and_then(|label| not_a_label(text, label)) {
             None => Ok(asked),
             Some((what, next)) => Err(self.unreadable(number, line, &what, next)),
@@ -84,9 +84,10 @@ impl Sheet {
     }
 
     fn of_bed<'s>(&'s self, number: u64, line: &'s [u8], region: &'s [u8]) -> Result<Asked<'s>, Failure> {
-        let Bed { named, label, .. } =
+        let Bed { named, label, is_reverse } =
             bed_line(line).map_err(|(what, next)| self.unreadable(number, line, &what, next))?;
-        Ok(Asked { text: region, sheet: Some((&self.shown, number)), row: None, named: Some(named), label })
+        let (sheet, named) = (Some((self.shown.as_str(), number)), Some(named));
+        Ok(Asked { sheet, named, label, is_reverse, ..Asked::of(region) })
     }
 
     fn unreadable(&self, number: u64, line: &[u8], what: &str, next: String) -> Failure {
@@ -98,15 +99,27 @@ impl Sheet {
             sheet: Some((self.shown.clone(), number)),
         }))
     }
+}
 
-    /// Bases are read as they stand in the file, whatever strand a line names.
-    fn warn_of_strands(&self) {
-        let is_reverse = |line| bed_line(line).is_ok_and(|bed| bed.is_reverse);
-        let Some((number, _)) = self.lines().find(|(_, line)| self.bed && is_reverse(line)) else { return };
-        let words = format!("{}, line {number}: the strand '-' is passed over", self.shown);
-        let next = "bases are read as they stand in the file; `wakeluri revcomp` turns them".to_string();
-        Warning { next, place: Some((number, 1)), ..Warning::new(&self.shown, words) }.say();
-    }
+/// The first line that asks for the other strand, and its sheet.
+fn first_reverse<'a>(asked: &AllAsked<'a>) -> Option<(&'a str, u64)> {
+    asked.iter().flatten().find(|asked| asked.is_reverse).and_then(|asked| asked.sheet)
+}
+
+/// Fails where a strand is named, and the command turns all of them by itself.
+pub fn no_strands(asked: &AllAsked<'_>) -> Result<(), Failure> {
+    first_reverse(asked).map_or(Ok(()), |(sheet, line)| {
+        Err(Failure::Usage(format!(
+            "{sheet}, line {line}: it names the strand '-', and all regions are to be turned: `wakeluri read` reads each by its strand"
+        )))
+    })
+}
+
+/// Says that strands are passed over, where both are looked at.
+pub fn warn_of_strands(asked: &AllAsked<'_>) {
+    let Some((sheet, line)) = first_reverse(asked) else { return };
+    let words = format!("{sheet}, line {line}: the strand '-' is passed over: both strands are looked at");
+    Warning { place: Some((line, 1)), ..Warning::new(sheet, words) }.say();
 }
 
 /// The text of a sheet without marks before it, and of one byte to a letter.
@@ -146,10 +159,27 @@ fn fields(line: &[u8]) -> impl Iterator<Item = &[u8]> {
     line.split(u8::is_ascii_whitespace).filter(|field| !field.is_empty())
 }
 
+/// Whether the strand '-' follows a region that has both ends, and what follows a strand. Behind another region a sign may be a part of it.
+fn strand<'l>(region: &[u8], label: &'l [u8]) -> (bool, &'l [u8]) {
+    let Some((sign @ (b'+' | b'-'), rest)) = label.split_first() else { return (false, label) };
+    let is_alone = rest.first().is_none_or(u8::is_ascii_whitespace);
+    let rest = rest.trim_ascii_start();
+    let is_bound = |part: &[u8]| !part.is_empty() && part.iter().all(|byte| byte.is_ascii_digit() || *byte == b',');
+    let bounds = region.rsplit(|byte| *byte == b':').next().filter(|bounds| bounds.len() < region.len());
+    let mut ends = bounds.unwrap_or_default().splitn(2, |byte| *byte == b'-');
+    let has_both_ends = ends.next().is_some_and(is_bound) && ends.next().is_some_and(is_bound);
+    let is_followed_by_bounds = fields(rest).next().is_some_and(is_like_bounds);
+    if is_alone && has_both_ends && !is_followed_by_bounds { (*sign == b'-', rest) } else { (false, label) }
+}
+
+fn is_like_bounds(field: &[u8]) -> bool {
+    field.iter().all(|byte| byte.is_ascii_digit() || b",-+.:".contains(byte))
+}
+
 /// Why what follows a region may be meant as a part of it, and what to write.
 fn not_a_label(region: &[u8], label: &[u8]) -> Option<(String, String)> {
     let first = fields(label).next()?;
-    let like_bounds = first.iter().all(|byte| byte.is_ascii_digit() || b",-+.:".contains(byte));
+    let like_bounds = is_like_bounds(first);
     let open = region.last().is_some_and(|byte| b":,-".contains(byte));
     if !like_bounds && !open && first.first() != Some(&b':') {
         return None;
@@ -157,6 +187,8 @@ fn not_a_label(region: &[u8], label: &[u8]) -> Option<(String, String)> {
     let numbers = fields(label).take(2).all(|field| field.iter().all(u8::is_ascii_digit));
     let next = if numbers && fields(label).nth(1).is_some() {
         "of BED, which counts from 0, say so with --bed; else write it as name:5-9"
+    } else if matches!(label, b"+" | b"-") {
+        "write a region without blanks; a strand stands behind one with both ends, as name:5-9 -"
     } else {
         "write a region without blanks, as name:5-9; a label behind it begins with a letter"
     };
@@ -202,13 +234,32 @@ mod tests {
 
     #[test]
     fn what_is_no_label() {
-        for line in ["s:1 -5", "s:100 - 200", "s:1 000-2 000", "s 5 9", "s :5", "s: 5", "s:5- 9", "s:5-9 +", "s:5, 6"] {
+        for line in ["s:1 -5", "s:100 - 200", "s:1 000-2 000", "s 5 9", "s :5", "s: 5", "s:5- 9", "s:5 -", "s +", "s:5, 6"] {
             let (region, label) = line.split_once(' ').unwrap();
+            assert_eq!(strand(region.as_bytes(), label.as_bytes()), (false, label.as_bytes()), "{line}");
             assert!(not_a_label(region.as_bytes(), label.as_bytes()).is_some(), "{line}");
         }
         for line in ["s:1-5 first primer", "s 5prime", "s:5 T7", "s exon-1"] {
             let (region, label) = line.split_once(' ').unwrap();
             assert!(not_a_label(region.as_bytes(), label.as_bytes()).is_none(), "{line}");
+        }
+    }
+
+    #[test]
+    fn strands() {
+        for (line, is_reverse, label) in [
+            ("s:5-9 -", true, ""),
+            ("s:5-9 +", false, ""),
+            ("s:1,005-1,009 -\tfirst primer", true, "first primer"),
+            ("s:5-9 - x", true, "x"),
+            ("s:5-9 -x", false, "-x"),
+            ("s:5-9 - 12", false, "- 12"),
+            ("s:5- -", false, "-"),
+            ("s:-9 -", false, "-"),
+            ("5-9 -", false, "-"),
+        ] {
+            let (region, rest) = line.split_once(' ').unwrap();
+            assert_eq!(strand(region.as_bytes(), rest.as_bytes()), (is_reverse, label.as_bytes()), "{line}");
         }
     }
 }

@@ -1,7 +1,9 @@
 //! What is said on standard error beside an answer; and whether all that is said is JSON.
 
+use crate::colour;
 use crate::json::Object;
 use crate::place::seen;
+use std::cell::RefCell;
 use std::io::Write;
 use std::sync::atomic::{AtomicBool, Ordering};
 
@@ -25,6 +27,23 @@ pub fn is_quiet() -> bool {
 /// From now on everything is said in JSON, or nothing is.
 pub fn say_in_json(json: bool) {
     JSON.store(json, Ordering::Relaxed);
+}
+
+thread_local! {
+    /// What would be said, where it is gathered.
+    static GATHERED: RefCell<Option<String>> = const { RefCell::new(None) };
+}
+
+/// Does something, and gathers what is said beside its answer by this thread.
+pub fn gathered<T>(work: impl FnOnce() -> T) -> (T, String) {
+    GATHERED.set(Some(String::new()));
+    let answer = work();
+    (answer, GATHERED.take().unwrap_or_default())
+}
+
+/// Whether this thread gathers what is said.
+pub fn is_gathered() -> bool {
+    GATHERED.with_borrow(Option::is_some)
 }
 
 /// Whether everything is said in JSON.
@@ -73,6 +92,17 @@ impl<'w> Warning<'w> {
         if is_quiet() {
             return;
         }
-        let _ = std::io::stderr().write_all(self.told(in_json()).as_bytes());
+        let told = self.told(in_json());
+        let told = if in_json() { told } else { colour::of_messages(told) };
+        let rest = GATHERED.with_borrow_mut(|gathered| match gathered {
+            Some(gathered) => {
+                gathered.push_str(&told);
+                None
+            }
+            None => Some(told),
+        });
+        if let Some(told) = rest {
+            let _ = std::io::stderr().write_all(told.as_bytes());
+        }
     }
 }

@@ -1,0 +1,114 @@
+//! `wakeluri faidx`: called as `samtools faidx` is, so that a script has to change one word. What would differ is refused, and the reason
+//! is told.
+
+use crate::arguments::{file, flag, output, regions};
+use crate::failure::Failure;
+use crate::header::{Header, Mark};
+use crate::input::is_placeless;
+use crate::output::Output;
+use crate::read::Turn;
+use crate::{Common, index_of, index_one, path, read_as, write};
+use clap::{Arg, ArgMatches, Command, ValueHint, value_parser};
+use std::path::{Path, PathBuf};
+
+const EXAMPLES: &str = "\
+Examples:
+  wakeluri faidx ref.fa                         writes ref.fa.fai, and says nothing
+  wakeluri faidx ref.fa chr1:101-200            as samtools, where samtools gives exactly that
+  wakeluri faidx -i -o out.fa ref.fa chr1:5-9   its reverse complement, as >chr1:5-9/rc, to a file
+
+Other than samtools:
+  a region past the end of its record is refused (17), and not cut short
+  one region that is not good: nothing is written, and -c is refused
+  the index is checked with the file before it is used; where there is none it is made and written, as samtools does
+  a byte without a complement is refused (24), and not copied
+  FASTQ (-f) and packed files (--gzi-idx) are not read";
+
+/// The words, as samtools has them.
+pub fn command() -> Command {
+    let place = |name: &'static str, long: &'static str, help: &'static str| {
+        Arg::new(name)
+            .long(long)
+            .value_name("FILE")
+            .help(help)
+            .value_parser(value_parser!(PathBuf))
+            .value_hint(ValueHint::FilePath)
+    };
+    Command::new("faidx")
+        .about("Index a file, or read regions of it, called as samtools faidx is")
+        .after_help(EXAMPLES)
+        .arg(file().required(true))
+        .arg(regions())
+        .arg(output("FILE", "write the bases to a file"))
+        .arg(
+            Arg::new("width")
+                .long("length")
+                .short('n')
+                .value_name("INT")
+                .help("bases to a line")
+                .value_parser(value_parser!(usize))
+                .default_value("60"),
+        )
+        .arg(place("regions", "region-file", "a file with a region to a line").short('r'))
+        .arg(flag("reverse-complement").short('i').help("the reverse complement of each region"))
+        .arg(
+            Arg::new("mark-strand")
+                .long("mark-strand")
+                .value_name("TYPE")
+                .help("what stands behind a region: rc (/rc if it is turned), no, sign ((+) or (-)), custom,PLUS,MINUS")
+                .default_value("rc"),
+        )
+        .arg(place("index-option", "fai-idx", "the index, if it isn't FILE.fai"))
+        .arg(flag("continue").short('c').help("refused: all regions are read, or none"))
+        .arg(flag("fastq").short('f').help("refused: only FASTA is read"))
+        .arg(place("gzi-idx", "gzi-idx", "refused: packed files are not read"))
+}
+
+/// Why what samtools would do isn't done.
+fn other(words: &ArgMatches) -> Result<(), Failure> {
+    let refused = |what: &str| Err(Failure::Usage(what.to_string()));
+    if words.get_flag("continue") {
+        return refused("-c is not taken: all regions are read, or none, so that no answer lacks one unseen");
+    }
+    if words.get_flag("fastq") {
+        return refused("-f is not taken: this reads FASTA alone; `samtools fqidx` reads FASTQ");
+    }
+    if path(words, "gzi-idx").is_some() {
+        return refused("--gzi-idx is not taken: packed files are not read; unpack it: `gzip -dc FILE | wakeluri read - ..`");
+    }
+    if words.get_one::<usize>("width") == Some(&0) {
+        return refused("a line of no bases can't be written: -n is 1 at least");
+    }
+    Ok(())
+}
+
+/// As samtools: without a region the index is written; else the regions are read, and an index that isn't there is written first.
+pub fn faidx(words: &ArgMatches, common: Common<'_>) -> Result<(), Failure> {
+    other(words)?;
+    let named = words.get_one::<String>("mark-strand").map_or("rc", String::as_str);
+    let Some(mark) = Mark::of(named) else {
+        let what = format!("--mark-strand is rc, no, sign or custom,PLUS,MINUS, and not '{named}'");
+        return Err(Failure::Usage(what));
+    };
+    let file = path(words, "file").unwrap_or(Path::new("-"));
+    let place = path(words, "index-option").map_or_else(|| index_of(file), Path::to_path_buf);
+    let has_regions = words.contains_id("region") || words.contains_id("regions");
+    if !has_regions {
+        if words.contains_id("output") {
+            let what = "-o is where bases go, and no region is named: --fai-idx names another index";
+            return Err(Failure::Usage(what.to_string()));
+        }
+        let output = if is_placeless(file) && path(words, "index-option").is_none() {
+            Output::Standard
+        } else {
+            Output::of(&place)?
+        };
+        let line = index_one(file, &output, false, common)?;
+        return if common.json { write(line.as_bytes()) } else { Ok(()) };
+    }
+    if !is_placeless(file) && !place.exists() {
+        index_one(file, &Output::of(&place)?, false, common)?;
+    }
+    let turn = if words.get_flag("reverse-complement") { Turn::Reverse } else { Turn::AsIs };
+    read_as(words, turn, Header { mark: Some(mark), is_full: false }, common)
+}
