@@ -74,7 +74,9 @@ fn other(words: &ArgMatches) -> Result<(), Failure> {
         return refused("-f is not taken: this reads FASTA alone; `samtools fqidx` reads FASTQ");
     }
     if path(words, "gzi-idx").is_some() {
-        return refused("--gzi-idx is not taken: packed files are not read; unpack it: `gzip -dc FILE | wakeluri read - ..`");
+        return refused(
+            "--gzi-idx is not taken: packed files are not read; unpack it: `gzip -dc FILE | wakeluri read - ..`",
+        );
     }
     if words.get_one::<usize>("width") == Some(&0) {
         return refused("a line of no bases can't be written: -n is 1 at least");

@@ -180,6 +180,9 @@ fn index(words: &ArgMatches, common: Common) -> Result<(), Failure> {
         }
     };
     let named = named_index(words, &item, true)?;
+    if named.is_some() && path(words, "output").is_some() {
+        return Err(Failure::Usage("two indexes are named, and one is needed".to_string()));
+    }
     let output = match path(words, "output").or(named) {
         Some(output) => Output::of(output)?,
         None if is_placeless(&item.file) => Output::Standard,

@@ -2,12 +2,12 @@
 
 use crate::advice;
 use crate::failure::{Failure, Refused, Unreadable};
+use crate::header::{self, Header};
 use crate::input::Input;
 use crate::json::Object;
 use crate::letters::{Odd, of_rna};
 use crate::names::wanted_names;
 use crate::nearest::nearest;
-use crate::header::{self, Header};
 use crate::output::{Answers, Output, failed};
 use crate::place::{commas, count, quoted, short};
 use crate::region::{Meaning, Number, Reading, Written, is_before_a_colon, meaning, plain_form, readings};

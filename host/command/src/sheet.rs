@@ -234,7 +234,9 @@ mod tests {
 
     #[test]
     fn what_is_no_label() {
-        for line in ["s:1 -5", "s:100 - 200", "s:1 000-2 000", "s 5 9", "s :5", "s: 5", "s:5- 9", "s:5 -", "s +", "s:5, 6"] {
+        for line in
+            ["s:1 -5", "s:100 - 200", "s:1 000-2 000", "s 5 9", "s :5", "s: 5", "s:5- 9", "s:5 -", "s +", "s:5, 6"]
+        {
             let (region, label) = line.split_once(' ').unwrap();
             assert_eq!(strand(region.as_bytes(), label.as_bytes()), (false, label.as_bytes()), "{line}");
             assert!(not_a_label(region.as_bytes(), label.as_bytes()).is_some(), "{line}");

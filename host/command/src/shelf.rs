@@ -123,7 +123,9 @@ pub fn named(words: &ArgMatches) -> Result<Named, Failure> {
         }
         if is_index_by_name(path) {
             let shown = input::shown(path);
-            return Err(Failure::Usage(format!("{shown}: an index stands behind its file, and here no file is before it")));
+            return Err(Failure::Usage(format!(
+                "{shown}: an index stands behind its file, and here no file is before it"
+            )));
         }
         if path.is_dir() {
             passed_over += of_folder(path, &mut items);
@@ -265,7 +267,8 @@ impl Shelf<'_> {
             return object.number("worst_status", worst.into()).line();
         }
         let part = |number: u64, what: &str| (number > 0).then(|| format!("{} {what}", commas(number)));
-        let passed_over = (self.passed_over > 0).then(|| format!("; {} passed over", count(self.passed_over, "packed file")));
+        let passed_over =
+            (self.passed_over > 0).then(|| format!("; {} passed over", count(self.passed_over, "packed file")));
         let parts = [part(good, self.work.done()), part(refused, "refused"), part(failed, "failed")];
         let parts: Vec<String> = parts.into_iter().flatten().collect();
         format!("{}: {}{}\n", count(files, "file"), parts.join(", "), passed_over.unwrap_or_default())
@@ -313,7 +316,8 @@ impl Shelf<'_> {
     /// A process of its own for a file that is mapped.
     fn by_a_process(self, item: &Item, common: Common<'_>) -> Said {
         let lost = |words: String| {
-            let failure = Failure::InputOutput { words: format!("{}: {words}", input::shown(&item.file)), next: String::new() };
+            let failure =
+                Failure::InputOutput { words: format!("{}: {words}", input::shown(&item.file)), next: String::new() };
             self.of(item, Err(failure), String::new(), common.json)
         };
         let Ok(itself) = std::env::current_exe() else { return lost("the command can't find itself".to_string()) };
@@ -333,7 +337,9 @@ impl Shelf<'_> {
                 Said { status: status as u8, line: out, warnings: err }
             }
             // it had no time to say more
-            Some(_) if !err.is_empty() => Said { status: 3, line: bad(item, 3, &err, common.json), warnings: String::new() },
+            Some(_) if !err.is_empty() => {
+                Said { status: 3, line: bad(item, 3, &err, common.json), warnings: String::new() }
+            }
             _ => lost("the process that worked on it was ended".to_string()),
         }
     }

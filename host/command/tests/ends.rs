@@ -199,13 +199,9 @@ fn an_unreadable_file_a_folder_and_no_file() {
     let folder = Folder::new("unreadable");
     folder.write("f.fa", ">s\nACGT\n");
     fs::create_dir(folder.at("sub")).unwrap();
-    for words in [
-        &["index", "sub"][..],
-        &["read", "sub", "s"],
-        &["check", "sub", "f.fa"],
-        &["check", "f.fa", "sub"],
-        &["read", "f.fa", "-r", "sub"],
-    ] {
+    for words in
+        [&["list", "sub"][..], &["read", "sub", "s"], &["check", "f.fa", "-i", "sub"], &["read", "f.fa", "-r", "sub"]]
+    {
         folder.run(words).failed(3, &["sub: this is a folder, and a file is needed"]);
     }
     for words in

@@ -7,7 +7,7 @@ use common::{Answer, Folder};
 use std::collections::BTreeSet;
 
 /// The fields that the manual names, and whether they are numbers.
-const NUMBERS: [&str; 19] = [
+const NUMBERS: [&str; 25] = [
     "status",
     "refused",
     "first",
@@ -27,27 +27,37 @@ const NUMBERS: [&str; 19] = [
     "bytes_that_are_no_letters",
     "faults",
     "files",
+    "files_good",
+    "files_refused",
+    "files_failed",
+    "files_passed_over",
+    "worst_status",
+    "regions",
 ];
-const TEXTS: [&str; 19] = [
+const TEXTS: [&str; 23] = [
     "words", "next", "code", "file", "region", "region_hex", "sheet", "warning", "index", "output", "name", "name_hex",
-    "label", "label_hex", "turned", "bases", "bases_hex", "help", "version",
+    "label", "label_hex", "turned", "bases", "bases_hex", "help", "version", "given", "given_hex", "description",
+    "description_hex",
 ];
+
+#[track_caller]
+fn keys_are_known(object: &Json) {
+    let Json::Object(fields) = object else { unreachable!() };
+    for (key, value) in fields {
+        let good = match value {
+            Json::Number(_) => NUMBERS.contains(&key.as_str()),
+            Json::Text(_) => TEXTS.contains(&key.as_str()),
+            Json::Truth(_) => key == "accepted",
+            _ => false,
+        };
+        assert!(good, "{key} in {object:?}");
+    }
+}
 
 #[track_caller]
 fn by_the_schema(answer: &Answer) {
     let (out, err) = (objects(&answer.out), objects(&answer.err));
-    for object in out.iter().chain(&err) {
-        let Json::Object(fields) = object else { unreachable!() };
-        for (key, value) in fields {
-            let good = match value {
-                Json::Number(_) => NUMBERS.contains(&key.as_str()),
-                Json::Text(_) => TEXTS.contains(&key.as_str()),
-                Json::Truth(_) => key == "accepted",
-                _ => false,
-            };
-            assert!(good, "{key} in {object:?}");
-        }
-    }
+    out.iter().chain(&err).for_each(keys_are_known);
     for object in &err {
         match object.get("warning") {
             Some(_) => assert!(object.text("file").is_some() && object.get("status").is_none(), "{object:?}"),
@@ -80,7 +90,10 @@ fn fault_6_of_words() {
     for words in [
         &[][..],
         &["read"],
-        &["read", "f.fa"],
+        &["faidx", "-c", "f.fa", "s"],
+        &["faidx", "--mark-strand", "x", "f.fa", "s"],
+        &["check", "f.fa", "f.fa", "-"],
+        &["read", "--full-header", "--unchecked", "f.fa", "-i", "f.fa"],
         &["write", "f.fa"],
         &["raed", "f.fa"],
         &["read", "--nonsense", "f.fa", "s"],
@@ -196,9 +209,11 @@ fn fault_6_of_refusals_and_errors() {
         run(&["index", "huge.fa"], 1);
     }
     folder.write("notes.txt", "my notes");
+    std::fs::create_dir(folder.at("empty")).unwrap();
     for words in [
         &["index", "no.fa"][..],
-        &["index", "."],
+        &["read", "f.fa", "-o", "f.fa"],
+        &["read", "f.fa", "-o", "notes.txt"],
         &["index", "f.fa", "-o", "f.fa"],
         &["index", "f.fa", "-o", "."],
         &["index", "f.fa", "-o", "no/such/folder.fai"],
@@ -209,6 +224,12 @@ fn fault_6_of_refusals_and_errors() {
         &["wrap", "f.fa", "-o", "f.fa"],
     ] {
         run(words, 3);
+    }
+    // of several files all is said on standard output
+    for words in [&["index", "empty", "f.fa"][..], &["check", "empty", "f.fa"]] {
+        let answer = folder.run(&[&["--json"], words].concat());
+        objects(&answer.out).iter().for_each(keys_are_known);
+        assert_eq!((answer.status, answer.out.lines().count()), (Some(3), 3), "{answer:?}");
     }
     // 30 is refused by what writes FASTA; 8, 13, 14 and 25 can't be met
     let all = [1, 2, 3, 4, 5, 6, 7, 9, 10, 11, 12, 15, 16, 17, 18, 19, 20, 21, 22, 23, 24, 30, 42];

@@ -50,10 +50,10 @@ fn fault_14_both_ways_in_every_command() {
     folder.run(&["read", "f.fa", "x.fai"]).gave(">x.fai\nG\n");
     folder.write("x.fai", index);
     folder.run(&["read", "f.fa", "{x.fai}"]).gave(">{x.fai}\nG\n");
-    folder.run(&["read", "f.fa", "x.fai"]).failed(2, &["no region is named"]);
+    folder.run(&["read", "f.fa", "x.fai"]).gave(">s\nACGT\n>x.fai\nG\n");
     folder.run(&["read", "f.fa", "-i", "i.fai", "x.fai"]).gave(">x.fai\nG\n");
     // nothing is written to a name that is no index's, and two are one too many
-    folder.run(&["index", "f.fa", "g.fa"]).failed(2, &["to write the index to g.fa, say --output"]);
+    folder.run(&["index", "f.fa", "g.txt"]).failed(2, &["to write the index to g.txt, say --output"]);
     folder.run(&["index", "f.fa", "i.fai", "-o", "i.fai"]).failed(2, &[]);
     folder.run(&["check", "f.fa", "i.fai", "-i", "i.fai"]).failed(2, &["two indexes are named"]);
 }

@@ -474,7 +474,6 @@ fn usage() {
     for words in [
         &[][..],
         &["read"],
-        &["read", "f.fa"],
         &["write", "f.fa"],
         &["read", "--nonsense", "f.fa", "s"],
         &["read", "-", "--regions", "-"],

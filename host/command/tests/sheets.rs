@@ -75,7 +75,7 @@ fn fault_9_labels_are_kept() {
         .run(&["revcomp", "f.fa", "-r", "sheet.txt"])
         .gave(">s:1-3 reverse complement T7 forward\nCGT\n>t reverse complement key\nGGCC\n");
     // what may be bounds is no label
-    for line in ["s:1 -3", "s 1 3", "s:1 000", "s :1-3", "s: 1-3", "s:1- 3", "s:1-3 -"] {
+    for line in ["s:1 -3", "s 1 3", "s:1 000", "s :1-3", "s: 1-3", "s:1- 3", "s:1 -"] {
         folder.write("sheet.txt", line);
         let words = ["sheet.txt, line 1: '", "no label, but may be a part of the region"];
         folder.run(&["read", "f.fa", "-r", "sheet.txt"]).failed(2, &words);
@@ -96,8 +96,10 @@ fn fault_9_bed() {
     assert_eq!((first.number("start"), first.number("end"), first.text("bases")), (Some(1), Some(3), Some("ACG")));
     folder.write("sheet.bed", "s\t0\t3\tx\t0\t-\n");
     let strand = folder.run(&["read", "f.fa", "-r", "sheet.bed", "--bed"]);
-    assert_eq!((strand.status, strand.out.as_str()), (Some(0), ">s:1-3 x\nACG\n"));
-    assert!(strand.err.contains("warning: sheet.bed, line 1: the strand '-' is passed over"), "{strand:?}");
+    strand.gave(">s:1-3 reverse complement x\nCGT\n");
+    folder.write("sheet.txt", "s:1-3 -\n");
+    let both = folder.run(&["primer", "ACG", "f.fa", "-r", "sheet.txt"]);
+    assert!(both.err.contains("warning: sheet.txt, line 1: the strand '-' is passed over"), "{both:?}");
     folder.write("sheet.bed", "s\t3\t3\ns\t0\ns\tx\t3\ns\t0\t-3\n");
     let faults = folder.run(&["read", "f.fa", "-r", "sheet.bed", "--bed"]);
     faults.failed(2, &["line 1: ", "it has no bases", "line 2: ", "three columns", "line 3: ", "line 4: "]);
