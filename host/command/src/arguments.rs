@@ -129,8 +129,13 @@ fn files() -> Arg {
 /// One file alone is judged, and what is said of it is the line that a list has for it.
 pub const ALONE: &str = "--alone";
 
-fn alone() -> Arg {
-    flag("alone").hide(true)
+/// The word is known only where it is said by the command itself, right behind what is to be done: no completion has it.
+fn alone(command: Command) -> Command {
+    if std::env::args_os().nth(2).is_some_and(|word| word == ALONE) {
+        command.arg(flag("alone").hide(true))
+    } else {
+        command
+    }
 }
 
 /// The index by a word of its own.
@@ -240,28 +245,26 @@ pub fn command() -> Command {
                 .value_parser(PossibleValuesParser::new(["auto", "map", "read"]))
                 .default_value("auto"),
         )
-        .subcommand(
+        .subcommand(alone(
             Command::new("index")
                 .about("Write the index of a file, in samtools' form, or say what is wrong and where")
                 .after_help(INDEX_EXAMPLES)
                 .arg(files())
-                .arg(alone())
                 .arg(index_option().help("where to, as --output"))
                 .arg(
                     output("INDEX", "where to, if not to FILE.fai; - is standard output")
                         .conflicts_with("index-option"),
                 )
                 .arg(strict()),
-        )
-        .subcommand(
+        ))
+        .subcommand(alone(
             Command::new("check")
                 .about("Accept an index of any program, exactly if it leads to every base of the file")
                 .after_help(CHECK_EXAMPLES)
                 .arg(files())
-                .arg(alone())
                 .arg(index_option())
                 .arg(flag("strict").help("refuse bytes among the bases that are no letters")),
-        )
+        ))
         .subcommand(reading(
             Command::new("read")
                 .about("Read exactly the bases of some regions, as FASTA; never fewer")

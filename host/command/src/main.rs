@@ -171,7 +171,7 @@ fn index(words: &ArgMatches, common: Common) -> Result<(), Failure> {
         index_one(&item.file, &Output::of(&place)?, strict, common)
     };
     let item = match shelf::named(words)? {
-        Named::One(item) if words.get_flag("alone") => {
+        Named::One(item) if said(words, "alone") => {
             return shelf::alone(&item, Work::Index, one(&item, common), common.json);
         }
         Named::One(item) => item,
@@ -295,9 +295,7 @@ fn check(words: &ArgMatches, common: Common) -> Result<(), Failure> {
     let strict = words.get_flag("strict");
     let one = |item: &Item, common: Common| check_one(&item.file, item.index.as_deref(), strict, common);
     match shelf::named(words)? {
-        Named::One(item) if words.get_flag("alone") => {
-            shelf::alone(&item, Work::Check, one(&item, common), common.json)
-        }
+        Named::One(item) if said(words, "alone") => shelf::alone(&item, Work::Check, one(&item, common), common.json),
         Named::One(item) => {
             report(check_one(&item.file, named_index(words, &item, false)?, strict, common)?.as_bytes())
         }

@@ -10,6 +10,7 @@ use std::os::fd::{AsRawFd, FromRawFd, RawFd};
 use std::os::unix::ffi::OsStrExt;
 use std::os::unix::fs::{FileTypeExt, MetadataExt, OpenOptionsExt, chown};
 use std::path::{Path, PathBuf};
+use std::sync::atomic::{AtomicBool, Ordering};
 
 /// Where answers go, for everything at once.
 pub struct Answers<'w>(io::BufWriter<Box<dyn Write + 'w>>);
@@ -268,11 +269,25 @@ fn replace(path: &Path, what: &str, fill: Fill<'_>) -> Result<(), Failure> {
         let next = format!("{next} write it elsewhere with --output").trim_start().to_string();
         return Err(Failure::system(&format!("it can't be written, and {old}"), &shown, &error, &next));
     }
-    // the new name is on the disk when its folder is
-    if let Ok(folder) = File::open(folder(&place)) {
-        let _ = folder.sync_all();
+    if !FOLDERS_LATER.load(Ordering::Relaxed) {
+        sync_folder(folder(&place));
     }
     Ok(())
+}
+
+/// Whether folders are put on the disk at the end, by whoever writes many files.
+static FOLDERS_LATER: AtomicBool = AtomicBool::new(false);
+
+/// From now on the folders of files that are written are put on the disk by whoever asked for this.
+pub fn sync_folders_later() {
+    FOLDERS_LATER.store(true, Ordering::Relaxed);
+}
+
+/// A new name is on the disk when its folder is.
+pub fn sync_folder(folder: &Path) {
+    if let Ok(folder) = File::open(folder) {
+        let _ = folder.sync_all();
+    }
 }
 
 /// Gives a new file the owner, the group and the mode of the one whose place it takes, as far as one may.

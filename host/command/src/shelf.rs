@@ -5,15 +5,16 @@
 //! comes last. A file that is bad, or that is cut while it is read, hides no other: files that would be mapped are judged by a process of
 //! their own, since the signal of a cut file ends a process.
 
+use crate::apart::folder;
 use crate::arguments;
 use crate::failure::Failure;
 use crate::input::{self, How, MAPPED_FROM};
 use crate::json::Object;
-use crate::output::Answers;
+use crate::output::{self, Answers};
 use crate::place::{commas, count, seen};
 use crate::{Common, colour, warning};
 use clap::ArgMatches;
-use std::collections::{BTreeMap, HashSet};
+use std::collections::{BTreeMap, BTreeSet, HashSet};
 use std::fs;
 use std::io::Write;
 use std::os::unix::fs::MetadataExt;
@@ -212,6 +213,9 @@ impl Shelf<'_> {
         // an index is on the disk before it is told of, and disks take many at a time
         let threads = if self.work == Work::Index { cores * WAITING } else { cores }.min(self.items.len());
         let (next, over) = (AtomicUsize::new(0), AtomicBool::new(false));
+        if self.work == Work::Index {
+            output::sync_folders_later();
+        }
         let (sender, receiver) = mpsc::channel();
         thread::scope(|scope| {
             for _ in 0..threads {
@@ -233,6 +237,14 @@ impl Shelf<'_> {
         })
     }
 
+    /// Puts on the disk the folders that indexes were written to.
+    fn sync_folders(self) {
+        let place = |item: &Item| item.index.clone().unwrap_or_else(|| item.file.clone());
+        let places: BTreeSet<PathBuf> =
+            self.items.iter().map(place).map(|place| folder(&place).to_path_buf()).collect();
+        places.iter().for_each(|place| output::sync_folder(place));
+    }
+
     /// Says of each in the order of the list, as soon as all before it are done.
     fn tell(self, receiver: mpsc::Receiver<(usize, Said)>, json: bool) -> Result<(), Failure> {
         let (mut waiting, mut next) = (BTreeMap::new(), 0);
@@ -249,6 +261,9 @@ impl Shelf<'_> {
                 }
                 next += 1;
             }
+        }
+        if self.work == Work::Index {
+            self.sync_folders();
         }
         let worst = by_status.iter().rposition(|count| *count > 0).unwrap_or(0) as u8;
         if !warning::is_quiet() {

@@ -110,7 +110,7 @@ fn strands_of_a_sheet() {
     folder.write("sheet.bed", "s\t0\t3\tp\t0\t-\ns\t0\t3\tq\t0\t+\ns\t4\t8\n");
     folder
         .run(&["read", "f.fa", "--bed", "-r", "sheet.bed"])
-        .gave(concat!(">s:1-3 reverse complement p\nGTT\n>s:1-3 q\nAAC\n>s:5-8\nTTGG\n",));
+        .gave(">s:1-3 reverse complement p\nGTT\n>s:1-3 q\nAAC\n>s:5-8\nTTGG\n");
     let told = folder.run(&["read", "--json", "f.fa", "-r", "sheet.txt"]);
     let turned: Vec<_> = objects(&told.out).iter().map(|object| object.text("turned").is_some()).collect();
     assert_eq!(turned, [true, false, false, true]);

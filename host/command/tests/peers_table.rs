@@ -269,7 +269,8 @@ fn is_installed(program: &str) -> bool {
 
 /// Runs a cell in a new folder, and holds what is left against it.
 fn run(row: &Row, program: &str, Cell(words, left, said): Cell, number: usize) {
-    let folder = Folder::new(&format!("peers-table-{number}-{}", Path::new(program).file_name().unwrap().display()));
+    let folder =
+        Folder::new(&format!("peers-table-{number}-{}", Path::new(program).file_name().unwrap().to_string_lossy()));
     folder.write("f.fa", row.file);
     symlink("f.fa", folder.at("l.fa")).unwrap();
     let bed = match row.case {

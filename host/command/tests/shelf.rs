@@ -157,7 +157,7 @@ fn a_file_that_is_cut_hides_no_other() {
     assert!(told.out.contains("\nindexed: refs/b.fa.fai: 1 record, 4 bases\n2 files: "), "{told:?}");
 }
 
-/// A thousand small pairs take a second or so: ten are allowed here, on a machine that has other work.
+/// A thousand small pairs take a second or so: thirty are allowed here, on a machine that has other work.
 #[test]
 fn a_thousand_pairs() {
     let folder = Folder::new("shelf-thousand");
@@ -170,7 +170,7 @@ fn a_thousand_pairs() {
         let told = folder.run(words);
         let taken = start.elapsed();
         assert_eq!((told.status, told.out.lines().last(), told.out.lines().count()), (Some(0), Some(last), 1001));
-        assert!(taken < Duration::from_secs(10), "{words:?} took {taken:?}");
+        assert!(taken < Duration::from_secs(30), "{words:?} took {taken:?}");
         eprintln!("{words:?}: {taken:?}");
     };
     timed(&["index", "refs"], "1,000 files: 1,000 indexed");
