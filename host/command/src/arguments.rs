@@ -126,6 +126,10 @@ fn files() -> Arg {
         .value_hint(ValueHint::AnyPath)
 }
 
+fn each() -> Arg {
+    flag("each").help("every word is a file or a folder, and none an index; a line for each, also of one file alone")
+}
+
 /// One file alone is judged, and what is said of it is the line that a list has for it.
 pub const ALONE: &str = "--alone";
 
@@ -250,6 +254,7 @@ pub fn command() -> Command {
                 .about("Write the index of a file, in samtools' form, or say what is wrong and where")
                 .after_help(INDEX_EXAMPLES)
                 .arg(files())
+                .arg(each())
                 .arg(index_option().help("where to, as --output"))
                 .arg(
                     output("INDEX", "where to, if not to FILE.fai; - is standard output")
@@ -262,6 +267,7 @@ pub fn command() -> Command {
                 .about("Accept an index of any program, exactly if it leads to every base of the file")
                 .after_help(CHECK_EXAMPLES)
                 .arg(files())
+                .arg(each())
                 .arg(index_option())
                 .arg(flag("strict").help("refuse bytes among the bases that are no letters")),
         ))

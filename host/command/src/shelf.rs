@@ -15,8 +15,8 @@ use crate::place::{commas, count, seen};
 use crate::{Common, colour, warning};
 use clap::ArgMatches;
 use std::collections::{BTreeMap, BTreeSet, HashSet};
-use std::fs;
-use std::io::Write;
+use std::fs::{self, File};
+use std::io::{Read, Write};
 use std::os::unix::fs::MetadataExt;
 use std::path::{Path, PathBuf};
 use std::process::{Command, Stdio};
@@ -94,8 +94,15 @@ fn is_index_by_name(path: &Path) -> bool {
     ending(path).is_some_and(|end| end == "fai")
 }
 
-/// The files and folders that are named. Behind one file the second word is its index, unless it is a folder or ends as FASTA files do; in a
-/// longer list a word that ends in .fai is the index of the file before it.
+/// Whether a file begins as FASTA does; nothing is read of what is no regular file.
+fn is_fasta_inside(path: &Path) -> bool {
+    let mut start = [0];
+    let is_file = fs::metadata(path).is_ok_and(|meta| meta.is_file());
+    is_file && File::open(path).and_then(|mut file| file.read(&mut start)).is_ok_and(|read| read == 1 && start == *b">")
+}
+
+/// The files and folders that are named. Behind one file the second word is its index, unless it is a folder, or FASTA by its name or its first
+/// byte; in a longer list a word that ends in .fai is the index of the file before it. With `--each` no word is an index.
 pub fn named(words: &ArgMatches) -> Result<Named, Failure> {
     let given: Vec<&PathBuf> = words.get_many::<PathBuf>("files").unwrap_or_default().collect();
     let item = |file: &Path, index: Option<&Path>| Item {
@@ -103,9 +110,11 @@ pub fn named(words: &ArgMatches) -> Result<Named, Failure> {
         index: index.map(Path::to_path_buf),
         fault: None,
     };
+    let each = words.get_flag("each");
     match given.as_slice() {
+        _ if each => {}
         [file] if !file.is_dir() => return Ok(Named::One(item(file, None))),
-        [file, index] if !file.is_dir() && !index.is_dir() && !is_fasta_by_name(index) => {
+        [file, index] if !file.is_dir() && !index.is_dir() && !is_fasta_by_name(index) && !is_fasta_inside(index) => {
             return Ok(Named::One(item(file, Some(index))));
         }
         _ => {}
@@ -122,7 +131,7 @@ pub fn named(words: &ArgMatches) -> Result<Named, Failure> {
         if input::is_placeless(path) {
             return Err(Failure::Usage(format!("{} can't be one of several files", input::shown(path))));
         }
-        if is_index_by_name(path) {
+        if is_index_by_name(path) && !each {
             let shown = input::shown(path);
             return Err(Failure::Usage(format!(
                 "{shown}: an index stands behind its file, and here no file is before it"
@@ -131,7 +140,7 @@ pub fn named(words: &ArgMatches) -> Result<Named, Failure> {
         if path.is_dir() {
             passed_over += of_folder(path, &mut items);
         } else {
-            let index = rest.next_if(|next| is_index_by_name(next));
+            let index = rest.next_if(|next| is_index_by_name(next) && !each);
             items.push(item(path, index.map(PathBuf::as_path)));
         }
     }

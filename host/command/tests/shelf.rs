@@ -76,11 +76,7 @@ fn each_answer_depends_on_its_file_alone() {
             lines.pop();
             lines
         };
-        let one_by_one = files.iter().flat_map(|file| {
-            // a list of one is written with its file twice
-            let told = of(&[file, file, file]);
-            without_summary(&told).first().cloned()
-        });
+        let one_by_one = files.iter().flat_map(|file| without_summary(&of(&[file, "--each"])));
         assert_eq!(without_summary(&all), one_by_one.collect::<Vec<_>>());
         assert_eq!(without_summary(&all), without_summary(&of(&["refs"])));
         let turned: Vec<&str> = files.iter().rev().copied().collect();
@@ -112,6 +108,14 @@ fn an_index_behind_its_file() {
         "accepted: refs/good.fa.fai leads to every base of refs/good.fa (1 record, 6 bases)\n",
         "2 files: 2 accepted\n",
     ));
+    // a file of any name is one of the list, by its first byte or with --each
+    fs::copy(folder.at("refs/good.fa"), folder.at("b.txt")).unwrap();
+    fs::copy(folder.at("a.fai"), folder.at("b.txt.fai")).unwrap();
+    let told = folder.run(&["check", "refs/good.fa", "b.txt"]);
+    assert!(told.out.ends_with("b.txt (1 record, 6 bases)\n2 files: 2 accepted\n"), "{told:?}");
+    folder.write("b.txt", "no FASTA");
+    let told = folder.run(&["check", "--each", "refs/good.fa", "b.txt"]);
+    assert!(told.out.contains("\nrefused: b.txt, line 1") && told.status == Some(1), "{told:?}");
     folder.run(&["check", "a.fai", "refs/good.fa", "refs/good.fa"]).failed(2, &["no file is before it"]);
     folder.run(&["check", "refs", "-i", "a.fai"]).failed(2, &["one index is named, and several files"]);
     folder.run(&["index", "refs", "-o", "a.fai"]).failed(2, &["one index is named, and several files"]);
@@ -181,9 +185,13 @@ fn a_thousand_pairs() {
 #[test]
 fn by_xargs() {
     let folder = shelf("shelf-xargs");
-    let line = format!("find refs -name '*.fa' -print0 | sort -z | xargs -0 -n 1 -P 2 {WAKELURI} check -q");
+    let line = format!("find refs -name '*.fa' -print0 | sort -z | xargs -0 -n 1 -P 2 {WAKELURI} check -q --each");
     let told = Answer::from(Command::new("sh").args(["-c", &line]).current_dir(folder.path()).output().unwrap());
     // xargs tells 123 where one of them was not 0
     assert_eq!(told.status, Some(123), "{told:?}");
-    assert!(told.err.contains("refs/sub/uneven.fa.fai: there is no such file"), "{told:?}");
+    let mut lines: Vec<&str> = told.out.lines().collect();
+    lines.sort_unstable();
+    let lacks = |file: &str| format!("failed: refs/sub/{file}.fai: there is no such file");
+    // find looks into hidden folders too
+    assert_eq!(lines, [lacks(".hidden/x.fa"), lacks("uneven.fa")], "{told:?}");
 }
