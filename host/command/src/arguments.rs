@@ -59,6 +59,8 @@ Examples:
   wakeluri read ref.fa --full-header          all records, with their descriptions
   zcat ref.fa.gz | wakeluri read - chr1:5-9
 
+A line of a sheet: a region; behind it, if you like, a strand, of which - reads the reverse complement, and a label.
+Without a region all records are read, whole.
 With an index (ref.fa.fai, or --index) it is first checked with the whole file; without one, one is made in memory.
 Nothing is written before all regions are known to be good.";
 

@@ -33,6 +33,7 @@ fn painted_line(line: &str) -> String {
     let begins = [
         ("wakeluri: warning:", YELLOW),
         ("wakeluri:", RED),
+        ("error:", RED),
         ("accepted:", GREEN),
         ("indexed:", GREEN),
         ("refused:", RED),

@@ -1,6 +1,7 @@
 //! The words that the command was given, understood or not. With `--json` what is said of them is JSON too.
 
 use crate::arguments;
+use crate::colour;
 use crate::failure::Failure;
 use crate::json::Object;
 use crate::place::seen;
@@ -32,7 +33,7 @@ fn said(error: &Error) -> ExitCode {
             std::io::stdout().write_all(Object::new().text(key, text.trim_end()).line().as_bytes())
         }
         None if warning::in_json() => std::io::stderr().write_all(in_json(&text).as_bytes()),
-        None => std::io::stderr().write_all(seen(&text).as_bytes()),
+        None => std::io::stderr().write_all(colour::of_messages(seen(&text)).as_bytes()),
         Some(_) => error.print(),
     };
     ExitCode::from(if asked_for.is_some() { 0 } else { 2 })

@@ -27,6 +27,8 @@ fn colour_on_a_terminal_alone() {
     };
     assert!(shown.starts_with("\x1b[1m\x1b[31mwakeluri:\x1b[0m f.fa: s:9 was asked for"), "{shown:?}");
     assert!(shown.ends_with("\x1b[1mrefused 17 (length 4)\x1b[0m\r\n"), "{shown:?}");
+    let usage = in_terminal("read --nonsense", &[]).unwrap();
+    assert!(usage.starts_with("\x1b[1m\x1b[31merror:\x1b[0m "), "{usage:?}");
     let warned = in_terminal("read g.fa s:1-4", &[]).unwrap();
     assert!(warned.contains("\x1b[33mwakeluri: warning:\x1b[0m g.fa"), "{warned:?}");
     let shelf = in_terminal("index f.fa f.fa", &[]).unwrap();

@@ -87,6 +87,9 @@ fn what_differs_is_refused_with_the_reason() {
     folder.run(&["faidx", "f.fa", "s", "no"]).refused("refused 15", &["no record is named 'no'"]);
     folder.write("g.fa", ">s\nAC-X\n");
     folder.run(&["faidx", "-i", "-q", "g.fa", "s"]).refused("refused 24 (place 3, byte 88)", &[]);
+    if let Some(theirs) = samtools(&folder, &["f.fa", "s:1-2", "no", "t"]) {
+        assert_eq!(theirs, (Some(1), ">s:1-2\nAC\n>no\n".to_string()), "what comes before the fault is written");
+    }
     // an index that is not right is not used
     folder.write("f.fa.fai", "s\t15\t12\t10\t11\nt\t5\t31\t5\t6\n");
     let told = folder.run(&["faidx", "f.fa", "t"]);
