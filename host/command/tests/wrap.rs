@@ -54,7 +54,7 @@ fn a_bad_definition_line_is_told_before_a_byte_is_written() {
 fn pieces_join_at_every_width() {
     let folder = Folder::new("wrap-pieces");
     // longer than a piece, and of a length that no width divides
-    let bases: Vec<u8> = (0..200_003_u32).map(|n| b"ACGTN"[(n * n / 7 % 5) as usize]).collect();
+    let bases: Vec<u8> = (0..200_003_u32).map(|n| b"ACGTN"[(n.wrapping_mul(n) / 7 % 5) as usize]).collect();
     let in_lines = |width: usize| {
         let lines: Vec<&[u8]> = bases.chunks(width).collect();
         [b">s\n", lines.join(&b'\n').as_slice(), b"\n"].concat()
