@@ -10,6 +10,7 @@ pub mod LookUpTells
 pub mod LookUpLaws
 pub mod LookUp
 pub mod Fetching
+pub mod Unseen
 pub mod BadDefinition
 pub mod WritingLaws
 pub mod Writing
