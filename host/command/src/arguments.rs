@@ -221,6 +221,14 @@ pub fn command() -> Command {
                         .value_parser(value_parser!(PathBuf))
                         .value_hint(ValueHint::FilePath),
                 )
+                .arg(
+                    Arg::new("save")
+                        .long("save")
+                        .value_name("FILE")
+                        .help("with -: index standard input as it arrives, and save it here on the way")
+                        .value_parser(value_parser!(PathBuf))
+                        .value_hint(ValueHint::FilePath),
+                )
                 .arg(strict()),
         )
         .subcommand(
