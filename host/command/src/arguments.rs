@@ -295,6 +295,14 @@ pub fn command() -> Command {
                     output("INDEX", "where to, if not to FILE.fai; - is standard output")
                         .conflicts_with("index-option"),
                 )
+                .arg(
+                    Arg::new("save")
+                        .long("save")
+                        .value_name("FILE")
+                        .help("with -: index standard input as it arrives, and save it here on the way")
+                        .value_parser(value_parser!(PathBuf))
+                        .value_hint(ValueHint::FilePath),
+                )
                 .arg(strict()),
         ))
         .subcommand(alone(

@@ -4,6 +4,7 @@
 mod advice;
 mod apart;
 mod arguments;
+mod arriving;
 mod colour;
 mod course;
 mod faidx;
@@ -170,6 +171,30 @@ fn index_of(file: &Path) -> PathBuf {
     name.into()
 }
 
+/// Indexes standard input as it arrives, and saves it on the way.
+fn index_arriving(words: &ArgMatches, common: Common, saved: &Path, index: Option<&Path>) -> Result<(), Failure> {
+    let place = Output::of(saved)?;
+    let output = Output::of(index.unwrap_or(&index_of(saved)))?;
+    if place.is_standard() || output.is_standard() {
+        return Err(Failure::Usage("what is saved with --save, and its index, are files".to_string()));
+    }
+    place.free_for_fasta()?;
+    output.free()?;
+    let fed = arriving::saved(&place, rule(words))?;
+    let rows = fed.table();
+    let text = rows.write_index().map_err(|refusal| Failure::Usage(refusal.to_string()))?;
+    output.write(&text)?;
+    let shown = output.path().map(|place| place::quoted(place.as_os_str().as_bytes())).unwrap_or_default();
+    let (records, bases) = (rows.len() as u64, rows.records().map(|record| record.length).sum());
+    if common.json {
+        let mut object = Object::new();
+        let saved = place::quoted(saved.as_os_str().as_bytes());
+        object.text("file", &saved).text("index", &shown).number("records", records).number("bases", bases);
+        return report(object.line().as_bytes());
+    }
+    report(format!("{shown}: {}, {}\n", count(records, "record"), count(bases, "base")).as_bytes())
+}
+
 fn index(words: &ArgMatches, common: Common) -> Result<(), Failure> {
     let strict = words.get_flag("strict");
     let one = |item: &Item, common: Common| {
@@ -188,6 +213,12 @@ fn index(words: &ArgMatches, common: Common) -> Result<(), Failure> {
     let named = named_index(words, &item, true)?;
     if named.is_some() && path(words, "output").is_some() {
         return Err(Failure::Usage("two indexes are named, and one is needed".to_string()));
+    }
+    if let Some(saved) = path(words, "save") {
+        if !is_standard(&item.file) {
+            return Err(Failure::Usage("--save is for standard input: index - --save FILE".to_string()));
+        }
+        return index_arriving(words, common, saved, path(words, "output").or(named.as_deref()));
     }
     let output = match path(words, "output").or(named) {
         Some(output) => Output::of(output)?,
