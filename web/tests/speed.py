@@ -1,6 +1,6 @@
 #!/usr/bin/python3
 """speed.py PAGE NATIVE: index and check in the page's worker beside the native library (host/wakeluri/examples/speed.rs), in turns: a file
-of 200 MB, 11 times each. Tells the best and the middle of each, and the page's share of the native speed; with SIMD it has to be 0.8."""
+of 200 MB, 11 times each. Tells the best and the middle of each, and the page's share of the native speed; with SIMD both have to be 0.8."""
 import base64
 import json
 import os
@@ -66,6 +66,6 @@ for work in ("index", "check"):
     share = {who: (best[who] / best["native"], middle[who] / middle["native"]) for who in ("SIMD", "plain")}
     print(f"{work}: " + "; ".join(f"{who} {best[who]:.2f}, {middle[who]:.2f}" for who in best)
           + "; of native: " + "; ".join(f"{who} {a:.2f}, {b:.2f}" for who, (a, b) in share.items()))
-    reached = reached and max(share["SIMD"]) >= GOAL
+    reached = reached and min(share["SIMD"]) >= GOAL
 print("the goal, 0.8 of native with SIMD, is " + ("reached" if reached else "not reached"))
 sys.exit(0 if reached else 1)
