@@ -37,7 +37,7 @@ const FIRST: u64 = 1_000_003;
 const SECOND: u64 = 2_000_003;
 
 fn refusal(call: Call, number: u64, first: u64, second: u64) -> Refusal {
-    Refusal { number, first, second, call }
+    Refusal::new(call, number, first, second)
 }
 
 /// The texts of a refusal, with names for what changes: its words, and its numbers.
