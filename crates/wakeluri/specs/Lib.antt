@@ -2,6 +2,7 @@ pub mod Answer
 pub mod Told
 pub mod Window
 pub mod Sheets
+pub mod SheetLaws
 pub mod Primers
 pub mod Laws
 pub mod PlainAgainLaws
