@@ -6,6 +6,7 @@ pub mod Copy
 pub mod Laws
 pub mod Judge
 pub mod Dependence
+pub mod Answer
 pub mod Changed
 pub mod Refusals
 pub mod ByName

@@ -7,6 +7,7 @@
 // Both are by row. Whoever has a name looks its row up first, once for all regions of it, with `index::find`: specs/Split.antt has what the
 // two calls say together.
 // A refusal leaves the output as it was, and so stay the bytes behind an answer.
+pub mod answer;
 mod bounds;
 mod exact;
 mod raw;
