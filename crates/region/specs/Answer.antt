@@ -82,22 +82,36 @@ pub record Gave (s : List ℕ) (h : Held) (a e : Bound) (out : List ℕ) (k : �
   pub size : length (take k (exactHeld s h a e out .output)) ≡ k
   pub elsewhere : (other : List ℕ) → k ≤ length other → exactHeld s h a e other ≡ leaves (Bytes k) (take k (exactHeld s h a e out .output) ++ drop k other)
 
+module _ (s : List ℕ) (h : Held) (a e : Bound) (out : List ℕ) (k : ℕ) (l : overLimit (length s) ≡ false) (x : Record) (holds : h ≡ held.Row x) (readable : Readable (length s) x a e (length out)) (count : k ≡ regionCount x a e) where
+  abbrev bases : List ℕ
+  bases = map (byteAt s) (regionOffsets x a e)
+
+  -- to any output that has room
+  given-to : (other : List ℕ) → k ≤ length other → exactHeld s h a e other ≡ leaves (Bytes k) (bases ++ drop k other)
+  unfolding exactHeld
+  given-to other n =
+      rw (l, holds, count)
+      (exact-reads (length s) (byteAt s) x a e other (record { bounds = readable .bounds; start = readable .start; end = readable .end; room = omega (arith, count); inside = readable .inside }))
+
+  given-bases : take k (exactHeld s h a e out .output) ≡ bases
+  given-bases =
+      ap (λ (o : Outcome Written). take k (o .output)) (given-to out (omega (arith, count, readable .room)))
+      ∙ take-at bases (drop k out) k size
+    where
+      size : length bases ≡ k
+      size = length-map (regionOffsets x a e) (byteAt s) ∙ length-offsets x (startOf a) (regionCount x a e) ∙ sym count
+
+  gave : Gave s h a e out k
+  gave = record {
+    room = omega (arith, count, readable .room);
+    size = ap length given-bases ∙ length-map (regionOffsets x a e) (byteAt s) ∙ length-offsets x (startOf a) (regionCount x a e) ∙ sym count;
+    elsewhere = λ other n. given-to other n ∙ ap (λ (b : List ℕ). leaves (Bytes k) (b ++ drop k other)) (sym given-bases);
+  }
+
 pub read-gave : (s : List ℕ) (h : Held) (a e : Bound) (out : List ℕ) (k : ℕ) → exactHeld s h a e out .answer ≡ Bytes k → Gave s h a e out k
-read-gave s h a e out k q = go (overLimit (length s)) refl (unfold exactHeld in q)
+unfolding exactHeld
+read-gave s h a e out k q = go (overLimit (length s)) refl q
   where
     go : (t : Bool) → overLimit (length s) ≡ t → cond t (refuses TooLong out) (exactOf (length s) (byteAt s) h a e out) .answer ≡ Bytes k → Gave s h a e out k
     go true l m = let z : _≡_ {A = ℕ} 0 1 = cc in absurd (omega arith)
-    go false l m =
-        let r = exact-known (length s) h a e out (byteAt s) k m in
-        let x = r .row in
-        let c : length (map (byteAt s) (regionOffsets x a e)) ≡ k = length-map (regionOffsets x a e) (byteAt s) ∙ length-offsets x (startOf a) (regionCount x a e) ∙ sym (r .count) in
-        let w : exactHeld s h a e out .output ≡ map (byteAt s) (regionOffsets x a e) ++ drop k out = (unfold exactHeld in rw l (r .output)) in
-        let p : take k (exactHeld s h a e out .output) ≡ map (byteAt s) (regionOffsets x a e) = ap (take k) w ∙ take-at (map (byteAt s) (regionOffsets x a e)) (drop k out) k c in
-        record {
-          room = omega (arith, r .count, r .readable .room);
-          size = ap length p ∙ c;
-          elsewhere = λ other n.
-              let d : Readable (length s) x a e (length other) = record { bounds = r .readable .bounds; start = r .readable .start; end = r .readable .end; room = omega (arith, r .count); inside = r .readable .inside } in
-              (unfold exactHeld in rw (l, r .holds) (exact-reads (length s) (byteAt s) x a e other d))
-              ∙ rw (← r .count, p);
-        }
+    go false l m = let r = exact-known (length s) h a e out (byteAt s) k m in gave s h a e out k l (r .row) (r .holds) (r .readable) (r .count)

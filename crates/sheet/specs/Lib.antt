@@ -1,0 +1,4 @@
+pub mod Sheet
+pub mod Laws
+pub mod Turns
+pub mod Bytes
