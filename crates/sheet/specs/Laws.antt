@@ -15,8 +15,9 @@ use Rattle.output.specs.declared.Written.{Written}
 use Rattle.output.specs.declared.Written.the-variants.{Bytes, Refused}
 use Rattle.output.specs.Outcome.{Outcome}
 use Rattle.sheet.specs.declared.Region.{Region}
+use Rattle.sheet.specs.declared.SheetRead.{SheetRead}
 use Rattle.sheet.specs.declared.SheetRead.the-variants as sheet
-use Rattle.sheet.specs.Sheet.{Sheet, leavesBoth, refusesAt, given, pieces, joined, startsFrom, capped, poured, unlessRefused, sheetOf}
+use Rattle.sheet.specs.Sheet.{SheetOutcome, leavesBoth, refusesAt, given, pieces, joined, startsFrom, capped, poured, unlessRefused, sheetOf}
 
 -- ---- pieces
 
@@ -90,11 +91,11 @@ capped-fits n room s h = (omega arith, omega arith)
 -- ---- good regions
 
 -- a read gave as many bytes as it says
-pub Fine : Outcome Written → Type 0
+abbrev pub Fine : Outcome Written → Type 0
 Fine o = o .answer ≡ Bytes (length (given o))
 
 -- the first i regions are good
-pub Good : (Region → Outcome Written) → List Region → Region → ℕ → Type 0
+abbrev pub Good : (Region → Outcome Written) → List Region → Region → ℕ → Type 0
 Good read rs d i = (k : ℕ) → k < i → Fine (read (getD rs k d))
 
 pub good-none : (read : Region → Outcome Written) (rs : List Region) (d : Region) → Good read rs d 0
@@ -107,7 +108,7 @@ good-more read rs d i g f k h = go (ltb k i) refl
     go true e = g k (ltb-true _ _ e)
     go false e = let q : k ≡ i = omega (arith, ltb-false k i e) in rw q f
 
-module _ (read : Region → Outcome Written) (d : Region) (out starts : List ℕ) (fine : Sheet) where
+module _ (read : Region → Outcome Written) (d : Region) (out starts : List ℕ) (fine : SheetOutcome SheetRead) where
   pub none-refused : (rs : List Region) (j : ℕ) → Good read rs d (length rs) → unlessRefused read j rs out starts fine ≡ fine
   unfolding unlessRefused
   none-refused [] j g = refl

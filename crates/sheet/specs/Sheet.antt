@@ -16,16 +16,16 @@ use Rattle.sheet.specs.declared.SheetRead.{SheetRead}
 use Rattle.sheet.specs.declared.SheetRead.the-variants as sheet
 
 -- an answer, and the two lent lists afterwards
-pub record Sheet : Type 0 where
-  pub answer : SheetRead
+pub record SheetOutcome (A : Type 0) : Type 0 where
+  pub answer : A
   pub output : List ℕ
   pub starts : List ℕ
 
-abbrev pub leavesBoth : SheetRead → List ℕ → List ℕ → Sheet
+abbrev pub leavesBoth : {A : Type 0} → A → List ℕ → List ℕ → SheetOutcome A
 leavesBoth a out starts = record { answer = a; output = out; starts = starts }
 
 -- refused at a place of the sheet: both are as they were
-abbrev pub refusesAt : ℕ → Refusal → List ℕ → List ℕ → Sheet
+abbrev pub refusesAt : ℕ → Refusal → List ℕ → List ℕ → SheetOutcome SheetRead
 refusesAt place f out starts = leavesBoth (sheet.Refused place f) out starts
 
 -- ---- pieces
@@ -61,23 +61,23 @@ capped n = min n 18446744073709551615
 
 -- the pieces at the front of the output, and their starts at the front of theirs, what was behind them as it was; 14, with the total,
 -- if there is too little room
-unfoldable pub poured : List (List ℕ) → List ℕ → List ℕ → Sheet
+unfoldable pub poured : List (List ℕ) → List ℕ → List ℕ → SheetOutcome SheetRead
 poured ps out starts =
     cond (ltb (length out) (length (joined ps)))
     (refusesAt (length ps) (NoRoom (capped (length (joined ps)))) out starts)
     (leavesBoth (sheet.Bytes (length (joined ps))) (joined ps ++ drop (length (joined ps)) out) (startsFrom 0 ps ++ drop (length ps) starts))
 
 -- the refusal of the first refused region, of which the first has place i; where none is refused, what is said then
-abbrev told : Written → ℕ → List ℕ → List ℕ → Sheet → Sheet
+abbrev told : Written → ℕ → List ℕ → List ℕ → SheetOutcome SheetRead → SheetOutcome SheetRead
 told (Bytes n) i out starts fine = fine
 told (Refused f) i out starts fine = refusesAt i f out starts
 
-unfoldable pub unlessRefused : (Region → Outcome Written) → ℕ → List Region → List ℕ → List ℕ → Sheet → Sheet
+unfoldable pub unlessRefused : (Region → Outcome Written) → ℕ → List Region → List ℕ → List ℕ → SheetOutcome SheetRead → SheetOutcome SheetRead
 unlessRefused read i [] out starts fine = fine
 unlessRefused read i (r ∷ rs) out starts fine = told (read r .answer) i out starts (unlessRefused read (suc i) rs out starts fine)
 
 -- regions that are read each in one way
-unfoldable pub sheetOf : (Region → Outcome Written) → List Region → List ℕ → List ℕ → Sheet
+unfoldable pub sheetOf : (Region → Outcome Written) → List Region → List ℕ → List ℕ → SheetOutcome SheetRead
 sheetOf read rs out starts = unlessRefused read 0 rs out starts (poured (pieces read rs) out starts)
 
 -- the most regions that a sheet has
@@ -89,7 +89,7 @@ unfoldable pub readOf : List ℕ → List ℕ → ℕ → List ℕ → Region �
 readOf s t u out r = exactRead s t u (r .row) (r .start) (r .end) out
 
 -- the sheet of a table with u rows in use: 1, 40, 41, the first refused region's own, 14
-unfoldable pub sheetRead : List ℕ → List ℕ → ℕ → List Region → List ℕ → List ℕ → Sheet
+unfoldable pub sheetRead : List ℕ → List ℕ → ℕ → List Region → List ℕ → List ℕ → SheetOutcome SheetRead
 sheetRead s t u rs out starts =
     cond (overLimit (length s)) (refusesAt (length rs) TooLong out starts)
     (cond (ltb most (length rs)) (refusesAt (length rs) TooManyRegions out starts)

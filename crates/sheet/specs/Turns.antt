@@ -4,7 +4,7 @@ use Prim.Native.Nat.{ℕ, zero, suc, _+_, _-_, _^_, _≤_, _<_, min}
 use mathlib.Core.Path.{_≡_, refl, ap, sym, _∙_}
 use mathlib.Core.List.{List, [], _∷_, _++_, append-assoc, append-nil}
 use mathlib.Core.Bool.{Bool, true, false, cond}
-use lib.ListN.{length, getD, take, drop, set, length-append, length-take, length-drop, take-append-drop}
+use lib.ListN.{length, getD, take, drop, set, length-append, length-drop, drop-of-length-le}
 use lib.Seq.{drop-cons, append-snoc, take-all, drop-drop, take-at, drop-at, set-at, length-take-le}
 use lib.Dec.{ltb}
 use borrow.Author.Tests.{ltb-true, ltb-false, lt-ltb, le-ltb}
@@ -18,7 +18,8 @@ use Rattle.output.specs.declared.Written.{Written}
 use Rattle.output.specs.declared.Written.the-variants.{Bytes, Refused}
 use Rattle.output.specs.Outcome.{Outcome, leaves}
 use Rattle.table.specs.declared.Held.{Held}
-use Rattle.table.specs.Rows.{heldAt}
+use Rattle.table.specs.declared.InUse.{InUse}
+use Rattle.table.specs.Rows.{usedAt, heldOf, heldAt}
 use Rattle.region.specs.declared.Bound.the-variants.{Absent}
 use Rattle.region.specs.Exact.{exactHeld, exactRead}
 use Rattle.region.specs.Answer.{exactAnswer, answer-same, Gave, read-gave}
@@ -28,7 +29,7 @@ use Rattle.sheet.specs.declared.SheetRead.the-variants as sheet
 use Rattle.sheet.specs.declared.going.Pass.{Pass}
 use Rattle.sheet.specs.declared.going.Pass.the-variants as pass
 use Rattle.sheet.specs.declared.going.Going.{Going}
-use Rattle.sheet.specs.Sheet.{Sheet, leavesBoth, refusesAt, given, pieces, joined, startsFrom, capped, poured, unlessRefused, sheetOf, most, readOf, sheetRead}
+use Rattle.sheet.specs.Sheet.{SheetOutcome, leavesBoth, refusesAt, given, pieces, joined, startsFrom, capped, poured, unlessRefused, sheetOf, most, readOf, sheetRead}
 use Rattle.sheet.specs.Laws.{pieces-length, pieces-at, joined-more, joined-all, joined-part, starts-length, starts-more, capped-add, capped-more, capped-fits, sheet-empty, first-refused, none-refused, Good, good-none, good-more}
 
 -- what lies behind the last region
@@ -82,7 +83,7 @@ writes s h r g at out starts =
     let w : Outcome Written = exactHeld s h (r .start) (r .end) (drop at out) in
     stage (wroteAs g at (w .answer)) (take at out ++ w .output) (set starts (g .place) at)
 
-turnedAt : Pass → List ℕ → Held → Region → Going → List ℕ → List ℕ → Stage
+abbrev turnedAt : Pass → List ℕ → Held → Region → Going → List ℕ → List ℕ → Stage
 turnedAt (pass.Refused f) s h r g out starts = stage (stops (g .count) (g .place) f) out starts
 turnedAt (pass.Judging total) s h r g out starts = stage (judgedAs g total (exactAnswer (length s) h (r .start) (r .end) (length out)) (length out)) out starts
 turnedAt (pass.Writing at) s h r g out starts = writes s h r g at out starts
@@ -92,7 +93,7 @@ unfoldable pub turned : List ℕ → Held → Region → Going → List ℕ → 
 turned s h r g out starts = turnedAt (g .pass) s h r g out starts
 
 -- what is answered in the end
-toldAt : Pass → ℕ → SheetRead
+abbrev toldAt : Pass → ℕ → SheetRead
 toldAt (pass.Judging total) place = sheet.Bytes 0
 toldAt (pass.Writing at) place = sheet.Bytes at
 toldAt (pass.Refused f) place = sheet.Refused place f
@@ -100,8 +101,99 @@ toldAt (pass.Refused f) place = sheet.Refused place f
 unfoldable pub toldOf : Going → SheetRead
 toldOf g = toldAt (g .pass) (g .place)
 
+-- ---- what each test says
+
+module _ (bytes count starts : ℕ) where
+  pub starts-long : overLimit bytes ≡ true → stops count count TooLong ≡ started bytes count starts
+  unfolding started
+  starts-long l = rw l
+
+  module _ (l : overLimit bytes ≡ false) where
+    pub starts-many : most < count → stops count count TooManyRegions ≡ started bytes count starts
+    unfolding started
+    starts-many m = rw (l, lt-ltb most count m)
+
+    pub starts-few : count ≤ most → starts < count → stops count count TooFewStarts ≡ started bytes count starts
+    unfolding started
+    starts-few m f = rw (l, le-ltb most count m, lt-ltb starts count f)
+
+    pub starts-go : count ≤ most → count ≤ starts → record { left = count + count; count = count; place = 0; pass = pass.Judging 0 } ≡ started bytes count starts
+    unfolding started
+    starts-go m f = rw (l, le-ltb most count m, le-ltb starts count f)
+
+module _ (g : Going) (total room : ℕ) where
+  pub weighed-next : g .place + 1 < g .count → record { left = g .left - 1; count = g .count; place = g .place + 1; pass = pass.Judging total } ≡ weighed g total room
+  unfolding weighed
+  weighed-next h = rw (lt-ltb (g .place + 1) (g .count) h)
+
+  module _ (h : g .count ≤ g .place + 1) where
+    pub weighed-over : room < total → stops (g .count) (g .count) (NoRoom total) ≡ weighed g total room
+    unfolding weighed
+    weighed-over m = rw (le-ltb (g .place + 1) (g .count) h, lt-ltb room total m)
+
+    pub weighed-fits : total ≤ room → record { left = g .left - 1; count = g .count; place = 0; pass = pass.Writing 0 } ≡ weighed g total room
+    unfolding weighed
+    weighed-fits m = rw (le-ltb (g .place + 1) (g .count) h, le-ltb room total m)
+
+  pub judged-stops : (w : Written) (f : Refusal) → w ≡ Refused f → stops (g .count) (g .place) f ≡ judgedAs g total w room
+  unfolding judgedAs
+  judged-stops w f e = rw e
+
+  pub judged-goes : (w : Written) (n : ℕ) → w ≡ Bytes n → (m : ℕ) → m ≡ capped (total + n) → weighed g m room ≡ judgedAs g total w room
+  unfolding judgedAs
+  judged-goes w n e m q = rw (e, q)
+
+-- a piece that is written to a part of the output: it ends inside of it, and nothing is behind the part
+module _ (s : List ℕ) (h : Held) (r : Region) (g : Going) (at : ℕ) (out starts : List ℕ) (fits : at ≤ length out) (w : Written) (bs : List ℕ)
+    (e : leaves w bs ≡ exactHeld s h (r .start) (r .end) (take (length out - at) (drop at out))) where
+  part : take (length out - at) (drop at out) ≡ drop at out
+  part = take-all (length out - at) (drop at out) (omega (arith, length-drop at out))
+
+  none : drop (length out - at) (drop at out) ≡ []
+  none = drop-of-length-le (drop at out) {i = length out - at} (omega (arith, length-drop at out))
+
+  did : leaves w bs ≡ exactHeld s h (r .start) (r .end) (drop at out)
+  did = e ∙ ap (exactHeld s h (r .start) (r .end)) part
+
+  wrote-all : (n : Going) → n ≡ wroteAs g at w → stage n (take at out ++ (bs ++ drop (length out - at) (drop at out))) (set starts (g .place) at) ≡ writes s h r g at out starts
+  unfolding writes
+  wrote-all n q = rw (none, append-nil bs, q, ← did)
+
+  pub wrote-stops : (f : Refusal) → w ≡ Refused f → (n : Going) → n ≡ stops (g .count) (g .place) f
+      → stage n (take at out ++ (bs ++ drop (length out - at) (drop at out))) (set starts (g .place) at) ≡ writes s h r g at out starts
+  wrote-stops f q n m = wrote-all n (unfold wroteAs in rw q m)
+
+  pub wrote-goes : (k : ℕ) → w ≡ Bytes k → (n : Going) → n ≡ wroteTo g (at + k)
+      → stage n (take at out ++ (bs ++ drop (length out - at) (drop at out))) (set starts (g .place) at) ≡ writes s h r g at out starts
+  wrote-goes k q n m = wrote-all n (unfold wroteAs in rw q m)
+
+  pub wrote-inside : (k : ℕ) → w ≡ Bytes k → at + k ≤ length out
+  wrote-inside k q =
+      let a : exactHeld s h (r .start) (r .end) (drop at out) .answer ≡ Bytes k = sym (ap (λ (o : Outcome Written). o .answer) did) ∙ q in
+      omega (arith, length-drop at out, read-gave s h (r .start) (r .end) (drop at out) k a .room)
+
+-- a turn, by its pass
+module _ (s : List ℕ) (h : Held) (r : Region) (g : Going) (out starts : List ℕ) where
+  pub turns-stopped : (f : Refusal) → g .pass ≡ pass.Refused f → (n : Going) → n ≡ stops (g .count) (g .place) f → stage n out starts ≡ turned s h r g out starts
+  unfolding turned
+  turns-stopped f e n m = ap (λ (k : Going). stage k out starts) m ∙ sym (ap (λ (p : Pass). turnedAt p s h r g out starts) e)
+
+  pub turns-judging : (total : ℕ) → g .pass ≡ pass.Judging total → (n : Going) → n ≡ judgedAs g total (exactAnswer (length s) h (r .start) (r .end) (length out)) (length out)
+      → stage n out starts ≡ turned s h r g out starts
+  unfolding turned
+  turns-judging total e n m = ap (λ (k : Going). stage k out starts) m ∙ sym (ap (λ (p : Pass). turnedAt p s h r g out starts) e)
+
+  pub turns-writing : (at : ℕ) → g .pass ≡ pass.Writing at → writes s h r g at out starts ≡ turned s h r g out starts
+  unfolding turned
+  turns-writing at e = sym (ap (λ (p : Pass). turnedAt p s h r g out starts) e)
+
+-- the row that a table has
+pub turned-row : (s t : List ℕ) (u : ℕ) (w : InUse) (r : Region) (g : Going) (out starts : List ℕ) → w ≡ usedAt t u (r .row) → turned s (heldOf w) r g out starts ≡ turned s (heldAt t u (r .row)) r g out starts
+unfolding heldAt
+turned-row s t u w r g out starts e = ap (λ (v : InUse). turned s (heldOf v) r g out starts) e
+
 -- what a turn asks: there is a region at the place; one that is to be written has a start, and begins inside the output
-filledTo : Pass → ℕ → ℕ → ℕ → Type 0
+abbrev pub filledTo : Pass → ℕ → ℕ → ℕ → Type 0
 filledTo (pass.Writing at) place room starts = (at ≤ room) × (place < starts)
 filledTo (pass.Judging total) place room starts = 0 ≤ room
 filledTo (pass.Refused f) place room starts = 0 ≤ room
@@ -110,6 +202,12 @@ pub record Ready (g : Going) (room starts : ℕ) : Type 0 where
   pub some : 0 < g .left
   pub inside : g .place < g .count
   pub filled : filledTo (g .pass) (g .place) room starts
+
+-- what a turn that writes is asked
+pub ready-writes : (g : Going) (room starts at : ℕ) → Ready g room starts → g .pass ≡ pass.Writing at → (0 < g .left) × (g .place < g .count) × (at ≤ room) × (g .place < starts)
+ready-writes g room starts at y e =
+    let f : filledTo (pass.Writing at) (g .place) room starts = rw e at (y .filled) in
+    (y .some, y .inside, f .0, f .1)
 
 -- ---- where it stands is on the way to what the sheet leaves
 
@@ -121,7 +219,7 @@ module _ (s t : List ℕ) (u : ℕ) (rs : List Region) (out₀ starts₀ : List 
   abbrev ps : List (List ℕ)
   ps = pieces read rs
 
-  abbrev whole : Sheet
+  abbrev whole : SheetOutcome SheetRead
   whole = sheetRead s t u rs out₀ starts₀
 
   -- while it judges: the regions before the place are good, and have so many bytes
@@ -155,7 +253,7 @@ module _ (s t : List ℕ) (u : ℕ) (rs : List Region) (out₀ starts₀ : List 
     pub same : starts ≡ starts₀
     pub answer : whole ≡ refusesAt (g .place) f out₀ starts₀
 
-  standsAt : Pass → Going → List ℕ → List ℕ → Type 0
+  abbrev standsAt : Pass → Going → List ℕ → List ℕ → Type 0
   standsAt (pass.Judging total) g out starts = JudgesAt g total out starts
   standsAt (pass.Writing at) g out starts = WritesAt g at out starts
   standsAt (pass.Refused f) g out starts = RefusedAt g f out starts
@@ -165,7 +263,7 @@ module _ (s t : List ℕ) (u : ℕ) (rs : List Region) (out₀ starts₀ : List 
 
   -- before the first turn
   pub stands-started : Stands (stage (started (length s) (length rs) (length starts₀)) out₀ starts₀)
-  unfolding Stands started
+  unfolding Stands started joined capped
   stands-started = go (overLimit (length s)) refl (ltb most (length rs)) refl (ltb (length starts₀) (length rs)) refl
     where
       first : ℕ → Bool → Bool → Bool → Going
@@ -189,6 +287,9 @@ module _ (s t : List ℕ) (u : ℕ) (rs : List Region) (out₀ starts₀ : List 
             wide = ltb-false _ _ r;
             answer = rw (p, q, r);
           }
+
+  pub stands-begun : (n : ℕ) → n ≡ length rs → (g : Going) → g ≡ started (length s) n (length starts₀) → Stands (stage g out₀ starts₀)
+  stands-begun n e g q = rw (q, e) stands-started
 
   -- the bytes that a region's read gives, by its answer
   read-size : (r : Region) (n : ℕ) → read r .answer ≡ Bytes n → length (given (read r)) ≡ n
@@ -250,7 +351,7 @@ module _ (s t : List ℕ) (u : ℕ) (rs : List Region) (out₀ starts₀ : List 
               record {
                 count = j .count;
                 left = omega (arith, j .left);
-                inside = λ h. omega (arith, ltb-true _ _ p, j .count);
+                inside = λ h. omega (arith, ltb-true (g .place + 1) (g .count) p, j .count);
                 good = good;
                 sum = sum;
                 output = refl;
@@ -259,7 +360,7 @@ module _ (s t : List ℕ) (u : ℕ) (rs : List Region) (out₀ starts₀ : List 
                 answer = j .answer;
               }
           go false p b r =
-              let last : g .place + 1 ≡ length rs = omega (arith, ltb-false _ _ p, j .count, judges-inside) in
+              let last : g .place + 1 ≡ length rs = omega (arith, ltb-false (g .place + 1) (g .count) p, j .count, judges-inside) in
               let all : Good read rs noRegion (length rs) = rw last at good in
               let w : whole ≡ poured ps out₀ starts₀ = sheet-poured all (j .answer) in
               let e : joined (take (g .place + 1) ps) ≡ joined ps = joined-all ps (g .place + 1) (omega (arith, pieces-length read rs)) in
@@ -274,14 +375,14 @@ module _ (s t : List ℕ) (u : ℕ) (rs : List Region) (out₀ starts₀ : List 
                     left = refl;
                     output = refl;
                     same = refl;
-                    answer = w ∙ (unfold poured in rw (lt-ltb _ _ (capped-more (length (joined ps)) (length out₀) small (rw c at (ltb-true _ _ r))), c, pieces-length read rs, j .count));
+                    answer = w ∙ (unfold poured in rw (lt-ltb (length out₀) (length (joined ps)) (capped-more (length (joined ps)) (length out₀) small (rw c at (ltb-true (length out₀) (capped (total + n)) r))), c, pieces-length read rs, j .count));
                   }
               end false r last all w c =
                   record {
                     count = j .count;
                     left = omega (arith, j .left);
                     good = all;
-                    room = capped-fits (length (joined ps)) (length out₀) small (rw c at (ltb-false _ _ r)) .0;
+                    room = capped-fits (length (joined ps)) (length out₀) small (rw c at (ltb-false (length out₀) (capped (total + n)) r)) .0;
                     filled = unfold joined in refl;
                     output = unfold joined in refl;
                     begun = refl;
@@ -290,18 +391,17 @@ module _ (s t : List ℕ) (u : ℕ) (rs : List Region) (out₀ starts₀ : List 
                   }
 
       stands-judged : Stands (stage (judgedAs g total (exactAnswer (length s) (heldAt t u (here .row)) (here .start) (here .end) (length out)) (length out)) out starts)
-      unfolding judgedAs
+      unfolding judgedAs Stands stops sheetOf
       stands-judged = rw (j .output, j .same) (go (exactAnswer (length s) (heldAt t u (here .row)) (here .start) (here .end) (length out₀)) (read-answer here))
         where
           go : (w : Written) → read here .answer ≡ w → Stands (stage (judgedAs g total w (length out₀)) out₀ starts₀)
           go (Bytes n) q = weighs n q
           go (Refused f) q =
-              unfold Stands stops in
               record {
                 left = refl;
                 output = refl;
                 same = refl;
-                answer = j .answer ∙ (unfold sheetOf in first-refused read noRegion out₀ starts₀ (poured ps out₀ starts₀) rs 0 (g .place) (j .good) judges-inside f q) ∙ ap (λ (n : ℕ). refusesAt n f out₀ starts₀) (zero-add (g .place));
+                answer = j .answer ∙ first-refused read noRegion out₀ starts₀ (poured ps out₀ starts₀) rs 0 (g .place) (j .good) judges-inside f q ∙ ap (λ (n : ℕ). refusesAt n f out₀ starts₀) (zero-add (g .place));
               }
 
     -- ---- a turn that writes
@@ -339,7 +439,7 @@ module _ (s t : List ℕ) (u : ℕ) (rs : List Region) (out₀ starts₀ : List 
           ap (λ (l : List ℕ). set l i at) (w .begun ∙ ap (λ (l : List ℕ). take i (startsFrom 0 ps) ++ l) (drop-cons starts₀ i 0 (omega (arith, w .wide, writes-inside))))
           ∙ set-at (take i (startsFrom 0 ps)) (getD starts₀ i 0) (drop (suc i) starts₀) at i (length-take-le i (startsFrom 0 ps) (omega (arith, starts-length 0 ps, pieces-length read rs, writes-inside)))
           ∙ sym (append-snoc (take i (startsFrom 0 ps)) at (drop (suc i) starts₀))
-          ∙ rw (add-one i, w .filled, ← starts-more ps i (omega (arith, pieces-length read rs, writes-inside)))
+          ∙ rw (w .filled, ← starts-more ps i (omega (arith, pieces-length read rs, writes-inside)), add-one i)
 
       stands-written : Stands (writes s (heldAt t u (here .row)) here g at out starts)
       unfolding Stands writes wroteAs wroteTo
@@ -405,8 +505,8 @@ module _ (s t : List ℕ) (u : ℕ) (rs : List Region) (out₀ starts₀ : List 
           empty z = no (ltb 0 (length rs)) refl
             where
               no : (b : Bool) → ltb 0 (length rs) ≡ b → length rs ≡ 0
-              no true h = absurd (omega (arith, z .left, z .inside (ltb-true _ _ h)))
-              no false h = omega (arith, ltb-false _ _ h)
+              no true h = absurd (omega (arith, z .left, z .inside (ltb-true 0 (length rs) h)))
+              no false h = omega (arith, ltb-false 0 (length rs) h)
       go (pass.Writing at) z =
           let n : g .place ≡ length rs = omega (arith, z .left) in
           let e : joined (take (g .place) ps) ≡ joined ps = joined-all ps (g .place) (omega (arith, pieces-length read rs)) in
@@ -414,35 +514,45 @@ module _ (s t : List ℕ) (u : ℕ) (rs : List Region) (out₀ starts₀ : List 
           let b : take (g .place) (startsFrom 0 ps) ≡ startsFrom 0 ps = take-all (g .place) (startsFrom 0 ps) (omega (arith, starts-length 0 ps, pieces-length read rs)) in
           let o : out ≡ joined ps ++ drop (length (joined ps)) out₀ = z .output ∙ rw (e, a) in
           let m : starts ≡ startsFrom 0 ps ++ drop (length ps) starts₀ = z .begun ∙ rw (b, n, pieces-length read rs) in
-          rw (a, o, m) (sym (sheet-poured (z .good) (z .answer) ∙ (unfold poured in rw (le-ltb _ _ (z .room)))))
+          rw (a, o, m) (sym (sheet-poured (z .good) (z .answer) ∙ (unfold poured in rw (le-ltb (length out₀) (length (joined ps)) (z .room)))))
       go (pass.Refused f) z = rw (z .output, z .same) (sym (z .answer))
 
--- a turn less is left
+-- ---- a turn less is left
+
+module _ (g : Going) (some : 0 < g .left) where
+  weighed-less : (total room : ℕ) → weighed g total room .left < g .left
+  unfolding weighed stops
+  weighed-less total room = go (ltb (g .place + 1) (g .count)) (ltb room total)
+    where
+      go : (a b : Bool)
+          → cond a (record { left = g .left - 1; count = g .count; place = g .place + 1; pass = pass.Judging total }) (cond b (stops (g .count) (g .count) (NoRoom total)) (record { left = g .left - 1; count = g .count; place = 0; pass = pass.Writing 0 })) .left < g .left
+      go true b = omega arith
+      go false true = some
+      go false false = omega arith
+
+  judged-less : (total : ℕ) (w : Written) (room : ℕ) → judgedAs g total w room .left < g .left
+  unfolding judgedAs stops
+  judged-less total (Bytes n) room = weighed-less (capped (total + n)) room
+  judged-less total (Refused f) room = some
+
+  wrote-less : (at : ℕ) (w : Written) → wroteAs g at w .left < g .left
+  unfolding wroteAs wroteTo stops
+  wrote-less at (Bytes n) = omega arith
+  wrote-less at (Refused f) = some
+
 pub turned-less : (s : List ℕ) (h : Held) (r : Region) (g : Going) (out starts : List ℕ) → 0 < g .left → turned s h r g out starts .going .left < g .left
-unfolding turned
+unfolding turned writes stops
 turned-less s h r g out starts some = go (g .pass)
   where
-    weighed-less : (total room : ℕ) → weighed g total room .left < g .left
-    unfolding weighed
-    weighed-less total room = at (ltb (g .place + 1) (g .count)) (ltb room total)
-      where
-        at : (a b : Bool)
-            → cond a (record { left = g .left - 1; count = g .count; place = g .place + 1; pass = pass.Judging total }) (cond b (stops (g .count) (g .count) (NoRoom total)) (record { left = g .left - 1; count = g .count; place = 0; pass = pass.Writing 0 })) .left < g .left
-        at true b = omega arith
-        at false true = unfold stops in some
-        at false false = omega arith
-
-    judged-less : (total : ℕ) (w : Written) (room : ℕ) → judgedAs g total w room .left < g .left
-    unfolding judgedAs
-    judged-less total (Bytes n) room = weighed-less (capped (total + n)) room
-    judged-less total (Refused f) room = unfold stops in some
-
-    wrote-less : (at : ℕ) (w : Written) → wroteAs g at w .left < g .left
-    unfolding wroteAs wroteTo
-    wrote-less at (Bytes n) = omega arith
-    wrote-less at (Refused f) = unfold stops in some
-
     go : (p : Pass) → turnedAt p s h r g out starts .going .left < g .left
-    go (pass.Judging total) = judged-less total (exactAnswer (length s) h (r .start) (r .end) (length out)) (length out)
-    go (pass.Writing at) = unfold writes in wrote-less at (exactHeld s h (r .start) (r .end) (drop at out) .answer)
-    go (pass.Refused f) = unfold stops in some
+    go (pass.Judging total) = judged-less g some total (exactAnswer (length s) h (r .start) (r .end) (length out)) (length out)
+    go (pass.Writing at) = wrote-less g some at (exactHeld s h (r .start) (r .end) (drop at out) .answer)
+    go (pass.Refused f) = some
+
+-- a turn on the region at the place, whose row is that of the table: it stands as before, and a turn less is left
+module _ (s t : List ℕ) (u : ℕ) (rs : List Region) (out₀ starts₀ : List ℕ) (small : length out₀ < 18446744073709551615) (g : Going) (some : 0 < g .left) (out starts : List ℕ)
+    (z : Stands s t u rs out₀ starts₀ (stage g out starts)) where
+  pub stands-next : (r : Region) → r ≡ getD rs (g .place) noRegion → (n : Stage) → n ≡ turned s (heldAt t u (r .row)) r g out starts → Stands s t u rs out₀ starts₀ n × (n .going .left < g .left)
+  stands-next r e n q =
+      let m : n ≡ turned s (heldAt t u (getD rs (g .place) noRegion .row)) (getD rs (g .place) noRegion) g out starts = q ∙ ap (λ (x : Region). turned s (heldAt t u (x .row)) x g out starts) e in
+      (rw m (stands-turned s t u rs out₀ starts₀ small g some out starts z), rw q (turned-less s (heldAt t u (r .row)) r g out starts some))

@@ -1,7 +1,9 @@
 //! The proved library as one who answers questions: each question is one call of an entry point, told as it is.
 
-use questions::form::Value::{self, Bounds, Bytes, MaybeBytes, Number, Numbers, Output, Rows, Table};
-use questions::form::{Answer, Speaker, Tell};
+use questions::form::Value::{
+    self, Bounds, Bytes, MaybeBytes, MaybeNumber, Number, Numbers, Output, Regions, Rows, Table,
+};
+use questions::form::{self, Answer, Speaker, Tell};
 use questions::row::{OF_A_LINE, WORDS};
 use std::io::Write;
 use std::path::{Path, PathBuf};
@@ -39,6 +41,12 @@ fn row(row: entry::Row, words: usize, more: Option<u64>) -> Vec<Value> {
 /// A table as entry points take it: eight bytes to a number, low byte first.
 fn bytes(table: &[u64]) -> Vec<u8> {
     table.iter().flat_map(|number| number.to_le_bytes()).collect()
+}
+
+/// A region of a sheet as entry points take it: its row, and each bound with a flag before it.
+fn region(row: u64, (start, end): form::Bounds) -> [u64; 5] {
+    let flag = |bound: Option<u64>| u64::from(bound.is_some());
+    [row, flag(start), start.unwrap_or(0), flag(end), end.unwrap_or(0)]
 }
 
 /// Lends a table to a call, and takes it back as it was left.
@@ -104,6 +112,13 @@ impl Speaker for Library {
             }
             ("rar", [Bytes(file), Rows(rows), Number(row), Bounds(bounds), Output(out)]) => {
                 counted(entry::read_raw(file, &bytes(&rows.numbers), rows.in_use, *row, (*bounds).into(), out))
+            }
+            ("sht", [Bytes(file), Rows(rows), Regions(regions), Output(out), Table(starts)]) => {
+                let regions: Vec<u64> = regions.iter().flat_map(|(row, bounds)| region(*row, *bounds)).collect();
+                let answer =
+                    entry::read_sheet(file, &bytes(&rows.numbers), rows.in_use, &bytes(&regions), out, starts);
+                let place = answer.no().map(|_| answer.next);
+                told(answer.no(), vec![MaybeNumber(place), Number(answer.count)])
             }
             ("cmp", [Bytes(bases), Output(out)]) => counted(entry::complement(bases, out)),
             ("rev", [Bytes(bases), Output(out)]) => counted(entry::reverse_complement(bases, out)),

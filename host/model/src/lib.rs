@@ -16,9 +16,11 @@ use checker::{check, program};
 use complete::fitted_record;
 use lines::{content, definition, first_line, from, run};
 use primers::{degeneracy, next_place};
-use questions::form::Value::{self, Bounds, Bytes, MaybeBytes, Number, Numbers, Output, Rows, Table};
+use questions::form::Value::{
+    self, Bounds, Bytes, MaybeBytes, MaybeNumber, Number, Numbers, Output, Regions, Rows, Table,
+};
 use questions::form::{Answer, No, Speaker};
-use reads::{complemented, exact, raw, sequence};
+use reads::{complemented, exact, raw, sequence, sheet};
 use rows::{file_rows, find, index_content, index_rows, is_plain, record, write_line};
 use writer::{write_record, write_sequence};
 
@@ -88,6 +90,12 @@ impl Speaker for Model {
             }
             ("rar", [Bytes(file), Rows(rows), Number(row), Bounds(bounds), Output(out)]) => {
                 raw(file, rows, *row, *bounds, out).into()
+            }
+            ("sht", [Bytes(file), Rows(rows), Regions(regions), Output(out), Table(starts)]) => {
+                match sheet(file, rows, regions, out, starts) {
+                    Ok(total) => Answer { no: None, told: vec![MaybeNumber(None), Number(total)] },
+                    Err((place, no)) => Answer { no: Some(no), told: vec![MaybeNumber(Some(place)), Number(0)] },
+                }
             }
             ("cmp", [Bytes(bases), Output(out)]) => complemented(bases, false, out).into(),
             ("rev", [Bytes(bases), Output(out)]) => complemented(bases, true, out).into(),

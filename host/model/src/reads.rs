@@ -63,6 +63,39 @@ pub(crate) fn exact(file: &[u8], rows: &Rows, r: u64, bounds: Bounds, out: &mut 
     put(&found, out)
 }
 
+/// The regions of a sheet: their answers one after another, and where each begins. Or the place and the refusal of the first that is
+/// refused; for a refusal of the whole sheet the place is the number of regions.
+pub(crate) fn sheet(
+    file: &[u8],
+    rows: &Rows,
+    regions: &[(u64, Bounds)],
+    out: &mut [u8],
+    starts: &mut [u64],
+) -> Result<u64, (u64, No)> {
+    let all = n(regions.len());
+    if regions.len() > 200 {
+        return Err((all, [40, 0, 0]));
+    }
+    if starts.len() < regions.len() {
+        return Err((all, [41, 0, 0]));
+    }
+    let mut pieces = vec![];
+    for (place, (row, bounds)) in (0..).zip(regions) {
+        // each has all the room for itself
+        let mut room = out.to_vec();
+        let bytes = exact(file, rows, *row, *bounds, &mut room).map_err(|no| (place, no))?;
+        room.truncate(bytes as usize);
+        pieces.push(room);
+    }
+    let total = put(&pieces.concat(), out).map_err(|no| (all, no))?;
+    let mut begins = 0;
+    for (piece, start) in pieces.iter().zip(starts) {
+        *start = begins;
+        begins += n(piece.len());
+    }
+    Ok(total)
+}
+
 pub(crate) fn raw(file: &[u8], rows: &Rows, r: u64, bounds: Bounds, out: &mut [u8]) -> Result<u64, No> {
     judge_bounds(bounds)?;
     let row = held_row(rows, r)?;

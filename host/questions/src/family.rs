@@ -4,7 +4,7 @@
 //! too. To add a family, add its line and its examples here, an arm in `ask` and in the model, and how its questions are made in
 //! [`generate`](crate::generate).
 
-use Kind::{Bounds, Bytes, MaybeBytes, Number, Numbers, Output, Rows, Table};
+use Kind::{Bounds, Bytes, MaybeBytes, MaybeNumber, Number, Numbers, Output, Regions, Rows, Table};
 use Original::{Lacks, Memory, Refusals};
 use Shape::{Always, Bare, Found, IfOk};
 
@@ -110,6 +110,8 @@ pub const FAMILIES: &[Family] = &[
     asks("fnd", &[Bytes, Rows, Bytes], IfOk(&[Number]), &[15, 25], Lacks),
     asks("exr", &[Bytes, Rows, Number, Bounds, Output], Always(&[Number]), &[14, 16, 17, 18, 25], Lacks),
     asks("rar", &[Bytes, Rows, Number, Bounds, Output], Always(&[Number]), &[14, 16, 18, 25], Refusals),
+    // a sheet: the refused region's place, and the bytes of all regions
+    asks("sht", &[Bytes, Rows, Regions, Output, Table], Always(&[MaybeNumber, Number]), &[14, 16, 17, 18, 25, 40, 41], Lacks),
     // bases: the bytes of a complement
     asks("cmp", &[Bytes, Output], Always(&[Number]), &[14, 24], Memory),
     asks("rev", &[Bytes, Output], Always(&[Number]), &[14, 24], Memory),
@@ -171,6 +173,12 @@ fnd x7374 t0,1,4,3,4,5,0,0,1,1,4,3,4,5,0,0 2 x => no 15 0 0
 exr x3e730a414347540a41430a t1,1,6,3,4,5,0,0 1 0 4 5 x2e2e2e => ok 2 x54412e
 exr x3e730a414347540a41430a t1,1,6,3,4,5,0,0 1 0 5 7 x2e2e2e => no 17 6 0 0 x2e2e2e
 rar x3e730a41433e4754 t1,1,5,3,5,6,9,9 1 0 3 4 x2e2e => ok 0 x2e2e
+sht x3e730a414347540a41430a t1,1,6,3,4,5,0,0 1 r0:4:5,0:-:2,0:6:- x2e2e2e2e2e2e t7,7,7,7 => ok - 5 x54414143432e t0,2,4,7
+sht x3e730a414347540a41430a t1,1,6,3,4,5,0,0 1 r0:4:5,0:5:7 x2e2e t7,7 => no 17 6 0 1 0 x2e2e t7,7
+sht x3e730a414347540a41430a t1,1,6,3,4,5,0,0 1 r0:4:5,0:-:- x2e2e2e2e2e t7,7 => no 14 6 0 1 0 x2e2e2e2e2e t7,7
+sht x3e730a414347540a41430a t1,1,6,3,4,5,0,0 1 r0:4:5,0:-:4 x2e2e2e2e2e t7,7 => no 14 6 0 2 0 x2e2e2e2e2e t7,7
+sht x3e730a414347540a41430a t1,1,6,3,4,5,0,0 1 r0:0:5,0:-:4 x t7 => no 41 0 0 2 0 x t7
+sht x t 9 r x2e t7 => ok - 0 x2e t7
 cmp x41 x2e2e => ok 1 x542e
 cmp x4158 x2e2e => no 24 1 88 0 x2e2e
 rev x41434755 x2e2e2e2e => ok 4 x41434754

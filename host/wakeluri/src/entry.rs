@@ -58,6 +58,7 @@ macro_rules! lent {
     (maybe) => { Option<&[u8]> };
     (output) => { &mut [u8] };
     (table) => { &mut [u8] };
+    (numbers) => { &mut [u64] };
     (number) => { u64 };
     (bounds) => { Bounds };
 }
@@ -88,6 +89,11 @@ macro_rules! call {
     };
     ($name:ident $answer:ident [$($type:ty,)*] [$($value:expr,)*] $table:ident table $($rest:ident)*) => {
         call!($name $answer [$($type,)*] [$($value,)*] $table output $($rest)*)
+    };
+    ($name:ident $answer:ident [$($type:ty,)*] [$($value:expr,)*] $numbers:ident numbers $($rest:ident)*) => {
+        call!(
+            $name $answer [$($type,)* *mut u64, usize,] [$($value,)* $numbers.as_mut_ptr(), $numbers.len(),] $($rest)*
+        )
     };
     ($name:ident $answer:ident [$($type:ty,)*] [$($value:expr,)*] $number:ident number $($rest:ident)*) => {
         call!($name $answer [$($type,)* u64,] [$($value,)* $number,] $($rest)*)

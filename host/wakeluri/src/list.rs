@@ -11,6 +11,7 @@
 /// | maybe | `Option<&[u8]>` | `uint64_t has_p, const uint8_t *p, size_t p_length` |
 /// | output | `&mut [u8]` | `uint8_t *p, size_t p_length` |
 /// | table | `&mut [u8]` | the same: rows are put in it |
+/// | numbers | `&mut [u64]` | `uint64_t *p, size_t p_length` |
 /// | number | `u64` | `uint64_t p` |
 /// | bounds | `Bounds` | `uint64_t has_start, uint64_t start, uint64_t has_end, uint64_t end` |
 #[doc(hidden)]
@@ -65,6 +66,13 @@ macro_rules! entry_points {
             /// Exactly the bases from `start` to `end` of a row's record, never fewer. Refuses 1, 16, 25, 17, 14, 18.
             fn read_exact(file: bytes, table: bytes, in_use: number, row: number, bounds: bounds, out: output) -> Answer;
 
+            /// Exactly the bases of up to 200 regions, one after another at the front of `out`, and where each begins at the front of
+            /// `starts`; tells how many bytes. A region is five numbers, eight bytes to a number, low byte first: its row, whether it
+            /// has a start, the start, whether it has an end, the end. All or nothing: after a refusal `next` is the place of the
+            /// refused region, or the number of regions. Refuses 1, 40, 41, what `read_exact` refuses of the first refused region
+            /// with all of `out`, and then 14 with the bytes of all.
+            fn read_sheet(file: bytes, table: bytes, in_use: number, regions: bytes, out: output, starts: numbers) -> Answer;
+
             /// The bases that a scan finds from `start` on; ignores the record's length, and may run into the next record. Refuses
             /// 1, 16, 25, 18, 14.
             fn read_raw(file: bytes, table: bytes, in_use: number, row: number, bounds: bounds, out: output) -> Answer;
@@ -112,7 +120,8 @@ macro_rules! entry_points {
 macro_rules! answers {
     ($with:ident) => {
         $with! {
-            /// A refusal, 0 where there is none; a count (of bytes or of rows, or a row's number), and the place that a read leaves.
+            /// A refusal, 0 where there is none; a count (of bytes or of rows, or a row's number), and the place that a read leaves; of
+            /// a sheet that is refused, the place of the refused region.
             struct Answer { count, next }
 
             /// A name and a description by their places in a definition line; 0 and 0 where there is no description.

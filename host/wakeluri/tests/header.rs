@@ -54,6 +54,7 @@ fn in_header(text: &str) -> Vec<String> {
                 "const uint8_t " => "*const u8",
                 "uint8_t " => "*mut u8",
                 "size_t" => "usize",
+                "uint64_t " => "*mut u64",
                 "uint64_t" => "u64",
                 other => panic!("a type that isn't known: {other}"),
             };
@@ -70,6 +71,7 @@ fn in_rust(name: &str, parameters: &[(&str, &str)], answer: &str) -> String {
         "bytes" => format!("{name}: *const u8, {name}_length: usize"),
         "maybe" => format!("has_{name}: u64, {name}: *const u8, {name}_length: usize"),
         "output" | "table" => format!("{name}: *mut u8, {name}_length: usize"),
+        "numbers" => format!("{name}: *mut u64, {name}_length: usize"),
         "number" => format!("{name}: u64"),
         "bounds" => "has_start: u64, start: u64, has_end: u64, end: u64".to_string(),
         other => panic!("a kind that isn't known: {other}"),

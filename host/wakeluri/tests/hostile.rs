@@ -26,6 +26,9 @@ const NUMBERS: [u64; 16] = [
     u64::MAX,
 ];
 
+/// What stands in a list of starts before a call.
+const STARTS: u64 = u64::MAX - 5;
+
 fn number(chance: &mut Chance) -> u64 {
     match chance.below(4) {
         0 => chance.one_of(&NUMBERS),
@@ -73,6 +76,23 @@ fn table(chance: &mut Chance) -> Box<[u8]> {
     table.into_boxed_slice()
 }
 
+/// Regions of a sheet, the last of which may be a part of one; at times more than a sheet may have.
+fn regions(chance: &mut Chance) -> Box<[u8]> {
+    let regions = if chance.once_in(50) { 199 + chance.below(4) } else { chance.below(6) };
+    let mut bytes = vec![];
+    for _ in 0..regions {
+        let row = if chance.once_in(3) { number(chance) } else { chance.below(3) as u64 };
+        let Bounds { start, end } = if chance.once_in(3) { Bounds::from(1..=1) } else { bounds(chance) };
+        let flag = |bound: Option<u64>| if bound.is_some() { 1 } else { 0 };
+        let numbers = [row, flag(start), start.unwrap_or(7), flag(end), end.unwrap_or(7)];
+        bytes.extend(numbers.into_iter().flat_map(u64::to_le_bytes));
+    }
+    if chance.once_in(3) {
+        bytes.extend(vec![9; chance.below(40)]);
+    }
+    bytes.into_boxed_slice()
+}
+
 fn bounds(chance: &mut Chance) -> Bounds {
     let mut bound = || if chance.once_in(4) { None } else { Some(number(chance)) };
     Bounds { start: bound(), end: bound() }
@@ -101,6 +121,7 @@ impl Hostile {
             "bases" | "key" | "typed" => bytes(chance, b"ACGTN"),
             "exercise" => bytes(chance, b"\x01\x00\x01\x02\x00\x08\x03\x04"),
             "primer" | "text" => bytes(chance, b"ACGTRYN"),
+            "regions" => regions(chance),
             "table" => {
                 let table = table(chance);
                 self.rows = table.len() / ROW_BYTES;
@@ -188,6 +209,7 @@ macro_rules! made {
     };
     (output $parameter:ident $hostile:ident) => { room(&mut $hostile.chance, 60) };
     (table $parameter:ident $hostile:ident) => { room(&mut $hostile.chance, 3 * ROW_BYTES + 6) };
+    (numbers $parameter:ident $hostile:ident) => { vec![STARTS; $hostile.chance.below(6)].into_boxed_slice() };
     (number $parameter:ident $hostile:ident) => { $hostile.number(stringify!($parameter)) };
     (bounds $parameter:ident $hostile:ident) => { bounds(&mut $hostile.chance) };
 }
@@ -199,6 +221,7 @@ macro_rules! lent {
     (maybe $argument:ident) => { $argument.as_deref() };
     (output $argument:ident) => { &mut $argument };
     (table $argument:ident) => { &mut $argument };
+    (numbers $argument:ident) => { &mut $argument };
     (number $argument:ident) => { $argument };
     (bounds $argument:ident) => { $argument };
 }
@@ -213,6 +236,12 @@ macro_rules! judged {
         stayed($count, &$argument);
     };
     (table $argument:ident $refusal:ident $count:ident $end:ident) => { stayed($count * ROW_BYTES, &$argument) };
+    (numbers $argument:ident $refusal:ident $count:ident $end:ident) => {
+        // each start that was told is not before the one before it, nor behind what was written
+        let told: Vec<u64> = $argument.iter().copied().take_while(|start| *start != STARTS).collect();
+        assert!($argument[told.len()..].iter().all(|start| *start == STARTS));
+        assert!(told.is_sorted() && told.iter().all(|start| $refusal == 0 && *start <= $count as u64));
+    };
     (number $argument:ident $refusal:ident $count:ident $end:ident) => {};
     (bounds $argument:ident $refusal:ident $count:ident $end:ident) => {};
 }

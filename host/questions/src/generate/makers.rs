@@ -48,6 +48,7 @@ pub(super) const MAKERS: &[Maker] = &[
     maker("fnd", 32, look_up, &[every::look_up, every::described_look_up]),
     maker("exr", 48, read, &[every::read, every::far_read]),
     maker("rar", 32, read, &[every::read, every::far_read]),
+    maker("sht", 32, sheet, &[every::sheet]),
     maker("cmp", 16, bases, &[every::complement]),
     maker("rev", 16, bases, &[every::complement]),
     maker("deg", 16, primer, &[every::primer]),
@@ -217,6 +218,37 @@ fn read(chance: &mut Chance) -> Vec<Value> {
     let bounds = some_bounds(chance, numbers[2]);
     let room = some_room(chance, wanted(bounds, numbers[2]));
     vec![Bytes(sample.text), Rows(rows), Number(row), Bounds(bounds), Output(room)]
+}
+
+/// Regions of a file, most of them good, with about as much room and as many starts as they need; at times as many regions as a sheet may
+/// have, or a few more.
+fn sheet(chance: &mut Chance) -> Vec<Value> {
+    let sample = file(chance);
+    let rows = some_rows(chance, &sample.rows);
+    let regions = match chance.below(20) {
+        0 => 198 + chance.below(5),
+        1 => 0,
+        _ => 1 + chance.below(6),
+    };
+    let faulty = chance.once_in(3);
+    let (mut list, mut total) = (vec![], 0);
+    for _ in 0..regions {
+        let (row, numbers) = a_row(chance, &sample);
+        let length = numbers[2];
+        let bounds = if faulty && chance.once_in(3) || length == 0 {
+            some_bounds(chance, length)
+        } else {
+            let start = 1 + chance.below(length.min(100) as usize) as u64;
+            let end = start + chance.below((length - start).min(12) as usize + 1) as u64;
+            (Some(start).filter(|start| *start != 1 || chance.once_in(2)), Some(end).filter(|end| *end != length || chance.once_in(2)))
+        };
+        total += wanted(bounds, length).min(1 << 10);
+        list.push((row, bounds));
+    }
+    let room = some_room(chance, total);
+    let starts = if chance.once_in(8) { chance.below(regions + 2) } else { regions + chance.below(3) };
+    let starts = (700..).take(starts).collect();
+    vec![Bytes(sample.text), Rows(rows), Value::Regions(list), Output(room), Table(starts)]
 }
 
 fn some_bases(chance: &mut Chance) -> Vec<u8> {
