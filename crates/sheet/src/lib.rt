@@ -43,14 +43,14 @@ fn region_at(regions: &[Region], i: usize) -> Region
 }
 
 // A turn on region `r`, of a table of numbers.
-fn turn(
-    file: &[u8],
-    table: &[u64],
+fn turn<'a, 'b>(
+    file: &'a [u8],
+    table: &'a [u64],
     in_use: usize,
     r: Region,
     g: Going,
-    out: &mut [u8],
-    starts: &mut [u64],
+    out: &'b mut [u8],
+    starts: &'b mut [u64],
 ) -> Going
     requires { ⌜ Ready g (length (now out)) (length (now starts)) ⌝ }
     ensures { λ n. ⌜ stage n (now (out .exit)) (now (starts .exit)) ≡ turned (now (file .entry)) (heldAt (now (table .entry)) «in_use» (r .row)) r g (now (out .entry)) (now (starts .entry)) ⌝ }
@@ -59,13 +59,13 @@ fn turn(
 }
 
 // Reads the regions of a sheet, of a table with so many rows in use.
-pub fn read_sheet<'a>(
+pub fn read_sheet<'a, 'b, 'c>(
     file: &'a [u8],
     table: &'a [u64],
     in_use: usize,
     regions: &'a [Region],
-    out: &'a mut [u8],
-    starts: &'a mut [u64],
+    out: &'b mut [u8],
+    starts: &'c mut [u64],
 ) -> SheetRead
     ensures { λ r. ⌜ leavesBoth r (now (out .exit)) (now (starts .exit)) ≡ sheetRead (now (file .entry)) (now (table .entry)) «in_use» (now (regions .entry)) (now (out .entry)) (now (starts .entry)) ⌝ }
 {
