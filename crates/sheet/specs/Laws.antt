@@ -64,7 +64,7 @@ starts-length k [] = refl
 starts-length k (p ∷ ps) = ap suc (starts-length (k + length p) ps)
 
 -- some pieces in front are no longer than all
-joined-split : (ps : List (List ℕ)) (i : ℕ) → joined ps ≡ joined (take i ps) ++ joined (drop i ps)
+pub joined-split : (ps : List (List ℕ)) (i : ℕ) → joined ps ≡ joined (take i ps) ++ joined (drop i ps)
 unfolding joined
 joined-split ps zero = refl
 joined-split [] (suc i) = refl
@@ -72,6 +72,16 @@ joined-split (p ∷ ps) (suc i) = ap (λ (l : List ℕ). p ++ l) (joined-split p
 
 pub joined-part : (ps : List (List ℕ)) (i : ℕ) → length (joined (take i ps)) ≤ length (joined ps)
 joined-part ps i = omega (arith, ap length (joined-split ps i), length-append (joined (take i ps)) (joined (drop i ps)))
+
+-- start i, with anything behind the starts
+starts-from : (ps : List (List ℕ)) (k : ℕ) (rest : List ℕ) (i : ℕ) → i < length ps → getD (startsFrom k ps ++ rest) i 0 ≡ k + length (joined (take i ps))
+unfolding startsFrom joined
+starts-from [] k rest i h = absurd (omega arith)
+starts-from (p ∷ ps) k rest zero h = sym (add-zero k)
+starts-from (p ∷ ps) k rest (suc i) h = starts-from ps (k + length p) rest i (omega arith) ∙ omega (arith, length-append p (joined (take i ps)))
+
+pub starts-at : (ps : List (List ℕ)) (rest : List ℕ) (i : ℕ) → i < length ps → getD (startsFrom 0 ps ++ rest) i 0 ≡ length (joined (take i ps))
+starts-at ps rest i h = starts-from ps 0 rest i h ∙ zero-add (length (joined (take i ps)))
 
 -- ---- numbers that 64 bits tell
 

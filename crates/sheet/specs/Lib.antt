@@ -2,3 +2,4 @@ pub mod Sheet
 pub mod Laws
 pub mod Turns
 pub mod Bytes
+pub mod Joins

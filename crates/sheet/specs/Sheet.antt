@@ -68,13 +68,13 @@ poured ps out starts =
     (leavesBoth (sheet.Bytes (length (joined ps))) (joined ps ++ drop (length (joined ps)) out) (startsFrom 0 ps ++ drop (length ps) starts))
 
 -- the refusal of the first refused region, of which the first has place i; where none is refused, what is said then
-abbrev told : Written → ℕ → List ℕ → List ℕ → SheetOutcome SheetRead → SheetOutcome SheetRead
-told (Bytes n) i out starts fine = fine
-told (Refused f) i out starts fine = refusesAt i f out starts
+abbrev pub refusedOr : Written → ℕ → List ℕ → List ℕ → SheetOutcome SheetRead → SheetOutcome SheetRead
+refusedOr (Bytes n) i out starts fine = fine
+refusedOr (Refused f) i out starts fine = refusesAt i f out starts
 
 unfoldable pub unlessRefused : (Region → Outcome Written) → ℕ → List Region → List ℕ → List ℕ → SheetOutcome SheetRead → SheetOutcome SheetRead
 unlessRefused read i [] out starts fine = fine
-unlessRefused read i (r ∷ rs) out starts fine = told (read r .answer) i out starts (unlessRefused read (suc i) rs out starts fine)
+unlessRefused read i (r ∷ rs) out starts fine = refusedOr (read r .answer) i out starts (unlessRefused read (suc i) rs out starts fine)
 
 -- regions that are read each in one way
 unfoldable pub sheetOf : (Region → Outcome Written) → List Region → List ℕ → List ℕ → SheetOutcome SheetRead

@@ -292,7 +292,7 @@ module _ (s t : List ℕ) (u : ℕ) (rs : List Region) (out₀ starts₀ : List 
   stands-begun n e g q = rw (q, e) stands-started
 
   -- the bytes that a region's read gives, by its answer
-  read-size : (r : Region) (n : ℕ) → read r .answer ≡ Bytes n → length (given (read r)) ≡ n
+  pub read-size : (r : Region) (n : ℕ) → read r .answer ≡ Bytes n → length (given (read r)) ≡ n
   unfolding readOf exactRead given
   read-size r n q = rw q (read-gave s (heldAt t u (r .row)) (r .start) (r .end) out₀ n q .size)
 

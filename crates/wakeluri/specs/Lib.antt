@@ -1,5 +1,6 @@
 pub mod Answer
 pub mod Told
+pub mod Sheets
 pub mod Primers
 pub mod Laws
 pub mod PlainAgainLaws

@@ -8,5 +8,6 @@ pub mod files;
 pub mod primers;
 pub mod rows;
 pub mod scan;
+pub mod sheets;
 pub mod text;
 pub mod writing;
