@@ -26,7 +26,8 @@
 extern "C" {
 #endif
 
-/* A refusal, 0 where there is none; a count (of bytes or of rows, or a row's number), and the place that a read leaves. */
+/* A refusal, 0 where there is none; a count (of bytes or of rows, or a row's number), and the place that a read leaves; of a sheet that is
+ * refused, `next` is the place of the refused region. */
 struct wakeluri_answer {
     uint64_t refusal, first, second;
     uint64_t count, next;
@@ -113,6 +114,14 @@ struct wakeluri_answer wakeluri_find(const uint8_t *names, size_t names_length, 
 
 /* Exactly the bases from `start` to `end` of a row's record, never fewer; a bound is absent where its flag is 0. Refuses 1, 16, 25, 17, 14, 18. */
 struct wakeluri_answer wakeluri_read_exact(const uint8_t *file, size_t file_length, const uint8_t *table, size_t table_length, uint64_t in_use, uint64_t row, uint64_t has_start, uint64_t start, uint64_t has_end, uint64_t end, uint8_t *out, size_t out_length);
+
+/* Exactly the bases of up to 200 regions, one after another at the front of `out`, and where each begins at the front of `starts`, which is
+ * at least as long as the list of regions; tells how many bytes. A region is five numbers of eight bytes, low byte first: its row, whether
+ * it has a start (0: no), the start, whether it has an end (0: no), the end; what is left of a last part of a region is ignored. All or
+ * nothing: a refusal leaves both as they were, and its `next` is the place of the refused region, or the number of regions where the whole
+ * sheet is refused. Refuses 1, 40, 41, what wakeluri_read_exact refuses of the first refused region with all of `out`, and then 14 with the
+ * bytes of all regions, or the greatest number where they are more. */
+struct wakeluri_answer wakeluri_read_sheet(const uint8_t *file, size_t file_length, const uint8_t *table, size_t table_length, uint64_t in_use, const uint8_t *regions, size_t regions_length, uint8_t *out, size_t out_length, uint64_t *starts, size_t starts_length);
 
 /* The bases that a scan finds from `start` on; ignores the record's length, and may run into the next record. Refuses 1, 16, 25, 18, 14. */
 struct wakeluri_answer wakeluri_read_raw(const uint8_t *file, size_t file_length, const uint8_t *table, size_t table_length, uint64_t in_use, uint64_t row, uint64_t has_start, uint64_t start, uint64_t has_end, uint64_t end, uint8_t *out, size_t out_length);

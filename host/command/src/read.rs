@@ -12,7 +12,7 @@ use crate::place::{commas, count, quoted, short};
 use crate::region::{Meaning, Number, Reading, Written, is_before_a_colon, meaning, plain_form, readings};
 use crate::warning::Warning;
 use std::ops::Range;
-use wakeluri::{Bounds, Call, Names, Refusal, Row, Table, Writer};
+use wakeluri::{Bounds, Call, Names, Refusal, Row, SHEET_REGIONS, Sheet, Table, Writer};
 
 /// The bases that are read at a time.
 const PIECE: u64 = 64 << 20;
@@ -357,7 +357,17 @@ impl Source<'_> {
 
     /// Bases of a region, turned.
     pub fn piece(self, region: Region<'_>, from: u64, to: u64, turn: Turn) -> Result<Vec<u8>, Failure> {
-        let bases = self.rows.read_exact(self.fasta.bytes(), region.row, from..=to);
+        self.turned(region, from, self.rows.read_exact(self.fasta.bytes(), region.row, from..=to), turn)
+    }
+
+    /// Bases of a region from a base position on, as they were read, turned.
+    fn turned(
+        self,
+        region: Region<'_>,
+        from: u64,
+        bases: Result<Vec<u8>, Refusal>,
+        turn: Turn,
+    ) -> Result<Vec<u8>, Failure> {
         bases.and_then(|bases| turn.turned(bases)).map_err(|refusal| {
             // places are told as places in the region
             let before = if refusal.number == 24 { from - region.start } else { 0 };
@@ -367,19 +377,36 @@ impl Source<'_> {
         })
     }
 
+    /// Several regions in one call. Where one of them is refused each is read for itself instead, so that all that is wrong is told.
+    fn sheet(self, regions: &[Region<'_>]) -> Option<Sheet> {
+        if regions.len() < 2 {
+            return None;
+        }
+        let asked: Vec<(Row, Bounds)> =
+            regions.iter().map(|region| (region.row, Bounds::from(region.start..=region.end))).collect();
+        self.rows.read_sheet(self.fasta.bytes(), &asked).ok()
+    }
+
     /// The pieces of a region, in the order that they are written in.
-    fn pieces(
-        self,
-        region: Region<'_>,
-        Form { turn, rna, .. }: Form,
-    ) -> impl Iterator<Item = Result<Vec<u8>, Failure>> {
+    fn pieces(self, region: Region<'_>, form: Form) -> impl Iterator<Item = Result<Vec<u8>, Failure>> {
         let pieces = region.bases().div_ceil(PIECE);
         (0..pieces).map(move |number| {
-            let number = if turn == Turn::Reverse { pieces - 1 - number } else { number };
+            let number = if form.turn == Turn::Reverse { pieces - 1 - number } else { number };
             let from = region.start + number * PIECE;
-            let bases = self.piece(region, from, region.end.min(from.saturating_add(PIECE - 1)), turn);
-            bases.map(|bases| of_rna(bases, rna))
+            let to = region.end.min(from.saturating_add(PIECE - 1));
+            self.written(region, from, self.rows.read_exact(self.fasta.bytes(), region.row, from..=to), form)
         })
+    }
+
+    /// Bases of a region from a base position on, as they are written.
+    fn written(
+        self,
+        region: Region<'_>,
+        from: u64,
+        bases: Result<Vec<u8>, Refusal>,
+        Form { turn, rna, .. }: Form,
+    ) -> Result<Vec<u8>, Failure> {
+        self.turned(region, from, bases, turn).map(|bases| of_rna(bases, rna))
     }
 
     /// Says it aloud where a name could mean another record too.
@@ -432,27 +459,34 @@ impl Source<'_> {
     pub fn give(self, regions: &[Region<'_>], form: Form) -> Result<(), Failure> {
         let (mut kept, mut faults, mut odd) = (vec![], vec![], Odd::default());
         let mut places: Vec<Option<Range<usize>>> = Vec::with_capacity(regions.len());
-        for region in regions {
-            let start = kept.len();
-            let keep = region.bases() <= KEPT - start as u64;
-            let mut from = region.start;
-            let read = self.pieces(*region, form).try_for_each(|piece| {
-                let piece = piece?;
-                // what is turned has letters alone
-                if form.turn == Turn::AsIs {
-                    odd.of_bases(&piece, self.rows.record(region.row), from);
-                    from += piece.len() as u64;
-                }
-                if !form.json {
-                    self.writable(*region, &piece)?;
-                }
-                if keep {
-                    kept.extend_from_slice(&piece);
-                }
-                Ok(())
-            });
-            faults.extend(read.err());
-            places.push(keep.then_some(start..kept.len()));
+        for together in sheets(regions) {
+            let sheet = self.sheet(together);
+            for (place, region) in together.iter().enumerate() {
+                let start = kept.len();
+                let keep = region.bases() <= KEPT - start as u64;
+                let mut from = region.start;
+                let take = |piece: Result<Vec<u8>, Failure>| {
+                    let piece = piece?;
+                    // what is turned has letters alone
+                    if form.turn == Turn::AsIs {
+                        odd.of_bases(&piece, self.rows.record(region.row), from);
+                        from += piece.len() as u64;
+                    }
+                    if !form.json {
+                        self.writable(*region, &piece)?;
+                    }
+                    if keep {
+                        kept.extend_from_slice(&piece);
+                    }
+                    Ok(())
+                };
+                let read = match sheet.as_ref().and_then(|sheet| sheet.get(place)) {
+                    Some(bases) => [self.written(*region, region.start, Ok(bases.to_vec()), form)].into_iter().try_for_each(take),
+                    None => self.pieces(*region, form).try_for_each(take),
+                };
+                faults.extend(read.err());
+                places.push(keep.then_some(start..kept.len()));
+            }
         }
         all_of(faults)?;
         self.fasta.unchanged()?;
@@ -533,6 +567,22 @@ impl Source<'_> {
         };
         self.refused(region.asked, what, "with --json the bases are written as they are".to_string(), refusal)
     }
+}
+
+/// Regions that are read in one call: as many as a sheet may have, and no more bases than are read at a time. One without bases, or with
+/// more, is alone.
+fn sheets<'r, 'a>(mut regions: &'r [Region<'a>]) -> impl Iterator<Item = &'r [Region<'a>]> {
+    std::iter::from_fn(move || {
+        let mut bases = 0;
+        let fits = |region: &&Region<'_>| {
+            bases += region.bases().min(PIECE + 1);
+            region.bases() > 0 && bases <= PIECE
+        };
+        let together = regions.iter().take(SHEET_REGIONS).take_while(fits).count().max(1);
+        let (sheet, rest) = regions.split_at_checked(together)?;
+        regions = rest;
+        Some(sheet)
+    })
 }
 
 /// What a region means among some names.

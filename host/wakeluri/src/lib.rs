@@ -41,6 +41,7 @@ mod names;
 mod primer;
 mod refusal;
 mod row;
+mod sheet;
 mod table;
 mod text;
 mod writer;
@@ -51,6 +52,7 @@ pub use names::Names;
 pub use primer::{Places, degeneracy, find_primer, find_primer_from, primer_places};
 pub use refusal::{Call, Refusal};
 pub use row::Row;
+pub use sheet::{SHEET_REGIONS, Sheet, SheetRefusal};
 pub use table::{
     Record, Table, check, index, index_strict, index_strict_until_refused, index_until_refused, read_index,
     read_index_until_refused,

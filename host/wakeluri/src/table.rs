@@ -293,7 +293,7 @@ impl<'n> Table<'n> {
 
     /// How many rows a call may use, and the number of the row for it: none where the row is of another table, so that the call refuses
     /// it as one that isn't there.
-    fn lent(&self, row: Row) -> (u64, u64) {
+    pub(crate) fn lent(&self, row: Row) -> (u64, u64) {
         let in_use = if row.is_of(self.identity) { self.in_use } else { 0 };
         (in_use as u64, row.number() as u64)
     }
@@ -453,7 +453,7 @@ pub(crate) fn counted(call: Call, answer: entry::Answer) -> Result<usize, Refusa
 }
 
 /// A room for what a read likely gives is made at once up to so many bytes, and above only when the read says that it needs more.
-const FIRST_ROOM: u64 = 1 << 16;
+pub(crate) const FIRST_ROOM: u64 = 1 << 16;
 
 /// What a read gives, in a room of just its size: one of `likely` bytes is tried first, and where that is too short, the read itself
 /// says how much it needs.
@@ -486,7 +486,7 @@ pub(crate) fn with_known_room(
 
 /// So many bytes, if they are to be had. They come from the system as zeros, so that what isn't written to costs nothing; an
 /// index that lies about a length costs no memory.
-fn room(bytes: u64) -> Option<Vec<u8>> {
+pub(crate) fn room(bytes: u64) -> Option<Vec<u8>> {
     let bytes = usize::try_from(bytes).ok()?;
     let mut tried = Vec::<u8>::new();
     tried.try_reserve_exact(bytes).ok()?;

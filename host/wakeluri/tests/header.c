@@ -89,6 +89,20 @@ static void ordinary_calls(void) {
     MUST(a.refusal == 0 && a.count == 6 && memcmp(out, "ACGTAC.", 7) == 0);
     a = wakeluri_read_exact(BYTES(fasta), table, sizeof table, 2, 0, 1, 5, 1, 7, out, sizeof out);
     MUST(a.refusal == 17 && a.first == 6 && a.second == 0 && a.count == 0 && memcmp(out, "ACGTAC.", 7) == 0);
+    /* bases 4 to 5, the first two, and from the sixth on; then one past the end */
+    const uint64_t regions[4][5] = {{0, 1, 4, 1, 5}, {0, 0, 9, 1, 2}, {0, 1, 6, 0, 9}, {0, 1, 5, 1, 7}};
+    uint8_t sheet[sizeof regions];
+    for (size_t k = 0; k < sizeof sheet; k++) sheet[k] = (uint8_t)(regions[k / 40][k / 8 % 5] >> (8 * (k % 8)));
+    uint64_t starts[4] = {7, 7, 7, 7};
+    a = wakeluri_read_sheet(BYTES(fasta), table, sizeof table, 2, sheet, 3 * 40, out, sizeof out, starts, 4);
+    MUST(a.refusal == 0 && a.count == 5 && a.next == 0 && memcmp(out, "TAACCC.", 7) == 0);
+    MUST(starts[0] == 0 && starts[1] == 2 && starts[2] == 4 && starts[3] == 7);
+    a = wakeluri_read_sheet(BYTES(fasta), table, sizeof table, 2, sheet, sizeof sheet, out, sizeof out, starts, 4);
+    MUST(a.refusal == 17 && a.first == 6 && a.second == 0 && a.count == 0 && a.next == 3 && starts[3] == 7);
+    a = wakeluri_read_sheet(BYTES(fasta), table, sizeof table, 2, sheet, sizeof sheet, out, sizeof out, starts, 3);
+    MUST(a.refusal == 41 && a.next == 4);
+    memset(out, '.', sizeof out);
+    memcpy(out, "ACGTAC", 6);
     a = wakeluri_read_raw(BYTES(fasta), table, sizeof table, 2, 0, 1, 5, 1, 100, out, sizeof out);
     MUST(a.refusal == 0 && a.count == 2 && memcmp(out, "ACGTAC.", 7) == 0);
     /* looked up once, read twice */

@@ -190,6 +190,38 @@ pub(super) fn far_read() -> Source {
     }))
 }
 
+/// Every sheet of up to two of these regions, with room and starts for none of them to all; and sheets of about as many regions as one
+/// may have.
+pub(super) fn sheet() -> Source {
+    const FILE: &[u8] = b">s\nACGT\nAC\n>t\nGG";
+    const REGIONS: [(u64, (Option<u64>, Option<u64>)); 10] = [
+        (0, (None, None)),
+        (0, (Some(1), Some(1))),
+        (0, (Some(2), Some(5))),
+        (0, (Some(5), Some(7))),
+        (0, (Some(0), None)),
+        (0, (Some(3), Some(2))),
+        (1, (None, None)),
+        (1, (Some(2), Some(3))),
+        (2, (None, None)),
+        (u64::MAX, (Some(u64::MAX), Some(u64::MAX))),
+    ];
+    // the second row's last base is not in the file
+    let held = || rows(&[[1, 1, 6, 3, 4, 5], [12, 1, 3, 14, 2, 3]], 2);
+    let asked = move |regions: Vec<_>, space, starts| {
+        vec![Bytes(FILE.to_vec()), Rows(held()), Value::Regions(regions), Output(room(space)), Table(table(starts))]
+    };
+    let pairs = REGIONS.into_iter().flat_map(|one| REGIONS.into_iter().map(move |two| vec![one, two]));
+    let lists = [vec![]].into_iter().chain(REGIONS.into_iter().map(|one| vec![one])).chain(pairs);
+    let short = lists.flat_map(move |regions| {
+        (0..=12 * 3).map(move |k| asked(regions.clone(), k / 3, k % 3)).collect::<Vec<_>>()
+    });
+    let long = (198..=202).flat_map(move |regions| {
+        (0..4).map(move |k| asked(vec![REGIONS[1]; regions], regions - k / 2, regions - k % 2)).collect::<Vec<_>>()
+    });
+    Box::new(short.chain(long))
+}
+
 /// Descriptions at the ends of the bytes and past them, of a row whose name is good.
 fn descriptions() -> impl Iterator<Item = row::Rows> {
     const FAR: [u64; 8] = [0, 1, 2, 3, 4, u64::MAX / 2 + 1, u64::MAX - 1, u64::MAX];
