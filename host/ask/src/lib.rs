@@ -115,8 +115,7 @@ impl Speaker for Library {
             }
             ("sht", [Bytes(file), Rows(rows), Regions(regions), Output(out), Table(starts)]) => {
                 let regions: Vec<u64> = regions.iter().flat_map(|(row, bounds)| region(*row, *bounds)).collect();
-                let answer =
-                    entry::read_sheet(file, &bytes(&rows.numbers), rows.in_use, &bytes(&regions), out, starts);
+                let answer = entry::read_sheet(file, &bytes(&rows.numbers), rows.in_use, &bytes(&regions), out, starts);
                 let place = answer.no().map(|_| answer.next);
                 told(answer.no(), vec![MaybeNumber(place), Number(answer.count)])
             }

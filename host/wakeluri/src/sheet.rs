@@ -93,7 +93,8 @@ impl Table<'_> {
     /// # Ok::<(), wakeluri::Refusal>(())
     /// ```
     pub fn read_sheet(&self, fasta: &[u8], regions: &[(Row, Bounds)]) -> Result<Sheet, SheetRefusal> {
-        let likely = regions.iter().fold(0u64, |sum, (row, bounds)| sum.saturating_add(self.likely_bases(*row, *bounds)));
+        let likely =
+            regions.iter().fold(0u64, |sum, (row, bounds)| sum.saturating_add(self.likely_bases(*row, *bounds)));
         let mut bases = if likely <= FIRST_ROOM { vec![0; likely as usize] } else { room(likely).unwrap_or_default() };
         let mut starts = vec![0; regions.len()];
         let numbers: Vec<u8> = regions.iter().flat_map(|(row, bounds)| self.region(*row, *bounds)).collect();
@@ -110,7 +111,8 @@ impl Table<'_> {
                 return Err(self.of_its_own(regions, refused));
             }
             // one region's own need may be less than that of all
-            let enough = if refused.place.is_some() { refusal.first.max(2 * bases.len() as u64) } else { refusal.first };
+            let enough =
+                if refused.place.is_some() { refusal.first.max(2 * bases.len() as u64) } else { refusal.first };
             bases = room(enough).ok_or(refused)?;
         }
     }

@@ -213,9 +213,8 @@ pub(super) fn sheet() -> Source {
     };
     let pairs = REGIONS.into_iter().flat_map(|one| REGIONS.into_iter().map(move |two| vec![one, two]));
     let lists = [vec![]].into_iter().chain(REGIONS.into_iter().map(|one| vec![one])).chain(pairs);
-    let short = lists.flat_map(move |regions| {
-        (0..=12 * 3).map(move |k| asked(regions.clone(), k / 3, k % 3)).collect::<Vec<_>>()
-    });
+    let short = lists
+        .flat_map(move |regions| (0..=12 * 3).map(move |k| asked(regions.clone(), k / 3, k % 3)).collect::<Vec<_>>());
     let long = (198..=202).flat_map(move |regions| {
         (0..4).map(move |k| asked(vec![REGIONS[1]; regions], regions - k / 2, regions - k % 2)).collect::<Vec<_>>()
     });

@@ -240,7 +240,10 @@ fn sheet(chance: &mut Chance) -> Vec<Value> {
         } else {
             let start = 1 + chance.below(length.min(100) as usize) as u64;
             let end = start + chance.below((length - start).min(12) as usize + 1) as u64;
-            (Some(start).filter(|start| *start != 1 || chance.once_in(2)), Some(end).filter(|end| *end != length || chance.once_in(2)))
+            (
+                Some(start).filter(|start| *start != 1 || chance.once_in(2)),
+                Some(end).filter(|end| *end != length || chance.once_in(2)),
+            )
         };
         total += wanted(bounds, length).min(1 << 10);
         list.push((row, bounds));
