@@ -15,7 +15,7 @@ mod report;
 use files::{Lines, Numbers, one_line, room};
 use measure::{Work, in_turns, limits};
 use original::{Region, Sequence, over_c, over_crate};
-use report::{Checked, Compared, Grown, HandedOut, LookedUp, Mapped, Report};
+use report::{Checked, Compared, Grown, HandedOut, LookedUp, Mapped, Report, Sheeted};
 use wakeluri::entry::ROW_BYTES;
 
 /// So many bytes lie in the processor's own cache; 64 times as many come from the memory.
@@ -197,6 +197,24 @@ fn map(plan: &Plan, report: &mut Report, fasta: &[u8], look_ups: usize) {
     );
     let [walk, built, used] = taken[..] else { unreachable!("three works") };
     report.mapped.push(Mapped { names: rows.len(), look_ups, walk, built, used });
+}
+
+/// Times a sheet of regions in one call, and a call for each of them; each row is looked up before.
+fn sheet(plan: &Plan, report: &mut Report, fasta: &[u8], regions: usize, bases: u64) {
+    let rows = ours::rows(fasta);
+    let mut numbers = Numbers::new(7);
+    let asked: Vec<Region> = (0..regions)
+        .map(|_| {
+            let (name, length, ..) = &rows[numbers.below(rows.len() as u64) as usize];
+            let start = 1 + numbers.below(length - bases + 1);
+            (name.clone(), start, start + bases - 1)
+        })
+        .collect();
+    let ours = ours::Sheet::new(fasta, &asked);
+    same("a sheet", "the bases", ours.at_once(), ours.one_by_one());
+    let taken = in_turns(plan.rounds(), &mut [Box::new(|| ours.read_one_by_one()), Box::new(|| ours.read_at_once())]);
+    let [singles, sheet] = taken[..] else { unreachable!("two works") };
+    report.sheeted.push(Sheeted { regions, bases: bases as usize, singles, sheet });
 }
 
 /// Times more and more regions of more and more records.
@@ -402,6 +420,7 @@ fn run(plan: &Plan) -> Report {
         let fasta = lf(60).genome(bytes);
         reads(plan, &mut report, &fasta, 10_000, [2.8, 2.8]);
         reads(plan, &mut report, &fasta, 1, [1.0, 1.0]);
+        sheet(plan, &mut report, &fasta, 200, 100);
     }
     if part("names") {
         look_ups(plan, &mut report, &records, 1000);

@@ -171,3 +171,48 @@ impl<'f> Regions<'f> {
         self.parts.iter().map(|part| sum(black_box(part))).fold(0, u64::wrapping_add)
     }
 }
+
+/// A file with its rows, and regions of rows that are known.
+pub struct Sheet<'f> {
+    file: &'f [u8],
+    table: Table<'f>,
+    regions: Vec<(wakeluri::Row, wakeluri::Bounds)>,
+}
+
+impl<'f> Sheet<'f> {
+    /// Of a file.
+    pub fn new(file: &'f [u8], regions: &[Region]) -> Self {
+        let table = wakeluri::index(file).expect("a good file");
+        let row = |name: &[u8]| table.find(name).expect("a record of that name");
+        let regions = regions.iter().map(|(name, start, end)| (row(name), (*start..=*end).into())).collect();
+        Self { file, table, regions }
+    }
+
+    /// The bases of each region, by one call.
+    pub fn at_once(&self) -> Vec<Vec<u8>> {
+        let sheet = self.table.read_sheet(self.file, &self.regions).expect("good regions");
+        sheet.pieces().map(<[u8]>::to_vec).collect()
+    }
+
+    /// The same, by a call for each.
+    pub fn one_by_one(&self) -> Vec<Vec<u8>> {
+        let read = |(row, bounds): &(wakeluri::Row, wakeluri::Bounds)| self.table.read_exact(self.file, *row, *bounds);
+        self.regions.iter().map(|region| read(region).expect("a good region")).collect()
+    }
+
+    /// Reads all regions by one call.
+    pub fn read_at_once(&self) -> u64 {
+        let sheet = self.table.read_sheet(self.file, black_box(&self.regions)).expect("good regions");
+        black_box(&sheet).pieces().map(|piece| piece.len() as u64).sum()
+    }
+
+    /// Reads all regions by a call for each.
+    pub fn read_one_by_one(&self) -> u64 {
+        let mut bases = 0;
+        for (row, bounds) in black_box(&self.regions) {
+            let read = self.table.read_exact(self.file, *row, *bounds);
+            bases += black_box(read.expect("a good region")).len() as u64;
+        }
+        bases
+    }
+}

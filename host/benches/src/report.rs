@@ -74,7 +74,19 @@ pub struct Report {
     pub handed_out: Vec<HandedOut>,
     pub looked_up: Vec<LookedUp>,
     pub mapped: Vec<Mapped>,
+    pub sheeted: Vec<Sheeted>,
 }
+
+/// Regions read in one call, and by a call for each: all rows are known.
+pub struct Sheeted {
+    pub regions: usize,
+    pub bases: usize,
+    pub singles: f64,
+    pub sheet: f64,
+}
+
+/// The goal of a sheet: so many times as fast as a call for each of its regions.
+const SHEET_GOAL: f64 = 1.0;
 
 /// The checker's goal: so much of the speed of indexing.
 const CHECK_GOAL: f64 = 0.8;
@@ -194,6 +206,16 @@ impl fmt::Display for Report {
             let ([look_ups, names], [walk, built, used]) =
                 ([*look_ups, *names].map(number), [*walk, *built, *used].map(time));
             writeln!(f, "| {look_ups} | {names} | {MAP_GOAL} | {ratio:.1} | {verdict} | {walk} | {built} | {used} |")?;
+        }
+        if !self.sheeted.is_empty() {
+            writeln!(f, "\n| regions | bases of each | goal | times as fast as a call for each | | a call for each | a sheet |")?;
+            writeln!(f, "|---|---|---|---|---|---|---|")?;
+        }
+        for Sheeted { regions, bases, singles, sheet } in &self.sheeted {
+            let ratio = singles / sheet;
+            let verdict = if ratio >= SHEET_GOAL { "reached" } else { "**not reached**" };
+            let [singles, sheet] = [*singles, *sheet].map(time);
+            writeln!(f, "| {regions} | {bases} | {SHEET_GOAL} | {ratio:.2} | {verdict} | {singles} | {sheet} |")?;
         }
         if !self.looked_up.is_empty() {
             writeln!(f, "\n| records | regions of one base | time | ns for a record or region |")?;

@@ -109,3 +109,24 @@ fn a_long_line_in_a_sheet() {
         answer.failed(status, &[words]);
     }
 }
+
+/// More regions than one call takes: several sheets are read, and nothing is written unless all are good.
+#[test]
+fn a_region_that_is_refused_behind_two_hundred() {
+    let folder = Folder::new("many-sheets");
+    folder.write("f.fa", ">a\nACGT\n>b\nGG\n>empty\n>c\nTTT\n");
+    let sheet: String = (0..450).map(|k| format!("{}\n", ["a:2-3", "b", "c:3"][k % 3])).collect();
+    let expected: String = (0..450).map(|k| [">a:2-3\nCG\n", ">b\nGG\n", ">c:3\nT\n"][k % 3]).collect();
+    folder.write("sheet.txt", &sheet);
+    folder.run(&["read", "f.fa", "-r", "sheet.txt"]).gave(&expected);
+    let turned: String =
+        (0..450).map(|k| [">a:2-3 reverse complement\nCG\n", ">b reverse complement\nCC\n", ">c:3 reverse complement\nA\n"][k % 3]).collect();
+    folder.run(&["revcomp", "f.fa", "-r", "sheet.txt"]).gave(&turned);
+    // an index that lies, and is not checked: bases that the file doesn't have are seen when they are read
+    folder.write("f.fa.fai", "a\t4\t3\t4\t5\nb\t2\t11\t2\t3\nempty\t0\t21\t1\t2\nc\t30\t24\t3\t4\n");
+    folder.write("sheet.txt", format!("{sheet}c:9\na\nc:10-12\n"));
+    let answer = folder.run(&["read", "--unchecked", "f.fa", "-r", "sheet.txt"]);
+    // both are told
+    assert!(answer.err.contains("sheet.txt, line 451: ") && answer.err.contains("sheet.txt, line 453: "), "{answer:?}");
+    assert_eq!((answer.status, answer.out.as_str()), (Some(1), ""));
+}
