@@ -24,7 +24,11 @@ fn judged_answer(bytes: usize, x: Record, start: Bound, end: Bound, room: usize)
     let judged = exact::judge_region(bytes, x, start, end, room);
     match judged {
         Judged::Refused(f) => Written::Refused(f),
-        Judged::Bases { at: _, run: _, count } => Written::Bytes(count),
+        Judged::Bases {
+            at: _,
+            run: _,
+            count,
+        } => Written::Bytes(count),
     }
 }
 

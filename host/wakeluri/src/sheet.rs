@@ -97,7 +97,10 @@ impl Table<'_> {
             regions.iter().fold(0u64, |sum, (row, bounds)| sum.saturating_add(self.likely_bases(*row, *bounds)));
         let mut bases = if likely <= FIRST_ROOM { vec![0; likely as usize] } else { room(likely).unwrap_or_default() };
         let mut starts = vec![0; regions.len()];
-        let numbers: Vec<u8> = regions.iter().flat_map(|(row, bounds)| self.region(*row, *bounds)).collect();
+        let mut numbers = Vec::with_capacity(regions.len() * size_of::<[u64; 5]>());
+        for (row, bounds) in regions {
+            self.region(*row, *bounds).into_iter().for_each(|number| numbers.extend_from_slice(&number.to_le_bytes()));
+        }
         loop {
             let (bytes, in_use) = (self.as_bytes(), self.len() as u64);
             let answer = entry::read_sheet(fasta, bytes, in_use, &numbers, &mut bases, &mut starts);
@@ -125,12 +128,11 @@ impl Table<'_> {
     }
 
     /// A region as the entry point takes it: a row of another table becomes one that no table has.
-    fn region(&self, row: Row, Bounds { start, end }: Bounds) -> impl Iterator<Item = u8> + use<> {
+    fn region(&self, row: Row, Bounds { start, end }: Bounds) -> [u64; 5] {
         let (in_use, number) = self.lent(row);
         let number = if in_use == 0 { u64::MAX } else { number };
         let flag = |bound: Option<u64>| u64::from(bound.is_some());
-        let numbers = [number, flag(start), start.unwrap_or(0), flag(end), end.unwrap_or(0)];
-        numbers.into_iter().flat_map(u64::to_le_bytes)
+        [number, flag(start), start.unwrap_or(0), flag(end), end.unwrap_or(0)]
     }
 
     /// A row that isn't there is told by its own number.

@@ -301,12 +301,12 @@ module _ {M : Type 1} (𝓤 : URA M) (H : Heap 𝓤) (A : Atoms 𝓤) (W : Given
         assigns ! (bin ! (lit ! tt) (load ! (from ! (fld ! refl (stop !))) (look-in ! 18 (sub ! 0 refl (whole !)))) tt) (from ! (stop !)) (init ! 8 refl (tt, tt)) $
         first ! $ branches ! (load ! (from ! (stop !)) (look ! 8 refl))
         (λ less. skips ! $ exec ! C Λ En more (anyQ (Turned t)) $
-        move ! (39 ∷ []) $ use1 W (‵ OwnR ⊛ ‵ OwnR) (shr-slice-copy 𝓤 H A W (named 0) κ R .twice xR (vR ∷ [])) $ split ! $ move ! (36 ∷ 0 ∷ []) $ 
+        move ! (39 ∷ []) $ use1 W (‵ OwnR ⊛ ‵ OwnR) (shr-slice-copy 𝓤 H A W (named 0) κ R .twice xR (vR ∷ [])) $ split ! $ move ! (36 ∷ 0 ∷ []) $
         use2 W (raw (RegionAt 𝓤 H A mem run .pre (to-region (t .0 .place)))) (goes-region (t .0 .place) (placed less)) $
         -- [what is asked; what regions owns; _16; …]
         calls-at ! fm (RegionAt 𝓤 H A mem run) known-region (to-region (t .0 .place)) (and-then ! (load ! (from ! (stop !)) (look ! 26 refl)) (and-then ! (load ! (from ! (fld ! refl (stop !))) (look-in ! 20 (sub ! 2 refl (whole !)))) (no-more !))) (λ w.
         use1 W (later (some (λ (r : Region). ((‵ (flft κ q) ⊛ ‵ ftrue) ⊛ ‵ (R .own r (w ∷ []))) ⊛ raw (ensured 𝓤 H A region.ended (region.clauses 𝓤 H A mem run) (κ, tt) (xR, (t .0 .place, tt)) tt r)))) (id⊢ 𝓤 _) $ await ! tt $ pick ! (λ r.
-        split ! $ move ! (1 ∷ []) $ use1 W (raw (fact 𝓤 (r ≡ getD rs (t .0 .place) noRegion))) (region-said (t .0 .place) r) $ heard ! (r ≡ getD rs (t .0 .place) noRegion) (λ e. split ! $ move ! (1 ∷ []) $ 
+        split ! $ move ! (1 ∷ []) $ use1 W (raw (fact 𝓤 (r ≡ getD rs (t .0 .place) noRegion))) (region-said (t .0 .place) r) $ heard ! (r ≡ getD rs (t .0 .place) noRegion) (λ e. split ! $ move ! (1 ∷ []) $
         -- [what the region owns; the token; what regions owns; _16; …]
         peeks ! R (Is R) (shows 𝓤 H A R) r (w ∷ []) (λ is.
         land ! (from ! (stop !)) (init ! 19 refl (LL.lawful T.the-type T′.the-laws 𝓤 H A W .typed r _ is .0)) $
@@ -315,14 +315,14 @@ module _ {M : Type 1} (𝓤 : URA M) (H : Heap 𝓤) (A : Atoms 𝓤) (W : Given
         assigns ! (addr ! (from ! (fld ! refl (hop ! (look-in ! 23 (sub ! 0 refl (whole !))) (stop !))))) (from ! (stop !)) (init ! 5 refl (tt, tt)) $
         assigns ! (agg ! (and-then ! (load ! (from ! (stop !)) (look ! 5 refl)) (and-then ! (load ! (from ! (fld ! refl (stop !))) (look-in ! 23 (sub ! 1 refl (whole !)))) (no-more !)))) (from ! (stop !)) (init ! 3 refl (tt, (tt, (record { fits = hereS .0 }, tt)))) $
         -- output and starts are lent again, for a lifetime ν of the call
-        lft-new ! tt (λ ν. move ! (43 ∷ 38 ∷ []) $ 
-        use2 W (later (some (λ (δ : GName). ‵ (LentO ν δ (t .1)) ⊛ ‵ (LentAgain u8 κb (ν ∷ []) qb γO bO oO δ (t .1))))) (lends-again u8 κb (ν ∷ []) qb γO bO oO 𝓤 H A W (named 1) (named 1) (t .1)) $ await ! tt $ pick ! (λ δ. split ! $ move ! (44 ∷ 40 ∷ []) $ 
+        lft-new ! tt (λ ν. move ! (43 ∷ 38 ∷ []) $
+        use2 W (later (some (λ (δ : GName). ‵ (LentO ν δ (t .1)) ⊛ ‵ (LentAgain u8 κb (ν ∷ []) qb γO bO oO δ (t .1))))) (lends-again u8 κb (ν ∷ []) qb γO bO oO 𝓤 H A W (named 1) (named 1) (t .1)) $ await ! tt $ pick ! (λ δ. split ! $ move ! (44 ∷ 40 ∷ []) $
         use2 W (later (some (λ (ε : GName). ‵ (LentS ν ε (t .2)) ⊛ ‵ (LentAgain u64 κc (ν ∷ []) qc γS bS oS ε (t .2))))) (lends-again u64 κc (ν ∷ []) qc γS bS oS 𝓤 H A W (named 2) (named 1) (t .2)) $ await ! tt $ pick ! (λ ε. split ! $
         move ! (42 ∷ []) $ use1 W (‵ OwnF ⊛ ‵ OwnF) (shr-slice-copy 𝓤 H A W (named 0) κ u8 .twice xF (vF ∷ [])) $ split ! $
         move ! (44 ∷ []) $ use1 W (‵ OwnT ⊛ ‵ OwnT) (shr-slice-copy 𝓤 H A W (named 0) κ u64 .twice xT (vT ∷ [])) $ split ! $
         move ! (10 ∷ []) $ split ! $
         -- [κ's token; true; table; table; file; file; starts; what waits; out; what waits; ν's token; region; regions; _16; …; going]
-        move ! (0 ∷ 10 ∷ 4 ∷ 2 ∷ 11 ∷ 47 ∷ 8 ∷ 6 ∷ []) $ join ! $ move ! (1 ∷ 2 ∷ []) $ join ! $ move ! (2 ∷ 3 ∷ []) $ join ! $ move ! (1 ∷ 0 ∷ []) $ join ! $ move ! (2 ∷ 3 ∷ []) $ join ! $ move ! (2 ∷ 1 ∷ 0 ∷ []) $ 
+        move ! (0 ∷ 10 ∷ 4 ∷ 2 ∷ 11 ∷ 47 ∷ 8 ∷ 6 ∷ []) $ join ! $ move ! (1 ∷ 2 ∷ []) $ join ! $ move ! (2 ∷ 3 ∷ []) $ join ! $ move ! (1 ∷ 0 ∷ []) $ join ! $ move ! (2 ∷ 3 ∷ []) $ join ! $ move ! (2 ∷ 1 ∷ 0 ∷ []) $
         use3 W (raw (Turn 𝓤 H A mem run .pre (to-turn ν δ ε r w (t .0) (t .1) (t .2)))) (goes-turn ν δ ε r w (t .0) (t .1) (t .2) (ready less)) $
         -- [what is asked; true; table; file; starts wait; out waits; regions; _16; …]
         calls-at-last ! fm (Turn 𝓤 H A mem run) known-turn (to-turn ν δ ε r w (t .0) (t .1) (t .2)) (and-then ! (load ! (from ! (stop !)) (look ! 37 refl)) (and-then ! (load ! (from ! (stop !)) (look ! 35 refl)) (and-then ! (load ! (from ! (stop !)) (look ! 33 refl)) (and-then ! (load ! (from ! (stop !)) (look ! 23 refl)) (and-then ! (load ! (from ! (stop !)) (look ! 25 refl)) (and-then ! (load ! (from ! (stop !)) (look ! 11 refl)) (and-then ! (load ! (from ! (stop !)) (look ! 7 refl)) (no-more !)))))))) (λ w′.

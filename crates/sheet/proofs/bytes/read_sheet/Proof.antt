@@ -38,8 +38,8 @@ placed c = stands-place _ _ _ _ _ _ (small (c .before .before .before)) _ (omega
 region-at-requires : tie.Need-region-at-requires Inv-loop μ-loop
 region-at-requires c κs = region-inside _ _ (placed c)
 
-row-requires : tie.Need-row-requires Inv-loop μ-loop
-row-requires c κs = search needs
+row-at-requires : tie.Need-row-at-requires Inv-loop μ-loop
+row-at-requires c κs = search needs
 
 turn-requires : tie.Need-turn-requires Inv-loop μ-loop
 turn-requires c κs =
@@ -54,7 +54,7 @@ turn c =
     let w = c .before .before .before in
     let t = w .before .before in
     let l = t .before .before in
-    stands-next _ _ _ _ _ _ (small (l .before)) _ (omega arith) _ _ (l .loop .inv .2) _ (w .before .region-at .ensures ∙ region-here _ _ (placed t) noRegion) _ (c .turn .ensures ∙ turned-row _ _ _ _ _ _ _ _ (w .row .ensures))
+    stands-next _ _ _ _ _ _ (small (l .before)) _ (omega arith) _ _ (l .loop .inv .2) _ (w .before .region-at .ensures ∙ region-here _ _ (placed t) noRegion) _ (c .turn .ensures ∙ turned-row _ _ _ _ _ _ _ _ (w .row-at .ensures))
 
 loop-less : tie.Need-loop-less Inv-loop μ-loop
 loop-less c = turn (c .before .before .before .before) .1
@@ -87,7 +87,7 @@ read-sheet-spec =
     start-requires
     loop-holds
     region-at-requires
-    row-requires
+    row-at-requires
     turn-requires
     loop-less
     loop-again

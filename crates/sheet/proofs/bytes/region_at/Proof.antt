@@ -49,14 +49,15 @@ number-requires-5 c κs = search needs
 returns : tie.Need-returns
 returns c =
     let b = c .before .before .before .before in
-    rw
-    (c .number5 .ensures,
-    c .before .bound2 .ensures,
-    c .before .before .number4 .ensures,
-    c .before .before .before .number3 .ensures,
-    b .bound .ensures,
-    b .before .number2 .ensures,
-    b .before .before .number .ensures)
+    rw (
+      c .number5 .ensures,
+      c .before .bound2 .ensures,
+      c .before .before .number4 .ensures,
+      c .before .before .before .number3 .ensures,
+      b .bound .ensures,
+      b .before .number2 .ensures,
+      b .before .before .number .ensures,
+    )
 
 pub region-at-spec : {M : Type 1} → statement M
 region-at-spec =
