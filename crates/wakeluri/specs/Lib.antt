@@ -1,6 +1,7 @@
 pub mod Answer
 pub mod Told
 pub mod Sheets
+pub mod SheetLaws
 pub mod Primers
 pub mod Laws
 pub mod PlainAgainLaws
