@@ -208,7 +208,10 @@ impl fmt::Display for Report {
             writeln!(f, "| {look_ups} | {names} | {MAP_GOAL} | {ratio:.1} | {verdict} | {walk} | {built} | {used} |")?;
         }
         if !self.sheeted.is_empty() {
-            writeln!(f, "\n| regions | bases of each | goal | times as fast as a call for each | | a call for each | a sheet |")?;
+            writeln!(
+                f,
+                "\n| regions | bases of each | goal | times as fast as a call for each | | a call for each | a sheet |"
+            )?;
             writeln!(f, "|---|---|---|---|---|---|---|")?;
         }
         for Sheeted { regions, bases, singles, sheet } in &self.sheeted {

@@ -481,7 +481,9 @@ impl Source<'_> {
                     Ok(())
                 };
                 let read = match sheet.as_ref().and_then(|sheet| sheet.get(place)) {
-                    Some(bases) => [self.written(*region, region.start, Ok(bases.to_vec()), form)].into_iter().try_for_each(take),
+                    Some(bases) => {
+                        [self.written(*region, region.start, Ok(bases.to_vec()), form)].into_iter().try_for_each(take)
+                    }
                     None => self.pieces(*region, form).try_for_each(take),
                 };
                 faults.extend(read.err());

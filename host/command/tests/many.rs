@@ -119,8 +119,11 @@ fn a_region_that_is_refused_behind_two_hundred() {
     let expected: String = (0..450).map(|k| [">a:2-3\nCG\n", ">b\nGG\n", ">c:3\nT\n"][k % 3]).collect();
     folder.write("sheet.txt", &sheet);
     folder.run(&["read", "f.fa", "-r", "sheet.txt"]).gave(&expected);
-    let turned: String =
-        (0..450).map(|k| [">a:2-3 reverse complement\nCG\n", ">b reverse complement\nCC\n", ">c:3 reverse complement\nA\n"][k % 3]).collect();
+    let turned: String = (0..450)
+        .map(|k| {
+            [">a:2-3 reverse complement\nCG\n", ">b reverse complement\nCC\n", ">c:3 reverse complement\nA\n"][k % 3]
+        })
+        .collect();
     folder.run(&["revcomp", "f.fa", "-r", "sheet.txt"]).gave(&turned);
     // an index that lies, and is not checked: bases that the file doesn't have are seen when they are read
     folder.write("f.fa.fai", "a\t4\t3\t4\t5\nb\t2\t11\t2\t3\nempty\t0\t21\t1\t2\nc\t30\t24\t3\t4\n");

@@ -194,7 +194,7 @@ pub(super) fn far_read() -> Source {
 /// may have.
 pub(super) fn sheet() -> Source {
     const FILE: &[u8] = b">s\nACGT\nAC\n>t\nGG";
-    const REGIONS: [(u64, (Option<u64>, Option<u64>)); 10] = [
+    const REGIONS: [(u64, crate::form::Bounds); 10] = [
         (0, (None, None)),
         (0, (Some(1), Some(1))),
         (0, (Some(2), Some(5))),
