@@ -292,6 +292,15 @@ static void nothing_at_null(void) {
     GIVES(wakeluri_read_exact(NULL, 0, table, sizeof table, 1, 0, 0, 0, 0, 0, NULL, 0), WAKELURI_NO_ROOM);
     GIVES(wakeluri_read_raw(NULL, 0, NULL, 0, 0, 0, 0, 0, 0, 0, NULL, 0), WAKELURI_BAD_ROW);
     GIVES(wakeluri_read_raw(NULL, 0, table, sizeof table, 1, 0, 0, 0, 0, 0, NULL, 0), WAKELURI_FINE);
+    GIVES(wakeluri_read_window(0, NULL, 0, 0, NULL, 0, 0, 0, 0, 0, 0, 0, NULL, 0), WAKELURI_BAD_ROW);
+    GIVES(wakeluri_read_window(9, NULL, 0, 0, table, sizeof table, 1, 0, 0, 0, 0, 0, NULL, 0), WAKELURI_NO_ROOM);
+    GIVES(wakeluri_needed_bytes(0, 9, NULL, 0, 0, 0, 0, 0, 0, 0), WAKELURI_BAD_ROW);
+    GIVES(wakeluri_read_sheet(NULL, 0, NULL, 0, 0, NULL, 0, NULL, 0, NULL, 0), WAKELURI_FINE);
+    struct wakeluri_feed feed = wakeluri_feed_start(1);
+    GIVES(feed = wakeluri_feed_piece(feed, NULL, 0, NULL, 0), WAKELURI_FINE);
+    GIVES(feed = wakeluri_feed_end(feed, NULL, 0), WAKELURI_FINE);
+    GIVES(wakeluri_feed_end(feed, NULL, 0), WAKELURI_ALREADY_ENDED);
+    GIVES(wakeluri_score_exercise(NULL, 0, NULL, 0, NULL, 0, NULL, 0, NULL, 0, 0, NULL, 0), WAKELURI_MALFORMED_EXERCISE);
     GIVES(wakeluri_complement(NULL, 0, NULL, 0), WAKELURI_FINE);
     GIVES(wakeluri_complement(BYTES("A"), NULL, 0), WAKELURI_NO_ROOM);
     GIVES(wakeluri_reverse_complement(NULL, 0, NULL, 0), WAKELURI_FINE);
