@@ -44,7 +44,9 @@ pub fn saved(place: &Output, rule: Rule) -> Result<Fed, Failure> {
     drop(progress);
     match (refused, unread, written, fed) {
         (Some(refusal), ..) => Err(refused_words(refusal)),
-        (None, Some(error), ..) => Err(Failure::system("it can't be read", "standard input", &error, "nothing was saved")),
+        (None, Some(error), ..) => {
+            Err(Failure::system("it can't be read", "standard input", &error, "nothing was saved"))
+        }
         (None, None, Ok(()), Some(fed)) => Ok(fed),
         (None, None, written, _) => written.and(Err(Failure::Gone)),
     }

@@ -22,9 +22,13 @@ fn the_file_and_its_index_are_put_in_place() {
 #[test]
 fn a_refusal_leaves_nothing() {
     let folder = Folder::new("arriving-refused");
-    folder.piped(&["index", "-", "--save", "ref.fa"], b">s\nACGT\nACGTA\nA\n", 2).failed(1, &["refused 42 (offset 12, base 9)", "nothing was saved"]);
+    folder
+        .piped(&["index", "-", "--save", "ref.fa"], b">s\nACGT\nACGTA\nA\n", 2)
+        .failed(1, &["refused 42 (offset 12, base 9)", "nothing was saved"]);
     assert!(!folder.at("ref.fa").exists() && !folder.at("ref.fa.fai").exists());
-    folder.piped(&["index", "-", "--save", "ref.fa", "--strict"], b">s\nA\n> \nA\n", 2).failed(1, &["refused 4 (", "nothing was saved"]);
+    folder
+        .piped(&["index", "-", "--save", "ref.fa", "--strict"], b">s\nA\n> \nA\n", 2)
+        .failed(1, &["refused 4 (", "nothing was saved"]);
     assert!(!folder.at("ref.fa").exists() && !folder.at("ref.fa.fai").exists());
 }
 

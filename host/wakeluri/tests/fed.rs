@@ -119,7 +119,9 @@ fn a_row_is_seen_before_the_writer_ends() -> io::Result<()> {
 fn the_same_table() {
     let mut file = vec![];
     for number in 0..3000 {
-        file.extend(format!(">record_{number}{}\nACGTACGT\r\nACG\n", [" and what it is", "", "\t"][number % 3]).into_bytes());
+        file.extend(
+            format!(">record_{number}{}\nACGTACGT\r\nACG\n", [" and what it is", "", "\t"][number % 3]).into_bytes(),
+        );
     }
     for size in [1, 2, 3, 7, 100, 4096, 1 << 16, 1 << 20] {
         let mut feeder = Feeder::new();
