@@ -10,12 +10,12 @@ use crate::{LIMIT, n};
 use questions::form::No;
 use questions::row::Row;
 
-/// The row of the record at an offset and the offset behind it, none at the end, or why it is refused.
-type OfRecord = fn(&[u8], u64) -> Result<Option<(Row, u64)>, No>;
+/// The row of the record at an offset, and the offset behind it.
+type Indexed = Result<Option<(Row, u64)>, No>;
 
 /// A rule for a whole record, and what it says of one that goes on.
 struct Rule {
-    record: OfRecord,
+    record: fn(&[u8], u64) -> Indexed,
     goes_on: fn(&[u8], u64) -> Result<(), No>,
 }
 

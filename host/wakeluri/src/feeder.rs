@@ -22,7 +22,7 @@ const PIECE: usize = 1 << 16;
 /// assert_eq!(feeder.rows(), 1);
 ///
 /// let fed = feeder.end()?;
-/// assert_eq!(fed.table().write_index()?, b"s\t6\t16\t4\t6\nt\t1\t27\t1\t2\n");
+/// assert_eq!(fed.table().write_index()?, b"s\t6\t16\t4\t6\nt\t1\t28\t1\t2\n");
 /// assert_eq!(fed.table().records().next().and_then(|record| record.description()), Some(&b"a first one"[..]));
 /// # Ok::<(), wakeluri::Refusal>(())
 /// ```
