@@ -146,6 +146,12 @@ struct wakeluri_answer wakeluri_write_exercise(const uint8_t *name, size_t name_
 /* What was typed against a key, by the rules of edition 1 or 2. Right, wrong and missing together are the key's length. Refuses 1, 33. */
 struct wakeluri_score wakeluri_score_typed(const uint8_t *key, size_t key_length, const uint8_t *typed, size_t typed_length, uint64_t edition);
 
+/* From the bytes of an exercise to a score: the exercise's name is looked up among the rows in use, whose names are spans of `names`, its key is
+ * fetched by the exact read to the front of `room`, and what was typed is counted against it by the exercise's edition. Right, wrong and missing
+ * together are end - start + 1, always, and so many bytes of `room` are the key. Refuses 1 for any of the four inputs, 31 to 33, 25, 15, 16, 17,
+ * 14, 18; then `room` is as it was. */
+struct wakeluri_score wakeluri_score_exercise(const uint8_t *exercise, size_t exercise_length, const uint8_t *typed, size_t typed_length, const uint8_t *file, size_t file_length, const uint8_t *names, size_t names_length, const uint8_t *table, size_t table_length, uint64_t in_use, uint8_t *room, size_t room_length);
+
 /* Accepts a FASTA file and an index of any program exactly if the index leads to every base. Refuses 1, 2 to 4, 19, 9 to 12, 21 to 23, 20. */
 struct wakeluri_answer wakeluri_check(const uint8_t *fasta, size_t fasta_length, const uint8_t *index, size_t index_length);
 

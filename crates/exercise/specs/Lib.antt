@@ -2,5 +2,6 @@ pub mod Numbers
 pub mod Reading
 pub mod Writing
 pub mod Laws
+pub mod Within
 pub mod Fields
 pub mod Examples

@@ -65,10 +65,13 @@ scoreBy rule key typed = record {
   score = tenthsOf rule key typed;
 }
 
--- the call: 1 first, then 33
-unfoldable pub scoredAs : List ℕ → List ℕ → ℕ → Scored
-scoredAs key typed edition =
-    cond (overLimit (length key)) (is.Refused TooLong)
-    (cond (overLimit (length typed)) (is.Refused TooLong)
+-- the call with a key that was fetched: 1 for what was typed, then 33
+unfoldable pub keyScored : List ℕ → List ℕ → ℕ → Scored
+keyScored key typed edition =
+    cond (overLimit (length typed)) (is.Refused TooLong)
     (cond (eqb edition 1) (is.Score (scoreBy same key typed))
-    (cond (eqb edition 2) (is.Score (scoreBy lies key typed)) (is.Refused (UnknownEdition 0)))))
+    (cond (eqb edition 2) (is.Score (scoreBy lies key typed)) (is.Refused (UnknownEdition 0))))
+
+-- the call with a key that is lent: 1 for it first
+unfoldable pub scoredAs : List ℕ → List ℕ → ℕ → Scored
+scoredAs key typed edition = cond (overLimit (length key)) (is.Refused TooLong) (keyScored key typed edition)

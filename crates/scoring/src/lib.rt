@@ -8,7 +8,7 @@ ghost use Rattle.letters.specs.Letters.{setOf};
 ghost use Rattle.letters.specs.Sets.{bit};
 ghost use Rattle.letters.specs.Table.{IsTable};
 ghost use Rattle.scoring.specs.Rules.{folded, same, lies, ruleFor};
-ghost use Rattle.scoring.specs.Places.{tenths, scoredAs, scoreBy};
+ghost use Rattle.scoring.specs.Places.{tenths, scoreBy, keyScored, scoredAs};
 ghost use Rattle.scoring.specs.Counting.{Counted, agrees};
 
 // The counts over a key's places, the typed bytes past it, and the score in tenths of a percent.
@@ -157,7 +157,7 @@ fn smaller(a: usize, b: usize) -> usize
 
 // The counts and the score of a key and what was typed, in edition 1 or 2.
 fn score_by(key: &[u8], typed: &[u8], second: bool) -> Score
-    requires { ⌜ (length (now key) ≤ 1099511627776) × (length (now typed) ≤ 1099511627776) ⌝ }
+    requires { ⌜ length (now typed) ≤ 1099511627776 ⌝ }
     ensures { λ r. ⌜ r ≡ scoreBy (ruleFor second) (now (key .entry)) (now (typed .entry)) ⌝ }
 {
     let both = smaller(key.len(), typed.len());
@@ -173,13 +173,10 @@ fn score_by(key: &[u8], typed: &[u8], second: bool) -> Score
     }
 }
 
-// The same, by an edition's number.
-pub fn score_typed(key: &[u8], typed: &[u8], edition: u64) -> Scored
-    ensures { λ r. ⌜ r ≡ scoredAs (now (key .entry)) (now (typed .entry)) edition ⌝ }
+// The same, by an edition's number, of a key that was fetched: it is no lent input, and only what was typed is judged for the limit.
+pub fn score_key(key: &[u8], typed: &[u8], edition: u64) -> Scored
+    ensures { λ r. ⌜ r ≡ keyScored (now (key .entry)) (now (typed .entry)) edition ⌝ }
 {
-    if refusal::over_limit(key.len()) {
-        return Scored::Refused(Refusal::TooLong);
-    }
     if refusal::over_limit(typed.len()) {
         return Scored::Refused(Refusal::TooLong);
     }
@@ -190,4 +187,14 @@ pub fn score_typed(key: &[u8], typed: &[u8], edition: u64) -> Scored
         return Scored::Score(score_by(key, typed, true));
     }
     Scored::Refused(Refusal::UnknownEdition { offset: 0 })
+}
+
+// The same of a key that is lent.
+pub fn score_typed(key: &[u8], typed: &[u8], edition: u64) -> Scored
+    ensures { λ r. ⌜ r ≡ scoredAs (now (key .entry)) (now (typed .entry)) edition ⌝ }
+{
+    if refusal::over_limit(key.len()) {
+        return Scored::Refused(Refusal::TooLong);
+    }
+    score_key(key, typed, edition)
 }

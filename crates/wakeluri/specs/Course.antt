@@ -1,6 +1,10 @@
 -- Answers about exercises and scores as a host is told them.
+use Prim.Native.Nat.{ℕ}
+use mathlib.Core.Path.{_≡_}
+use mathlib.Core.List.{List}
 use Rattle.refusal.specs.declared.Numbers.{Numbers}
 use Rattle.refusal.specs.Numbers.{numbersOf}
+use Rattle.output.specs.Outcome.{Outcome, leaves}
 use Rattle.exercise.specs.declared.Exercise.{Exercise}
 use Rattle.exercise.specs.declared.ExerciseRead.{ExerciseRead}
 use Rattle.exercise.specs.declared.ExerciseRead.the-variants as exercise
@@ -52,3 +56,12 @@ exerciseAnswer (exercise.Refused f) = exerciseTold (numbersOf f) noExercise
 unfoldable pub scoreAnswer : Scored → ScoreAnswer
 scoreAnswer (scored.Score s) = scoreTold fine s
 scoreAnswer (scored.Refused f) = scoreTold (numbersOf f) noScore
+
+-- a score, and the room with its key
+unfoldable pub scoredTold : Outcome Scored → Outcome ScoreAnswer
+scoredTold o = leaves (scoreAnswer (o .answer)) (o .output)
+
+-- what is told of a call, by what it answers and leaves
+pub scored-told : (a : ScoreAnswer) (room : List ℕ) (r : Scored) (o : Outcome Scored) → leaves r room ≡ o → a ≡ scoreAnswer r → leaves a room ≡ scoredTold o
+unfolding scoredTold
+scored-told a room r o e q = rw (← e, q)

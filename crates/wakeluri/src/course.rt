@@ -1,4 +1,4 @@
-// Entry points of the course: exercises read and written, and what was typed counted against a key.
+// Entry points of the course: exercises read and written, and what was typed counted against a key, which is lent or fetched.
 use crate::answer;
 use crate::answer::Answer;
 use exercise::Exercise;
@@ -11,8 +11,10 @@ ghost use Rattle.output.specs.Outcome.{leaves};
 ghost use Rattle.exercise.specs.Reading.{readAs};
 ghost use Rattle.exercise.specs.Writing.{writtenAs};
 ghost use Rattle.scoring.specs.Places.{scoredAs};
+ghost use Rattle.scorer.specs.Scorer.{scorerOf};
+ghost use Rattle.table.specs.Numbers.{numbersIn};
 ghost use Rattle.wakeluri.specs.Told.{writtenTold};
-ghost use Rattle.wakeluri.specs.Course.{noExercise, noScore, exerciseTold, scoreTold, exerciseAnswer, scoreAnswer};
+ghost use Rattle.wakeluri.specs.Course.{noExercise, noScore, exerciseTold, scoreTold, exerciseAnswer, scoreAnswer, scoredTold};
 
 // An exercise: where its name lies in its bytes, its first and last base, and its edition.
 #[repr(C)]
@@ -145,4 +147,21 @@ pub extern "C" fn wakeluri_score_typed(key: &[u8], typed: &[u8], edition: u64) -
     ensures { λ a. ⌜ a ≡ scoreAnswer (scoredAs (now (key .entry)) (now (typed .entry)) edition) ⌝ }
 {
     score_answer(scoring::score_typed(key, typed, edition))
+}
+
+// What was typed for an exercise: its key is fetched into the room.
+#[no_mangle]
+pub extern "C" fn wakeluri_score_exercise(
+    exercise: &[u8],
+    typed: &[u8],
+    file: &[u8],
+    names: &[u8],
+    table: &[u8],
+    in_use: u64,
+    room: &mut [u8],
+) -> ScoreAnswer
+    ensures { λ a. ⌜ leaves a (now (room .exit)) ≡ scoredTold (scorerOf (now (exercise .entry)) (now (typed .entry)) (now (file .entry)) (now (names .entry)) (numbersIn (now (table .entry))) «in_use» (now (room .entry))) ⌝ }
+{
+    let scored = scorer::score_exercise(exercise, typed, file, names, table, in_use as usize, room);
+    score_answer(scored)
 }

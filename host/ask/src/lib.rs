@@ -133,6 +133,11 @@ impl Speaker for Library {
                     None => told(None, score.numbers()),
                 }
             }
+            ("scr", [Bytes(exercise), Bytes(typed), Bytes(file), Bytes(names), Rows(rows), Output(key)]) => {
+                let table = bytes(&rows.numbers);
+                let score = entry::score_exercise(exercise, typed, file, names, &table, rows.in_use, key);
+                told(score.no(), score.numbers())
+            }
             ("chk", [Bytes(fasta), Bytes(index)]) => told(entry::check(fasta, index).no(), ()),
             ("prg", [Bytes(input)]) => told(None, vec![Bytes(output(self.program.as_ref()?, input)?)]),
             _ => return None,

@@ -1,9 +1,11 @@
 //! Exercises as tagged fields, and what was typed counted against a key.
 
 use crate::primers::bases;
-use crate::reads::put;
+use crate::reads::{exact, put};
+use crate::rows::find;
 use crate::{n, no};
 use questions::form::No;
+use questions::row::Rows;
 
 /// The fields of an exercise: a tag, two bytes of length, high byte first, and so many bytes.
 pub(crate) fn write_exercise(name: &[u8], start: u64, end: u64, edition: u64, out: &mut [u8]) -> Result<u64, No> {
@@ -76,4 +78,19 @@ pub(crate) fn score(key: &[u8], typed: &[u8], edition: u64) -> Result<[u64; 5], 
     let surplus = (0..typed.len()).filter(|place| key.get(*place).is_none()).count();
     let tenths = (1000 * right).checked_div(key.len() + surplus).unwrap_or(0);
     Ok([right, wrong, missing, surplus, tenths].map(n))
+}
+
+/// What was typed for an exercise: the key is looked up by its name and read, and stands at the front of the room.
+pub(crate) fn score_exercise(
+    exercise: &[u8],
+    typed: &[u8],
+    file: &[u8],
+    names: &[u8],
+    rows: &Rows,
+    room: &mut [u8],
+) -> Result<[u64; 5], No> {
+    let (name, [start, end, edition]) = read_exercise(exercise)?;
+    let row = find(names, rows, &name)?;
+    let asked = exact(file, rows, row, (Some(start), Some(end)), room)?;
+    score(&room[..asked as usize], typed, edition)
 }

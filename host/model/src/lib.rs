@@ -107,6 +107,9 @@ impl Speaker for Model {
                     .into()
             }
             ("sco", [Bytes(key), Bytes(typed), Number(edition)]) => course::score(key, typed, *edition).into(),
+            ("scr", [Bytes(exercise), Bytes(typed), Bytes(file), Bytes(names), Rows(rows), Output(key)]) => {
+                course::score_exercise(exercise, typed, file, names, rows, key).into()
+            }
             ("chk", [Bytes(fasta), Bytes(index)]) => check(fasta, index).into(),
             ("prg", [Bytes(input)]) => Ok(vec![Bytes(program(input))]).into(),
             _ => return None,

@@ -124,6 +124,10 @@ pub const FAMILIES: &[Family] = &[
     asks("exw", &[Bytes, Number, Number, Number, Output], Always(&[Number]), &[14, 31, 33], Lacks),
     asks("exd", &[Bytes], IfOk(&[Bytes, Number, Number, Number]), &[31, 32, 33], Lacks),
     asks("sco", &[Bytes, Bytes, Number], Bare(&[Number, Number, Number, Number, Number]), &[33], Lacks),
+    asks(
+        "scr", &[Bytes, Bytes, Bytes, Bytes, Rows, Output], Always(&[Number, Number, Number, Number, Number]),
+        &[14, 15, 16, 17, 18, 25, 31, 32, 33], Lacks,
+    ),
     // the checker; the program's output
     asks("chk", &[Bytes, Bytes], IfOk(&[]), &[2, 3, 4, 9, 10, 11, 12, 19, 20, 21, 22, 23], Lacks),
     asks("prg", &[Bytes], Bare(&[Bytes]), &[], Refusals),
@@ -204,6 +208,11 @@ sco x4e54 x5255 2 => 2 0 0 0 1000
 sco x4e54 x5255 1 => 0 2 0 0 0
 sco x x41 1 => 0 0 0 1 0
 sco x41 x41 3 => no 33 0 0
+scr x010001730200080000000000000001030008000000000000000404000101 x614354 x3e730a414347540a x3e730a t1,1,4,3,4,5,0,0 1 x2e2e2e2e2e => ok 2 1 1 0 500 x414347542e
+scr x010001730200080000000000000001030008000000000000000504000101 x x3e730a414347540a x3e730a t1,1,4,3,4,5,0,0 1 x2e2e => no 17 4 0 0 0 0 0 0 x2e2e
+scr x010001730200080000000000000001030008000000000000000504000103 x x3e730a414347540a x3e730a t1,1,4,3,4,5,0,0 1 x2e2e => no 33 26 0 0 0 0 0 0 x2e2e
+scr x010001740200080000000000000001030008000000000000000504000102 x x3e730a414347540a x3e730a t1,1,4,3,4,5,0,0 1 x2e2e => no 15 0 0 0 0 0 0 0 x2e2e
+scr x010001730200080000000000000001030008000000000000000204000102 x79614e x3e730a4e520a x3e730a t1,1,2,3,4,5,0,0 1 x2e2e => ok 2 0 0 1 666 x4e52
 wsq x410d 1 x => no 30 0 0 0 x
 wsq x41 1 x2e => no 14 2 0 0 x2e
 chk x3e730a414347540a41430a x730936093309340936 => no 23 1 5

@@ -46,7 +46,7 @@ mod text;
 mod writer;
 
 pub use bounds::Bounds;
-pub use course::{Exercise, Score, read_exercise, score_typed, write_exercise};
+pub use course::{Edition, Exercise, Score, read_exercise, score_typed, write_exercise};
 pub use names::Names;
 pub use primer::{Places, degeneracy, find_primer, find_primer_from, primer_places};
 pub use refusal::{Call, Refusal};

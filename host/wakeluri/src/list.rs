@@ -99,6 +99,12 @@ macro_rules! entry_points {
             /// What was typed against a key, by the rules of edition 1 or 2. Refuses 1, 33.
             fn score_typed(key: bytes, typed: bytes, edition: number) -> Score;
 
+            /// From the bytes of an exercise to a score: its name is looked up, its key is fetched to the front of `room`, and what
+            /// was typed is counted against it by its edition. Refuses 1, 31 to 33, 25, 15, 16, 17, 14, 18.
+            fn score_exercise(
+                exercise: bytes, typed: bytes, file: bytes, names: bytes, table: bytes, in_use: number, room: output
+            ) -> Score;
+
             /// Accepts a FASTA file and an index of any program exactly if the index leads to every base. Refuses 1, 2 to 4, 19, 9
             /// to 12, 21 to 23, 20.
             fn check(fasta: bytes, index: bytes) -> Answer;

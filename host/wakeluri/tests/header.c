@@ -113,6 +113,23 @@ static void ordinary_calls(void) {
     MUST(x.refusal == 0 && x.name_start == 3 && x.name_length == 1 && x.start == 1 && x.end == 100 && x.edition == 1);
     struct wakeluri_score mark = wakeluri_score_typed(BYTES("ACGT"), BYTES("acT"), 1);
     MUST(mark.refusal == 0 && mark.right == 2 && mark.wrong == 1 && mark.missing == 1 && mark.surplus == 0 && mark.score == 500);
+    /* a hundred asked, fifty typed, 49 of them right; and where only fifty are left there is no score */
+    uint8_t drill[104], typed[50], key[100];
+    const uint64_t asked[8] = {1, 1, 100, 3, 100, 101, 0, 0}, fewer[8] = {1, 1, 50, 3, 100, 101, 0, 0};
+    uint8_t row_asked[ROW_BYTES];
+    memset(drill, 'A', sizeof drill);
+    memcpy(drill, ">s\n", 3);
+    drill[103] = '\n';
+    memset(typed, 'a', sizeof typed);
+    typed[49] = 'C';
+    memset(key, '.', sizeof key);
+    put_row(row_asked, fewer);
+    mark = wakeluri_score_exercise(out, 30, typed, sizeof typed, drill, sizeof drill, drill, sizeof drill, row_asked, ROW_BYTES, 1, key, sizeof key);
+    MUST(mark.refusal == 17 && mark.first == 50 && mark.score == 0 && key[0] == '.' && key[99] == '.');
+    put_row(row_asked, asked);
+    mark = wakeluri_score_exercise(out, 30, typed, sizeof typed, drill, sizeof drill, drill, sizeof drill, row_asked, ROW_BYTES, 1, key, sizeof key);
+    MUST(mark.refusal == 0 && mark.right == 49 && mark.wrong == 1 && mark.missing == 50 && mark.surplus == 0 && mark.score == 490);
+    MUST(key[0] == 'A' && key[99] == 'A');
     a = wakeluri_degeneracy(BYTES("ARN"));
     MUST(a.refusal == 0 && a.count == 8);
     a = wakeluri_find_primer(BYTES("RY"), BYTES("CCACAC"), 3);
@@ -169,6 +186,10 @@ static void beyond_the_limit(void) {
     REFUSED(wakeluri_write_exercise(big, n, 1, 1, 9, out, 0));
     REFUSED(wakeluri_score_typed(big, n, out, 0, 9));
     REFUSED(wakeluri_score_typed(out, 0, big, n, 9));
+    REFUSED(wakeluri_score_exercise(big, n, out, 0, out, 0, out, 0, table, 0, 9, out, 0));
+    REFUSED(wakeluri_score_exercise(out, 0, big, n, out, 0, out, 0, table, 0, 9, out, 0));
+    REFUSED(wakeluri_score_exercise(out, 0, out, 0, big, n, out, 0, table, 0, 9, out, 0));
+    REFUSED(wakeluri_score_exercise(out, 0, out, 0, out, 0, big, n, table, 0, 9, out, 0));
     REFUSED(wakeluri_degeneracy(big, n));
     REFUSED(wakeluri_find_primer(big, n, out, 0, 0));
     REFUSED(wakeluri_find_primer(out, 0, big, n, 0));

@@ -5,7 +5,7 @@
 
 use questions::generate::Chance;
 use wakeluri::entry::{self, ROW_BYTES, ROW_WORDS};
-use wakeluri::{Bounds, Call, Names, Refusal, Row, Table};
+use wakeluri::{Bounds, Call, Edition, Names, Refusal, Row, Table};
 
 const NUMBERS: [u64; 16] = [
     0,
@@ -99,7 +99,12 @@ impl Hostile {
             "file" | "fasta" | "names" | "line" | "content" => fasta(chance),
             "index" => index(chance),
             "bases" | "key" | "typed" => bytes(chance, b"ACGTN"),
-            "exercise" => bytes(chance, b"\x01\x00\x01\x02\x00\x08\x03\x04"),
+            "exercise" if chance.once_in(3) => bytes(chance, b"\x01\x00\x01\x02\x00\x08\x03\x04"),
+            "exercise" => {
+                let (start, end) = (number(chance).min(3), number(chance));
+                let edition = chance.one_of(&[Edition::First, Edition::Second]);
+                wakeluri::write_exercise(b"s", start, end, edition).unwrap_or_default().into_boxed_slice()
+            }
             "primer" | "text" => bytes(chance, b"ACGTRYN"),
             "table" => {
                 let table = table(chance);
@@ -159,7 +164,8 @@ impl Judged for entry::Exercise {
 impl Judged for entry::Score {
     fn told(&self) -> (u64, usize, u64) {
         assert!(self.score <= 1000);
-        (self.refusal, 0, 0)
+        // a key that was fetched has as many bases as were asked
+        (self.refusal, (self.right + self.wrong + self.missing) as usize, 0)
     }
 }
 

@@ -122,6 +122,36 @@ pub(super) fn typed() -> Source {
     Box::new(pairs.chain(texts).map(|(key, typed, edition)| vec![Bytes(key), Bytes(typed), Number(edition)]))
 }
 
+/// Exercises about one small record: every pair of bounds, both editions and others, with too little room and enough.
+pub(super) fn scored_exercise() -> Source {
+    const FILE: &[u8] = b">s\nAN\nt\n";
+    let cases = (0..5 * 5 * 4).flat_map(|k| [0, 2, 3].map(|space| (k, space)));
+    let bytes = |start: u64, end: u64, edition: u8| {
+        let numbers = [&[2, 0, 8][..], &start.to_be_bytes(), &[3, 0, 8], &end.to_be_bytes(), &[4, 0, 1, edition]];
+        [&[1, 0, 1, b's'][..], &numbers.concat()].concat()
+    };
+    let asked = cases.flat_map(move |(k, space)| {
+        let exercise = bytes(k % 5, k / 5 % 5, (k / 25) as u8);
+        strings(b"AuN", 2).map(move |typed| (exercise.clone(), typed, space)).collect::<Vec<_>>()
+    });
+    // fields in other orders, cut off, twice
+    let short = strings(b"\x00\x01\x02\x03\x04\x05\x80", 4).map(|exercise| (exercise, b"A".to_vec(), 3));
+    Box::new(asked.chain(short).flat_map(|(exercise, typed, space)| {
+        // a name that is there, one that is outside of the bytes, and rows that the table lacks
+        [([1, 1], 1), ([9, 1], 1), ([1, 1], 2)].map(|([start, length], in_use)| {
+            let rows = rows(&[[start, length, 3, 3, 2, 3]], in_use);
+            vec![
+                Bytes(exercise.clone()),
+                Bytes(typed.clone()),
+                Bytes(FILE.to_vec()),
+                Bytes(FILE.to_vec()),
+                Rows(rows),
+                Output(room(space)),
+            ]
+        })
+    }))
+}
+
 pub(super) fn primer() -> Source {
     Box::new(strings(b"ATUrYNv-", 5).map(|primer| vec![Bytes(primer)]))
 }

@@ -58,6 +58,7 @@ pub(super) const MAKERS: &[Maker] = &[
     maker("exw", 16, written_exercise, &[every::written_exercise]),
     maker("exd", 32, exercise, &[every::exercise]),
     maker("sco", 32, typed, &[every::typed]),
+    maker("scr", 48, scored_exercise, &[every::scored_exercise]),
     maker("chk", 32, pair, &[every::check]),
     maker("prg", 1, program, &[every::program_limits]),
 ];
@@ -364,6 +365,50 @@ fn typed(chance: &mut Chance) -> Vec<Value> {
         _ => {}
     }
     vec![Bytes(key), Bytes(typed), Number(edition(chance))]
+}
+
+/// An exercise about a record of a file, mostly one that can be scored, and something like its bases typed.
+fn scored_exercise(chance: &mut Chance) -> Vec<Value> {
+    let sample = file(chance);
+    let rows = some_rows(chance, &sample.rows);
+    let (_, row) = a_row(chance, &sample);
+    let there = sample.text.get(row[0] as usize..).and_then(|text| text.get(..row[1] as usize));
+    let name = match there {
+        Some(there) if !chance.once_in(8) => there.to_vec(),
+        _ => name(chance),
+    };
+    let length = row[2];
+    let (start, end) = match chance.below(8) {
+        0 => (about(chance, length), about(chance, length)),
+        1 => (1 + chance.below(4) as u64, length.saturating_add(1)),
+        _ => {
+            let start = 1 + chance.below(length.clamp(1, 200) as usize) as u64;
+            (start, start + chance.below((length.saturating_sub(start) + 1).clamp(1, 200) as usize) as u64)
+        }
+    };
+    let mut bytes = exercise_bytes(&name, start, end, 1 + chance.below(2) as u8);
+    if chance.once_in(10) {
+        let Some(Bytes(other)) = exercise(chance).pop() else { unreachable!("an exercise is its bytes") };
+        bytes = other;
+    }
+    // the bases of the region where lines are ignored: right in many places
+    let bases = sample.text.get(row[3] as usize..).unwrap_or_default();
+    let bases = bases.iter().filter(|byte| !matches!(byte, b'\n' | b'\r')).skip(start as usize - usize::from(start > 0));
+    let asked = if start <= end { (end - start).saturating_add(1).min(300) as usize } else { 0 };
+    let mut typed: Vec<u8> = bases.copied().take(asked).collect();
+    for _ in 0..chance.below(4).min(typed.len()) {
+        let at = chance.below(typed.len());
+        typed[at] = if chance.once_in(4) { chance.one_of(b"-[{@`.\xff") } else { chance.one_of(LETTERS) };
+    }
+    match chance.below(4) {
+        0 => typed.truncate(chance.below(typed.len() + 1)),
+        1 => typed.extend(some_bases(chance)),
+        _ => {}
+    }
+    let room = some_room(chance, asked as u64);
+    // names may be spans of the file, or of something else
+    let names = if chance.once_in(12) { index_text(chance, &sample.text, &sample.rows) } else { sample.text.clone() };
+    vec![Bytes(bytes), Bytes(typed), Bytes(sample.text), Bytes(names), Rows(rows), Output(room)]
 }
 
 fn pair(chance: &mut Chance) -> Vec<Value> {

@@ -1,0 +1,2 @@
+pub mod Scorer
+pub mod Laws
