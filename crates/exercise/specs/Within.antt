@@ -3,12 +3,14 @@ use Prim.Native.Nat.{ℕ, zero, suc, _+_, _*_, _≤_, _<_}
 use mathlib.Core.Path.{_≡_, refl, sym, ap, _∙_}
 use mathlib.Core.Bool.{Bool, true, false, cond, true≢false}
 use mathlib.Core.List.{List, [], _∷_}
+use mathlib.Core.Logic.{_⊎_, inl, inr}
 use native.Mathlib.Omega.{arith}
 use lib.Dec.{eqb, ltb}
 use lib.ListN.{length, getD, take}
 use borrow.Author.Tests.{ltb-false}
 use Rattle.refusal.specs.declared.Refusal.the-variants.{MalformedExercise}
 use Rattle.exercise.specs.Reading.{knownTo, bad, nameField, startField, endField, editionField, valued, sized, judge, ended, begun, heldBy, lengthBy, unless, walk, saysFrom}
+use Rattle.exercise.specs.Laws.{known-most}
 use Rattle.exercise.specs.declared.Exercise.{Exercise}
 use Rattle.exercise.specs.declared.ExerciseRead.{ExerciseRead}
 use Rattle.exercise.specs.declared.ExerciseRead.the-variants as read
@@ -23,7 +25,7 @@ record Sound (newest all : ℕ) (h : Held) : Type 0 where
 
 abbrev SoundAfter : ℕ → ℕ → Judged → Type 0
 SoundAfter newest all (Next h n) = Sound newest all h
-SoundAfter newest all (Refused r) = 0 ≡ 0
+SoundAfter newest all (Refused r) = _≡_ {A = ℕ} 0 0
 
 sound-either : (t : Bool) (newest all : ℕ) (x y : Judged) → (t ≡ true → SoundAfter newest all x) → SoundAfter newest all y → SoundAfter newest all (cond t x y)
 sound-either true newest all x y p q = p refl
@@ -66,7 +68,7 @@ pub record ReadSound (newest all : ℕ) (x : Exercise) : Type 0 where
 
 abbrev SoundRead : ℕ → ℕ → ExerciseRead → Type 0
 SoundRead newest all (read.Read x) = ReadSound newest all x
-SoundRead newest all (read.Refused r) = 0 ≡ 0
+SoundRead newest all (read.Refused r) = _≡_ {A = ℕ} 0 0
 
 ended-sound : (newest all : ℕ) (h : Held) (at : ℕ) → Sound newest all h → SoundRead newest all (ended h at)
 unfolding ended
@@ -92,3 +94,11 @@ walk-sound newest all h at (suc k) (b ∷ l) s m = walk-sound newest all h (suc 
 pub read-sound : (newest : ℕ) (s : List ℕ) (x : Exercise) → saysFrom newest s ≡ read.Read x → ReadSound newest (length s) x
 unfolding saysFrom
 read-sound newest s x e = rw e at (walk-sound newest (length s) begun 0 0 s (record { name = omega arith; edition = no-edition newest 0 }) (omega arith))
+
+-- a reader of edition 2 knows 1 and 2, and no other
+pub known-two : (e : ℕ) → knownTo 2 e ≡ true → (eqb e 1 ≡ true) ⊎ (eqb e 2 ≡ true)
+unfolding knownTo
+known-two zero h = absurd (true≢false (sym h))
+known-two (suc zero) h = inl refl
+known-two (suc (suc zero)) h = inr refl
+known-two (suc (suc (suc e))) h = absurd (omega (arith, known-most 2 (suc (suc (suc e))) h))

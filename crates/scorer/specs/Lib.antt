@@ -1,2 +1,3 @@
 pub mod Scorer
 pub mod Laws
+pub mod Known

@@ -54,7 +54,7 @@ fn find_row(exercise: &[u8], x: Exercise, names: &[u8], table: &[u8], in_use: us
 }
 
 // What an exercise asks: 31 to 33, then 25 and 15.
-fn asked(exercise: &[u8], names: &[u8], table: &[u8], in_use: usize) -> Asked
+fn asked_row(exercise: &[u8], names: &[u8], table: &[u8], in_use: usize) -> Asked
     ensures { λ r. ⌜ r ≡ askedOf (now (exercise .entry)) (now (names .entry)) (numbersIn (now (table .entry))) «in_use» ⌝ }
 {
     match exercise::read_exercise(exercise) {
@@ -94,7 +94,7 @@ pub fn score_exercise(
     if any_over(exercise, typed, file, names) {
         return Scored::Refused(Refusal::TooLong);
     }
-    match asked(exercise, names, table, in_use) {
+    match asked_row(exercise, names, table, in_use) {
         Asked::Refused(f) => Scored::Refused(f),
         Asked::Row(x, row) => score_row(x, typed, file, table::bytes::row(table, in_use, row), room),
     }
