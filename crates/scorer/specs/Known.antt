@@ -3,8 +3,8 @@
 use Prim.Native.Nat.{ℕ, _+_, _-_, _≤_, _<_}
 use mathlib.Core.Path.{_≡_, refl, sym, ap, _∙_}
 use mathlib.Core.List.{List, _++_, map}
-use mathlib.Core.Bool.{Bool, true, false, cond}
-use mathlib.Core.Logic.{⊎-elim}
+use mathlib.Core.Bool.{Bool, true, false, cond, _||_, true≢false}
+use mathlib.Core.Logic.{_⊎_, inl, inr, ⊎-elim}
 use native.Mathlib.Omega.{arith}
 use lib.Dec.{eqb}
 use lib.ListN.{length, take, drop, length-map}
@@ -33,13 +33,14 @@ use Rattle.exercise.specs.declared.Exercise.{Exercise}
 use Rattle.exercise.specs.declared.ExerciseRead.{ExerciseRead}
 use Rattle.exercise.specs.declared.ExerciseRead.the-variants as read
 use Rattle.exercise.specs.Reading.{readAs}
+use Rattle.exercise.specs.Within.{read-sound, known-two}
 use Rattle.scoring.specs.declared.Score.{Score}
 use Rattle.scoring.specs.declared.Scored.{Scored}
 use Rattle.scoring.specs.declared.Scored.the-variants as scored
 use Rattle.scoring.specs.Rules.{same, lies, ruleFor}
 use Rattle.scoring.specs.Places.{scoreBy, keyScored}
-use Rattle.scorer.specs.declared.Asked.the-variants as asked
-use Rattle.scorer.specs.Scorer.{anyOver, nameAsked, askedRow, askedBy, askedOf, refusesScore, countedAs, keyCounted, first, last, rowScored, askedScored, scorerOf}
+use Rattle.scorer.specs.Scorer.{anyOver, nameAsked, refusesScore, countedAs, keyCounted, first, last, rowScored, scorerOf}
+use Rattle.scorer.specs.Laws.{says, asked-unread, asked-unfound, asked-found, scorer-long, scorer-refused, scorer-row}
 
 -- the rule of an edition, by its number
 abbrev pub ruleOf : ℕ → ℕ → ℕ → Bool
@@ -71,6 +72,27 @@ key-known key typed edition c q = go (overLimit (length typed)) (eqb edition 1) 
     go false false e true f q = same-score q
     go false false e false f q = absurd (no-refusal q)
 
+-- with nothing too long and a known edition there is a score
+key-scores : (key typed : List ℕ) (edition : ℕ) → overLimit (length typed) ≡ false → (eqb edition 1 ≡ true) ⊎ (eqb edition 2 ≡ true)
+    → (c : Score) × (keyScored key typed edition ≡ scored.Score c)
+unfolding keyScored
+key-scores key typed edition l (inl e) = (scoreBy same key typed, rw (l, e))
+key-scores key typed edition l (inr e) = go (eqb edition 1) refl
+  where
+    go : (t : Bool) → eqb edition 1 ≡ t → (c : Score) × (keyScored key typed edition ≡ scored.Score c)
+    go true f = (scoreBy same key typed, rw (l, f))
+    go false f = (scoreBy lies key typed, rw (l, f, e))
+
+-- what was typed is one of the inputs that are judged
+typed-small : (s typed file names : List ℕ) → anyOver s typed file names ≡ false → overLimit (length typed) ≡ false
+unfolding anyOver
+typed-small s typed file names h = go (overLimit (length s)) (overLimit (length typed)) h
+  where
+    go : (a b : Bool) → (a || (b || (overLimit (length file) || overLimit (length names)))) ≡ false → b ≡ false
+    go true b q = absurd (true≢false q)
+    go false true q = absurd (true≢false q)
+    go false false q = refl
+
 -- ---- of what a row holds
 
 -- the key is all that was asked, and stands at the front of the room
@@ -100,18 +122,103 @@ module _ (x : Exercise) (typed file : List ℕ) (h : Held) (room : List ℕ) whe
     refuses-it : (f : Refusal) → exactHeld file h (first x) (last x) room ≡ refuses f room → ReadEither
     gives-it : (key : List ℕ) → exactHeld file h (first x) (last x) room ≡ gives key room → x .start ≤ x .end → length key ≡ x .end - x .start + 1 → ReadEither
 
+  given : Reading (length file) h (first x) (last x) room → overLimit (length file) ≡ false → ReadEither
+  unfolding exactHeld startOf endOf
+  given r l =
+      let os = regionOffsets (r .row) (first x) (last x) in
+      let b = good-bounds (first x) (last x) (r .row .length) (r .readable .bounds) in
+      let n : length (map (byteAt file) os) ≡ x .end - x .start + 1 = length-map os (byteAt file) ∙ length-offsets (r .row) (x .start) (x .end - x .start + 1) in
+      gives-it (map (byteAt file) os) (rw (l, r .holds, n) (exact-reads (length file) (byteAt file) (r .row) (first x) (last x) room (r .readable))) (b .in-order (r .readable .start)) n
+
   pub read-either : ReadEither
   unfolding exactHeld
   read-either = go (overLimit (length file)) refl
     where
-      given : Reading (length file) h (first x) (last x) room → overLimit (length file) ≡ false → ReadEither
-      unfolding exactHeld startOf endOf
-      given r l =
-          let os = regionOffsets (r .row) (first x) (last x) in
-          let b = good-bounds (first x) (last x) (r .row .length) (r .readable .bounds) in
-          let n : length (map (byteAt file) os) ≡ x .end - x .start + 1 = length-map os (byteAt file) ∙ length-offsets (r .row) (x .start) (x .end - x .start + 1) in
-          gives-it (map (byteAt file) os) (rw (l, r .holds, n) (exact-reads (length file) (byteAt file) (r .row) (first x) (last x) room (r .readable))) (b .in-order (r .readable .start)) n
-
       go : (t : Bool) → overLimit (length file) ≡ t → ReadEither
       go true l = refuses-it TooLong (rw l)
       go false l = ⊎-elim (λ r. refuses-it (r .refusal) (rw l (r .always (byteAt file)))) (λ r. given r l) (exact-either (length file) h (first x) (last x) room)
+
+  pub row-known : (c : Score) (after : List ℕ) → rowScored x typed file h room ≡ leaves (scored.Score c) after → KeyKnown x typed file h room c after
+  row-known c after q = go read-either
+    where
+      go : ReadEither → KeyKnown x typed file h room c after
+      go (refuses-it f e) = absurd (no-score (sym (by-read _ e ∙ counted-refused f) ∙ q))
+      go (gives-it key e o n) =
+          let w = sym (by-read _ e ∙ counted-given key) ∙ q in
+          record {
+            key = key;
+            read = e;
+            in-order = o;
+            all = n;
+            left = sym (ap (λ (y : Outcome Scored). y .output) w);
+            counts = sym (key-known key typed (x .edition) c (ap (λ (y : Outcome Scored). y .answer) w));
+          }
+
+  -- a refusal leaves the room as it was: the read's, and so would that of what was typed, if it were longer than the limit
+  pub row-unchanged : overLimit (length typed) ≡ false → (eqb (x .edition) 1 ≡ true) ⊎ (eqb (x .edition) 2 ≡ true) → (f : Refusal) (after : List ℕ)
+      → rowScored x typed file h room ≡ leaves (scored.Refused f) after → after ≡ room
+  row-unchanged l known f after q = go read-either
+    where
+      go : ReadEither → after ≡ room
+      go (refuses-it g e) = sym (ap (λ (y : Outcome Scored). y .output) (sym (by-read _ e ∙ counted-refused g) ∙ q))
+      go (gives-it key e o n) =
+          let w = ap (λ (y : Outcome Scored). y .answer) (sym (by-read _ e ∙ counted-given key) ∙ q) in
+          let s = key-scores key typed (x .edition) l known in
+          absurd (no-refusal (sym w ∙ s .1))
+
+-- ---- of the call
+
+-- what is known of a score: the exercise reads, its name is found, and of the row that was found all of the key was read
+pub record Known (s typed file names t : List ℕ) (u : ℕ) (room : List ℕ) (c : Score) (after : List ℕ) : Type 0 where
+  pub small : anyOver s typed file names ≡ false
+  pub exercise : Exercise
+  pub reads : readAs 2 s ≡ read.Read exercise
+  pub row : ℕ
+  pub found : rowRead names t u (nameAsked s exercise) ≡ found.Row row
+  pub fetched : KeyKnown exercise typed file (heldAt t u row) room c after
+
+module _ (s typed file names t : List ℕ) (u : ℕ) (room : List ℕ) where
+  -- what the call comes to
+  pub data Either : Type 0 where
+    too-long : anyOver s typed file names ≡ true → scorerOf s typed file names t u room ≡ refusesScore TooLong room → Either
+    unread : (f : Refusal) → anyOver s typed file names ≡ false → readAs 2 s ≡ read.Refused f → scorerOf s typed file names t u room ≡ refusesScore f room → Either
+    unfound : (f : Refusal) (x : Exercise) → anyOver s typed file names ≡ false → readAs 2 s ≡ read.Read x → rowRead names t u (nameAsked s x) ≡ found.Refused f
+        → scorerOf s typed file names t u room ≡ refusesScore f room → Either
+    row-found : (x : Exercise) (r : ℕ) → anyOver s typed file names ≡ false → readAs 2 s ≡ read.Read x → rowRead names t u (nameAsked s x) ≡ found.Row r
+        → scorerOf s typed file names t u room ≡ rowScored x typed file (heldAt t u r) room → Either
+
+  pub either : Either
+  either = go (anyOver s typed file names) refl (readAs 2 s) refl
+    where
+      sought : (x : Exercise) → anyOver s typed file names ≡ false → readAs 2 s ≡ read.Read x → (d : Found) → rowRead names t u (nameAsked s x) ≡ d → Either
+      sought x l q (found.Refused f) e = unfound f x l q e (sym (scorer-refused s typed file names t u room l f (sym (asked-unfound s names t u x q f e))))
+      sought x l q (found.Row r) e = row-found x r l q e (sym (scorer-row s typed file names t u room l x r (sym (asked-found s names t u x q r e))))
+
+      go : (b : Bool) → anyOver s typed file names ≡ b → (e : ExerciseRead) → readAs 2 s ≡ e → Either
+      go true l e q = too-long l (sym (scorer-long s typed file names t u room l))
+      go false l (read.Refused f) q = unread f l q (sym (scorer-refused s typed file names t u room l f (sym (asked-unread s names t u f q))))
+      go false l (read.Read x) q = sought x l q (rowRead names t u (nameAsked s x)) refl
+
+  pub known : (c : Score) (after : List ℕ) → scorerOf s typed file names t u room ≡ leaves (scored.Score c) after → Known s typed file names t u room c after
+  known c after q = go either
+    where
+      go : Either → Known s typed file names t u room c after
+      go (too-long l e) = absurd (no-score (sym e ∙ q))
+      go (unread f l r e) = absurd (no-score (sym e ∙ q))
+      go (unfound f x l r d e) = absurd (no-score (sym e ∙ q))
+      go (row-found x r l p d e) =
+          record { small = l; exercise = x; reads = p; row = r; found = d; fetched = row-known x typed file (heldAt t u r) room c after (sym e ∙ q) }
+
+  -- a refusal leaves the room as it was
+  pub unchanged : (f : Refusal) (after : List ℕ) → scorerOf s typed file names t u room ≡ leaves (scored.Refused f) after → after ≡ room
+  unchanged f after q = go either
+    where
+      same-room : {g : Refusal} → scorerOf s typed file names t u room ≡ refusesScore g room → after ≡ room
+      same-room e = ap (λ (y : Outcome Scored). y .output) (sym q ∙ e)
+
+      go : Either → after ≡ room
+      go (too-long l e) = same-room e
+      go (unread g l r e) = same-room e
+      go (unfound g x l r d e) = same-room e
+      go (row-found x r l p d e) =
+          row-unchanged x typed file (heldAt t u r) room (typed-small s typed file names l) (known-two (x .edition) (read-sound 2 s x (says 2 s x p) .edition)) f after (sym e ∙ q)

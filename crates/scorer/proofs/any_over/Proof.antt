@@ -1,3 +1,7 @@
+-- `scorer::any_over` meets its contract: one input after the other.
+-- Assumes nothing.
+use mathlib.Core.Path.{sym, _∙_}
+use Rattle.scorer.specs.Scorer.{anyOver}
 use borrow.Author.Needs.{needs}
 use Rattle.scorer.proofs.any_over.Statement.{statement}
 use Rattle.scorer.proofs.any_over.Tie as tie
@@ -5,37 +9,40 @@ use Rattle.scorer.proofs.any_over.Reads as reads
 use Rattle.scorer.proofs.any_over.Lts as lts
 use Rattle.refusal.proofs.over_limit.Reads as over-limit-reads
 
--- src/lib.rt:34:8
 over-limit-requires : tie.Need-over-limit-requires
 over-limit-requires c κs = search needs
 
--- src/lib.rt:35:9
 returns : tie.Need-returns
-returns c = ?
+unfolding anyOver
+returns c = rw (sym (c .before .over-limit .ensures) ∙ c .if1 .taken)
 
--- src/lib.rt:37:8
 over-limit-requires-2 : tie.Need-over-limit-requires-2
 over-limit-requires-2 c κs = search needs
 
--- src/lib.rt:38:9
 returns-2 : tie.Need-returns-2
-returns-2 c = ?
+unfolding anyOver
+returns-2 c = let a = c .before .before in rw (sym (a .before .over-limit .ensures) ∙ a .if1 .left, sym (c .before .over-limit2 .ensures) ∙ c .if2 .taken)
 
--- src/lib.rt:40:8
 over-limit-requires-3 : tie.Need-over-limit-requires-3
 over-limit-requires-3 c κs = search needs
 
--- src/lib.rt:41:9
 returns-3 : tie.Need-returns-3
-returns-3 c = ?
+unfolding anyOver
+returns-3 c =
+    let b = c .before .before in
+    let a = b .before .before in
+    rw (sym (a .before .over-limit .ensures) ∙ a .if1 .left, sym (b .before .over-limit2 .ensures) ∙ b .if2 .left, sym (c .before .over-limit3 .ensures) ∙ c .if3 .taken)
 
--- src/lib.rt:43:5
 over-limit-requires-4 : tie.Need-over-limit-requires-4
 over-limit-requires-4 c κs = search needs
 
--- src/lib.rt:31:1
 returns-4 : tie.Need-returns-4
-returns-4 c = ?
+unfolding anyOver
+returns-4 c =
+    let d = c .before in
+    let b = d .before .before in
+    let a = b .before .before in
+    rw (sym (a .before .over-limit .ensures) ∙ a .if1 .left, sym (b .before .over-limit2 .ensures) ∙ b .if2 .left, sym (d .before .over-limit3 .ensures) ∙ d .if3 .left) (c .over-limit4 .ensures)
 
 pub any-over-spec : {M : Type 1} → statement M
 any-over-spec =

@@ -1,3 +1,8 @@
+-- `scorer::find_row` meets its contract: the name is the exercise's bytes from its start on.
+-- Assumes nothing.
+use Prim.Native.Nat.{_+_, _-_}
+use mathlib.Core.Path.{_≡_}
+use native.Mathlib.Omega.{arith}
 use borrow.Author.Needs.{needs}
 use Rattle.scorer.proofs.find_row.Statement.{statement}
 use Rattle.scorer.proofs.find_row.Tie as tie
@@ -5,29 +10,26 @@ use Rattle.scorer.proofs.find_row.Reads as reads
 use Rattle.scorer.proofs.find_row.Lts as lts
 use Rattle.index.proofs.bytes.find.Reads as find-reads
 
--- src/lib.rt:52:13
 add-e : tie.Need-add-e
 add-e c = search needs
 
--- src/lib.rt:53:46
 sub-find : tie.Need-sub-find
 sub-find c = search needs
 
--- src/lib.rt:53:46
 part-find-start : tie.Need-part-find-start
 part-find-start c = search needs
 
--- src/lib.rt:53:46
 part-find-end : tie.Need-part-find-end
 part-find-end c = search needs
 
--- src/lib.rt:53:5
 find-requires : tie.Need-find-requires
 find-requires c κs = search needs
 
--- src/lib.rt:47:1
 returns : tie.Need-returns
-returns c = ?
+returns c =
+    let x = c .before .before .before .before .before .before .args .x in
+    let q : x .«name_start» + x .«name_length» - x .«name_start» ≡ x .«name_length» = omega arith in
+    rw q at (c .find .ensures)
 
 pub find-row-spec : {M : Type 1} → statement M
 find-row-spec =

@@ -1,3 +1,8 @@
+-- `scorer::score_exercise` meets its contract: the size is judged first, then what is asked, and of a row `score_row` tells the score.
+-- Assumes nothing.
+use mathlib.Core.Path.{sym, _∙_}
+use Rattle.table.specs.Rows.{heldAt}
+use Rattle.scorer.specs.Laws.{scorer-long, scorer-refused, scorer-row}
 use borrow.Author.Needs.{needs}
 use Rattle.scorer.proofs.score_exercise.Statement.{statement}
 use Rattle.scorer.proofs.score_exercise.Tie as tie
@@ -8,45 +13,43 @@ use Rattle.scorer.proofs.asked_row.Reads as asked-row-reads
 use Rattle.scorer.proofs.score_row.Reads as score-row-reads
 use Rattle.table.proofs.bytes.row.Reads as row-reads
 
--- src/lib.rt:94:8
 any-over-requires : tie.Need-any-over-requires
 any-over-requires c κs = search needs
 
--- src/lib.rt:95:9
 returns : tie.Need-returns
-returns c = ?
+returns c = scorer-long _ _ _ _ _ _ _ (sym (c .before .any-over .ensures) ∙ c .if1 .taken)
 
--- src/lib.rt:97:11
 asked-row-requires : tie.Need-asked-row-requires
 asked-row-requires c κs = search needs
 
--- src/lib.rt:98:24
 enum-known-f : tie.Need-enum-known-f
 enum-known-f c = search needs
 
--- src/lib.rt:99:20
 enum-known-x : tie.Need-enum-known-x
 enum-known-x c = search needs
 
--- src/lib.rt:99:57
 row-requires : tie.Need-row-requires
 row-requires c κs = search needs
 
--- src/lib.rt:99:31
 score-row-requires : tie.Need-score-row-requires
 score-row-requires c κs = search needs
 
--- src/lib.rt:83:1
 returns-2 : tie.Need-returns-2
-returns-2 c = ?
+returns-2 c =
+    let k = c .before .before .before in
+    scorer-refused _ _ _ _ _ _ _ (sym (k .before .before .any-over .ensures) ∙ k .before .if1 .left) _ (sym (k .asked-row .ensures) ∙ c .before .f .given .1)
 
--- src/lib.rt:83:1
 same-length : tie.Need-same-length
 same-length c = search needs
 
--- src/lib.rt:83:1
 returns-3 : tie.Need-returns-3
-returns-3 c = ?
+unfolding heldAt
+returns-3 c =
+    let d = c .before .before .before .before in
+    let x = d .before .before in
+    let k = x .before .before in
+    rw (d .row .ensures) at (c .before .before .score-row .ensures)
+    ∙ scorer-row _ _ _ _ _ _ _ (sym (k .before .before .any-over .ensures) ∙ k .before .if1 .left) _ _ (sym (k .asked-row .ensures) ∙ x .x .given .1)
 
 pub score-exercise-spec : {M : Type 1} → statement M
 score-exercise-spec =

@@ -1,3 +1,6 @@
+-- `scorer::score_row` meets its contract: what is read is the key, and it lies in the room.
+-- Assumes nothing.
+use Rattle.scorer.specs.Laws.{key-within, key-size, row-refused, row-counted}
 use borrow.Author.Needs.{needs}
 use Rattle.scorer.proofs.score_row.Statement.{statement}
 use Rattle.scorer.proofs.score_row.Tie as tie
@@ -6,45 +9,37 @@ use Rattle.scorer.proofs.score_row.Lts as lts
 use Rattle.region.proofs.read_exact.Reads as read-exact-reads
 use Rattle.scoring.proofs.score_key.Reads as score-key-reads
 
--- src/lib.rt:75:9
 read-exact-requires : tie.Need-read-exact-requires
 read-exact-requires c κs = search needs
 
--- src/lib.rt:77:26
 enum-known-read : tie.Need-enum-known-read
 enum-known-read c = search needs
 
--- src/lib.rt:78:24
 enum-known-read-2 : tie.Need-enum-known-read-2
 enum-known-read-2 c = search needs
 
--- src/lib.rt:78:49
 slice-reshare-prefix-score-key : tie.Need-slice-reshare-prefix-score-key
-slice-reshare-prefix-score-key c = ?
+slice-reshare-prefix-score-key c = key-within _ _ _ _ _ _ _ _ (c .before .before .before .before .before .read-exact .ensures) (c .before .read2 .given .1)
 
--- src/lib.rt:78:49
 slice-aggregate-score-key : tie.Need-slice-aggregate-score-key
-slice-aggregate-score-key c = ?
+slice-aggregate-score-key c = key-size _ _ _ _ _ _ _ _ (c .before .before .before .before .before .before .read-exact .ensures) (c .before .before .read2 .given .1)
 
--- src/lib.rt:78:30
 score-key-requires : tie.Need-score-key-requires
 score-key-requires c κs = search needs
 
--- src/lib.rt:70:1
 same-length : tie.Need-same-length
 same-length c = search needs
 
--- src/lib.rt:70:1
 returns : tie.Need-returns
-returns c = ?
+returns c = row-refused _ _ _ _ _ _ _ (c .before .before .before .before .before .read-exact .ensures) _ (c .before .read .given .1)
 
--- src/lib.rt:70:1
 same-length-2 : tie.Need-same-length-2
 same-length-2 c = search needs
 
--- src/lib.rt:70:1
 returns-2 : tie.Need-returns-2
-returns-2 c = ?
+returns-2 c =
+    let k = c .before .before .before in
+    row-counted _ _ _ _ _ _ _ (k .before .before .before .before .read-exact .ensures) _ _ (k .read2 .given .1) (c .score-key .ensures)
 
 pub score-row-spec : {M : Type 1} → statement M
 score-row-spec =
