@@ -54,6 +54,9 @@ no-score q = let p = ap (λ (o : Outcome Scored). o .answer) q in let z : _≡_ 
 no-refusal : {f : Refusal} {c : Score} → scored.Refused f ≡ scored.Score c → ⊥
 no-refusal q = let z : _≡_ {A = ℕ} 0 1 = cc in omega arith
 
+same-refusal : {f g : Refusal} → scored.Refused f ≡ scored.Refused g → f ≡ g
+same-refusal q = cc
+
 same-score : {c d : Score} → scored.Score c ≡ scored.Score d → c ≡ d
 same-score q = cc
 
@@ -84,7 +87,7 @@ key-scores key typed edition l (inr e) = go (eqb edition 1) refl
     go false f = (scoreBy lies key typed, rw (l, f, e))
 
 -- what was typed is one of the inputs that are judged
-typed-small : (s typed file names : List ℕ) → anyOver s typed file names ≡ false → overLimit (length typed) ≡ false
+pub typed-small : (s typed file names : List ℕ) → anyOver s typed file names ≡ false → overLimit (length typed) ≡ false
 unfolding anyOver
 typed-small s typed file names h = go (overLimit (length s)) (overLimit (length typed)) h
   where
@@ -154,17 +157,25 @@ module _ (x : Exercise) (typed file : List ℕ) (h : Held) (room : List ℕ) whe
             counts = sym (key-known key typed (x .edition) c (ap (λ (y : Outcome Scored). y .answer) w));
           }
 
-  -- a refusal leaves the room as it was: the read's, and so would that of what was typed, if it were longer than the limit
-  pub row-unchanged : overLimit (length typed) ≡ false → (eqb (x .edition) 1 ≡ true) ⊎ (eqb (x .edition) 2 ≡ true) → (f : Refusal) (after : List ℕ)
-      → rowScored x typed file h room ≡ leaves (scored.Refused f) after → after ≡ room
-  row-unchanged l known f after q = go read-either
-    where
-      go : ReadEither → after ≡ room
-      go (refuses-it g e) = sym (ap (λ (y : Outcome Scored). y .output) (sym (by-read _ e ∙ counted-refused g) ∙ q))
-      go (gives-it key e o n) =
-          let w = ap (λ (y : Outcome Scored). y .answer) (sym (by-read _ e ∙ counted-given key) ∙ q) in
-          let s = key-scores key typed (x .edition) l known in
-          absurd (no-refusal (sym w ∙ s .1))
+  -- a read that refuses is the answer
+  pub refused-read : (f : Refusal) → exactHeld file h (first x) (last x) room ≡ refuses f room → rowScored x typed file h room ≡ refusesScore f room
+  refused-read f e = by-read _ e ∙ counted-refused f
+
+  -- and there is no other refusal, where what was typed is within the limit and the edition is known
+  module _ (l : overLimit (length typed) ≡ false) (known : (eqb (x .edition) 1 ≡ true) ⊎ (eqb (x .edition) 2 ≡ true)) (f : Refusal) (after : List ℕ)
+      (q : rowScored x typed file h room ≡ leaves (scored.Refused f) after) where
+    pub read-refused : exactHeld file h (first x) (last x) room ≡ refuses f room
+    read-refused = go read-either
+      where
+        go : ReadEither → exactHeld file h (first x) (last x) room ≡ refuses f room
+        go (refuses-it g e) = e ∙ ap (λ (r : Refusal). refuses r room) (same-refusal (ap (λ (y : Outcome Scored). y .answer) (sym (refused-read g e) ∙ q)))
+        go (gives-it key e o n) =
+            let w = ap (λ (y : Outcome Scored). y .answer) (sym (by-read _ e ∙ counted-given key) ∙ q) in
+            let s = key-scores key typed (x .edition) l known in
+            absurd (no-refusal (sym w ∙ s .1))
+
+    pub row-unchanged : after ≡ room
+    row-unchanged = ap (λ (y : Outcome Scored). y .output) (sym q ∙ refused-read f read-refused)
 
 -- ---- of the call
 

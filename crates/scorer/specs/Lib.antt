@@ -1,3 +1,5 @@
 pub mod Scorer
 pub mod Laws
 pub mod Known
+pub mod Refusals
+pub mod Theorems
