@@ -3,3 +3,4 @@ pub mod Laws
 pub mod Known
 pub mod Refusals
 pub mod Theorems
+pub mod Examples
