@@ -15,6 +15,8 @@ Examples:
   wakeluri primer GARNTYC ref.fa            where a primer matches, on both strands
   wakeluri wrap ref.fa -w 60 -o new.fa      the file in lines of 60 bases
   wakeluri list ref.fa                      its records, with their descriptions
+  wakeluri exercise chr1:101-200 -o drill   an exercise that asks for those bases
+  wakeluri score ref.fa drill typed.txt     how much of it is right, of all that was asked
 
 Status: 0 answered, 1 refused, 2 the command makes no sense, 3 a file can't be read or written.
 After a refusal the last line on standard error is for a program: refused 17 (length 6)";
@@ -97,6 +99,27 @@ Examples:
 A primer has 1 to 31 letters of ACGTU and MRWSYKVHDBN, the IUPAC codes; small ones too, and U is T. It is found where the bases of each
 letter of the file lie among those of its letter: N is found by N alone. A gap, or another byte, is in no match.
 A line has the record, the first and the last base counted from 1, the strand, and the bases as that strand has them. Places may overlap.";
+
+const EXERCISE_EXAMPLES: &str = "\
+Examples:
+  wakeluri exercise chr1:101-200 -o drill              asks for a hundred bases, by edition 1
+  wakeluri exercise chr1:101-200 --edition 2 -o drill  by edition 2, where N stands for any base
+  wakeluri exercise --show drill                       what it asks
+
+Both bounds are given, counted from 1, both ends included. Whether the record has so many bases is judged when an answer is scored.
+Edition 1: a letter is right if it is the key's, in either case. Edition 2: also if each base that it stands for is one of the key's letter.";
+
+const SCORE_EXAMPLES: &str = "\
+Examples:
+  wakeluri score ref.fa drill typed.txt            one answer
+  wakeluri score ref.fa drill < typed.txt          from standard input
+  wakeluri score ref.fa drill typed.txt --explain  key, typed and marks under each other
+  wakeluri score ref.fa drill anna.txt ben.txt     one line each, for a spreadsheet
+  wakeluri score ref.fa drill --answers class/     every file of a folder
+
+The score is of all that was asked, whatever was typed: 49 right, of fifty typed, of a hundred asked, is 49.0 %. What is typed past the end counts
+against it too. Where the file has not all of the bases that are asked, there is no score. Blanks and ends of lines are not typed bases.
+With an index (ref.fa.fai, or --index) it is first checked with the whole file; without one, one is made in memory.";
 
 fn file() -> Arg {
     Arg::new("file")
@@ -313,6 +336,80 @@ pub fn command() -> Command {
                         .help("say how many plain sequences the primer stands for; no file is read")
                         .conflicts_with_all(["file", "bed"]),
                 ),
+        )
+        .subcommand(
+            Command::new("exercise")
+                .about("Write an exercise that asks for some bases, or show what one asks")
+                .after_help(EXERCISE_EXAMPLES)
+                .arg(
+                    Arg::new("asked")
+                        .value_name("NAME:START-END")
+                        .help("what is asked; a name in braces, where it has a colon")
+                        .required_unless_present("show")
+                        .value_parser(value_parser!(OsString)),
+                )
+                .arg(
+                    Arg::new("output")
+                        .long("output")
+                        .short('o')
+                        .value_name("EXERCISE")
+                        .help("where to, if not to standard output")
+                        .value_parser(value_parser!(PathBuf))
+                        .value_hint(ValueHint::FilePath),
+                )
+                .arg(
+                    Arg::new("edition")
+                        .long("edition")
+                        .short('e')
+                        .value_name("EDITION")
+                        .help("the rule of what is right")
+                        .value_parser(PossibleValuesParser::new(["1", "2"]))
+                        .default_value("1"),
+                )
+                .arg(
+                    Arg::new("show")
+                        .long("show")
+                        .value_name("EXERCISE")
+                        .help("say what an exercise asks")
+                        .conflicts_with_all(["asked", "output"])
+                        .value_parser(value_parser!(PathBuf))
+                        .value_hint(ValueHint::FilePath),
+                ),
+        )
+        .subcommand(
+            Command::new("score")
+                .about("Score what was typed for an exercise, of all that was asked")
+                .after_help(SCORE_EXAMPLES)
+                .arg(file().required(true))
+                .arg(
+                    Arg::new("exercise")
+                        .value_name("EXERCISE")
+                        .help("the exercise, as `wakeluri exercise` writes it")
+                        .required(true)
+                        .value_parser(value_parser!(PathBuf))
+                        .value_hint(ValueHint::FilePath),
+                )
+                .arg(
+                    Arg::new("typed")
+                        .value_name("TYPED")
+                        .help("what was typed; - is standard input. Of several each has a line")
+                        .num_args(0..)
+                        .value_parser(value_parser!(PathBuf))
+                        .value_hint(ValueHint::FilePath),
+                )
+                .arg(
+                    Arg::new("answers")
+                        .long("answers")
+                        .short('a')
+                        .value_name("FOLDER")
+                        .help("every file of a folder, by its name, a line for each")
+                        .value_parser(value_parser!(PathBuf))
+                        .value_hint(ValueHint::DirPath),
+                )
+                .arg(flag("csv").help("lines for a spreadsheet, of one answer too"))
+                .arg(flag("explain").help("key, typed and marks under each other, ten to a block").conflicts_with("csv"))
+                .arg(index_option())
+                .arg(flag("unchecked").help("use the index as it is, without checking it with the file")),
         )
         .subcommand(Command::new("completions").hide(true).about("Write the completions of a shell").arg(
             Arg::new("shell").value_name("SHELL").required(true).value_parser(value_parser!(clap_complete::Shell)),

@@ -4,6 +4,7 @@
 mod advice;
 mod apart;
 mod arguments;
+mod course;
 mod failure;
 mod faults;
 mod input;
@@ -29,6 +30,7 @@ mod wrap;
 
 use apart::Outputs;
 use clap::ArgMatches;
+use course::{Drill, Typed};
 use failure::{Failure, Refused};
 use input::{How, Input, is_placeless, is_standard};
 use json::Object;
@@ -45,7 +47,7 @@ use std::os::unix::ffi::OsStrExt;
 use std::path::{Path, PathBuf};
 use std::process::ExitCode;
 use unusual::Unusual;
-use wakeluri::Table;
+use wakeluri::{Edition, Table};
 use warning::Warning;
 use work::Rule;
 use wrap::Wrapping;
@@ -91,6 +93,8 @@ fn main() -> ExitCode {
         Some(("list", words)) => list(words, common),
         Some(("wrap", words)) => wrap(words, common),
         Some(("primer", words)) => primer(words, common),
+        Some(("exercise", words)) => exercise(words, common),
+        Some(("score", words)) => score(words, common),
         Some(("completions", words)) => completions(words),
         _ => Err(Failure::Usage("there is no such command".to_string())),
     };
@@ -495,6 +499,101 @@ fn primer(words: &ArgMatches, common: Common) -> Result<(), Failure> {
     let asked = if asked.is_empty() { all_records(&rows) } else { asked };
     let source = Source { fasta: &fasta, rows: &rows, numbers: None };
     source.find(&source.regions(asked)?, &primer, form)
+}
+
+fn exercise(words: &ArgMatches, common: Common) -> Result<(), Failure> {
+    if let Some(shown) = path(words, "show") {
+        let input = common.open(shown, How::Read)?;
+        return write(course::shown(&input.shown, course::read(&input)?, common.json).as_bytes());
+    }
+    let asked = words.get_one::<OsString>("asked").map(|asked| asked.as_bytes()).unwrap_or_default();
+    let asked = course::Asked::of(asked)?;
+    let second = words.get_one::<String>("edition").is_some_and(|edition| edition == "2");
+    let edition = if second { Edition::Second } else { Edition::First };
+    let output = path(words, "output").map_or(Ok(Output::Standard), Output::of)?;
+    if common.json && output.is_standard() {
+        return Err(Failure::Usage(
+            "the exercise itself is written to standard output: --json needs --output EXERCISE".to_string(),
+        ));
+    }
+    output.free_for_exercise()?;
+    let bytes = asked.written(edition)?;
+    output.fill("exercise", &mut |to| to.write_all(&bytes))?;
+    let (Some(place), Ok(written)) = (output.path(), wakeluri::read_exercise(&bytes)) else { return Ok(()) };
+    report(course::shown(&input::shown(place), written, common.json).as_bytes())
+}
+
+/// What was typed: by those who are named, or all in a folder.
+fn all_typed(words: &ArgMatches, common: Common) -> Result<Vec<Typed>, Failure> {
+    let named: Vec<&Path> = words.get_many::<PathBuf>("typed").unwrap_or_default().map(PathBuf::as_path).collect();
+    let mut places: Vec<PathBuf> = named.into_iter().map(Path::to_path_buf).collect();
+    if let Some(folder) = path(words, "answers") {
+        places.extend(course::files_of(folder)?);
+    } else if places.is_empty() {
+        places.push(PathBuf::from("-"));
+    }
+    let read = |place: PathBuf| {
+        let name = if is_standard(&place) { None } else { place.file_name() };
+        let name = name.map_or_else(|| input::shown(&place), |name| place::quoted(name.as_bytes()));
+        Typed::of(name, &common.open(&place, How::Read)?)
+    };
+    places.into_iter().map(read).collect()
+}
+
+fn score(words: &ArgMatches, common: Common) -> Result<(), Failure> {
+    let file = path(words, "file").unwrap_or(Path::new("-"));
+    let exercise = path(words, "exercise").unwrap_or(Path::new("-"));
+    let named = words.get_many::<PathBuf>("typed").unwrap_or_default().count();
+    let is_folder = words.contains_id("answers");
+    let several = named > 1 || is_folder;
+    let of_standard_input = [file, exercise].into_iter().chain(path(words, "index-option"));
+    let typed = words.get_many::<PathBuf>("typed").unwrap_or_default().map(PathBuf::as_path);
+    let typed = typed.chain((named == 0 && !is_folder).then_some(Path::new("-")));
+    if of_standard_input.chain(typed).filter(|path| is_standard(path)).count() > 1 {
+        return Err(Failure::Usage(
+            "two of the file, its index, the exercise and what was typed can't come from standard input".to_string(),
+        ));
+    }
+    let explain = words.get_flag("explain");
+    if explain && several {
+        return Err(Failure::Usage("--explain is said of one answer".to_string()));
+    }
+    if common.json && words.get_flag("csv") {
+        return Err(Failure::Usage("--json and --csv are two forms: say which".to_string()));
+    }
+    let form = match (common.json, several || words.get_flag("csv")) {
+        (true, _) => course::Form::Json,
+        (false, true) => course::Form::Csv,
+        (false, false) => course::Form::Text,
+    };
+    let exercise = common.open(exercise, How::Read)?;
+    let asked = course::read(&exercise)?;
+    let typed = all_typed(words, common)?;
+    let fasta = common.open(file, common.how)?;
+    let index = match path(words, "index-option") {
+        Some(index) => Some(open_index(index, file, common)?),
+        None if is_placeless(file) || !index_of(file).exists() => None,
+        None => Some(open_index(&index_of(file), file, common)?),
+    };
+    let rows = match &index {
+        None => work::index(&fasta, Rule::Complete)?,
+        Some(index) if words.get_flag("unchecked") => {
+            warn_of_unchecked(index, &fasta);
+            work::read_index(&fasta, index)?
+        }
+        Some(index) => {
+            work::check(&fasta, index)?;
+            work::read_index(&fasta, index)?
+        }
+    };
+    let drill = Drill { fasta: &fasta, rows: &rows, exercise: &exercise, asked };
+    // all of them, or nothing
+    let mut answer = if form == course::Form::Csv { course::COLUMNS.to_string() } else { String::new() };
+    for typed in &typed {
+        answer += &drill.told(typed, form, explain)?;
+    }
+    fasta.unchanged()?;
+    write(answer.as_bytes())
 }
 
 fn completions(words: &ArgMatches) -> Result<(), Failure> {

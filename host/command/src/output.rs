@@ -115,6 +115,18 @@ impl Output {
         }
     }
 
+    /// Fails if something is there that is neither empty nor an exercise.
+    pub fn free_for_exercise(&self) -> Result<(), Failure> {
+        let Self::File(path) = self else { return Ok(()) };
+        match fs::read(path) {
+            Ok(bytes) if !bytes.is_empty() && wakeluri::read_exercise(&bytes).is_err() => {
+                let what = "file that is not an exercise, and the new one would take its place";
+                Err(no_place(path, what, "move it away first, or name another file"))
+            }
+            _ => Ok(()),
+        }
+    }
+
     /// Writes all of a file that is at hand.
     pub fn write(&self, text: &[u8]) -> Result<(), Failure> {
         self.fill("index", &mut |to| to.write_all(text))
