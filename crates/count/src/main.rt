@@ -1,9 +1,11 @@
 // count [WORK FILE ..]: does each work once on its file, so that the instructions it takes can be counted as the difference of two
 // runs (tools/dev instruction-goals). A work is `index`, by the ported rule, `fit`, by the complete one, `check`, with the index on standard
-// input, `reverse`, the reverse complement of the whole file, or `primer`, the first place of the primer on standard input. It writes a
-// line for each, as `index 1` or `fit 1`, the count of rows, `check 0`, `primer 3`, the place, or `nothing 0`, or `reverse 60`, the count
-// of bytes, and then those bytes: a buffer that nobody reads, the compiler would not write. Where it is refused, `refused 24 3 45`. A
-// file, or an index, has at most 65,536 bytes; what is behind them is not read.
+// input, `reverse`, the reverse complement of the whole file, `primer`, the first place of the primer on standard input, `score`, what
+// was typed on standard input against the whole file by edition 1, `edition`, by edition 2, or `drill`, the same against bases 1 to
+// 10,000 of the file's record s, asked for by an exercise; `twice` scores them once more. It writes a line for each, as `index 1` or
+// `fit 1`, the count of rows, `check 0`, `primer 3`, the place, or `nothing 0`, `score 490`, or `reverse 60`, the count of bytes, and then
+// those bytes: a buffer that nobody reads, the compiler would not write. Where it is refused, `refused 24 3 45`. A file, or what is on
+// standard input, has at most 65,536 bytes; what is behind them is not read.
 ghost use Prim.Native.Nat.{_≤_};
 use checker::Verdict;
 use fitting::Rule;
@@ -12,6 +14,7 @@ use libc::STDOUT_FILENO;
 use output::Written;
 use primer::Place;
 use refusal::Refusal;
+use scoring::Scored;
 use table::Stop;
 
 // Writes a space and a number.
@@ -99,6 +102,43 @@ fn find_input(text: &[u8]) {
     find(&primer[..n], text);
 }
 
+// Says a score.
+fn say_scored(scored: Scored) {
+    match scored {
+        Scored::Score(s) => say(b"score", s.score as usize),
+        Scored::Refused(why) => say_refused(why),
+    }
+}
+
+// Scores what was typed on standard input against a key.
+fn score_input(key: &[u8], edition: u64) {
+    let mut typed = io::large_buffer();
+    let n = io::read_full(STDIN_FILENO, &mut typed);
+    say_scored(scoring::score_typed(key, &typed[..n], edition));
+}
+
+// Scores what was typed for an exercise about the one record of a file.
+fn score_exercise(exercise: &[u8], typed: &[u8], file: &[u8], table: &[u8], room: &mut [u8]) {
+    say_scored(scorer::score_exercise(
+        exercise, typed, file, file, table, 1, room,
+    ));
+}
+
+// Scores what was typed on standard input for bases 1 to 10,000 of record s.
+fn drill(file: &[u8], twice: bool) {
+    let mut table = [0u8; 8 * table::WORDS];
+    fitting::bytes::index_file(file, &mut table, Rule::Strict);
+    let mut exercise = [0u8; 30];
+    exercise::write_exercise(b"s", 1, 10000, 1, &mut exercise);
+    let mut typed = io::large_buffer();
+    let n = io::read_full(STDIN_FILENO, &mut typed);
+    let mut room = io::large_buffer();
+    score_exercise(&exercise, &typed[..n], file, &table, &mut room);
+    if twice {
+        score_exercise(&exercise, &typed[..n], file, &table, &mut room);
+    }
+}
+
 // Does the work whose name has this first letter.
 fn work(letter: u8, file: &[u8]) {
     match letter {
@@ -107,6 +147,10 @@ fn work(letter: u8, file: &[u8]) {
         b'c' => check_input(file),
         b'r' => reverse(file),
         b'p' => find_input(file),
+        b's' => score_input(file, 1),
+        b'e' => score_input(file, 2),
+        b'd' => drill(file, false),
+        b't' => drill(file, true),
         _ => {}
     }
 }

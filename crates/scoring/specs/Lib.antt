@@ -4,4 +4,5 @@ pub mod Counting
 pub mod RuleLaws
 pub mod Laws
 pub mod Theorems
+pub mod Plain
 pub mod Examples

@@ -29,11 +29,11 @@ folded-letter b h k = rw (le-ltb b 97 h, le-ltb 122 b k)
 
 -- ---- upper and lower case stand for the same set
 
-abbrev holds : (ℕ → Bool) → ℕ → Bool
+abbrev pub holds : (ℕ → Bool) → ℕ → Bool
 holds f zero = true
 holds f (suc n) = cond (f n) (holds f n) false
 
-holds-at : (f : ℕ → Bool) (n : ℕ) → T (holds f n) → (p : ℕ) → p < n → T (f p)
+pub holds-at : (f : ℕ → Bool) (n : ℕ) → T (holds f n) → (p : ℕ) → p < n → T (f p)
 holds-at f zero t p h = absurd (omega arith)
 holds-at f (suc n) t p h = go (f n) refl t (eqb p n) refl (λ s k. holds-at f n s p k)
   where
@@ -103,6 +103,14 @@ lies-out k t z e = go (same k t) refl (lies k t) refl
     go : (a : Bool) → same k t ≡ a → (b : Bool) → lies k t ≡ b → a ≡ b
     go true p b q = sym (same-lies k t p) ∙ q
     go false p b q = sym (not-lies k t z e p) ∙ q
+
+-- a coded letter whose set is not inside the key's is wrong: the key's own letter has the same set
+pub lies-no : (k t : ℕ) → (setOf t ≡ 0 → ⊥) → (bitAnd (setOf t) (setOf k) ≡ setOf t → ⊥) → false ≡ lies k t
+lies-no k t z e = go (same k t) refl
+  where
+    go : (a : Bool) → same k t ≡ a → false ≡ lies k t
+    go true p = absurd (e (ap (bitAnd (setOf t)) (same-set k t p) ∙ and-self (setOf t)))
+    go false p = sym (not-lies k t z e p)
 
 -- a part all right in edition 1 is all right in either
 pub counted-right : (second : Bool) (key typed : List ℕ) (at n : ℕ) → Counted (agrees same key typed) at n n → Counted (agrees (ruleFor second) key typed) at n n

@@ -128,11 +128,11 @@ all-at f (x ∷ xs) t b h = go (f x) refl t (eqb b x) refl h (λ u v. all-at f x
 pairs-at : (f : ℕ → ℕ → Bool) (xs : List ℕ) → T (all (λ k. all (f k) xs) xs) → (k t : ℕ) → T (among k xs) → T (among t xs) → T (f k t)
 pairs-at f xs u k t x y = all-at (f k) xs (all-at (λ k. all (f k) xs) xs u k x) t y
 
-beq : Bool → Bool → Bool
+unfoldable pub beq : Bool → Bool → Bool
 beq true b = b
 beq false b = not b
 
-beq-same : (a b : Bool) → T (beq a b) → a ≡ b
+pub beq-same : (a b : Bool) → T (beq a b) → a ≡ b
 unfolding beq
 beq-same true true t = refl
 beq-same true false t = absurd t
@@ -155,7 +155,7 @@ editions-rise key typed =
 abbrev pub Plain : ℕ → Type 0
 Plain b = T (among b (65 ∷ 67 ∷ 71 ∷ 84 ∷ 97 ∷ 99 ∷ 103 ∷ 116 ∷ []))
 
-plain-both : (k t : ℕ) → Plain k → Plain t → same k t ≡ lies k t
+pub plain-both : (k t : ℕ) → Plain k → Plain t → same k t ≡ lies k t
 unfolding same lies coded folded setOf inside beq
 plain-both k t x y = beq-same (same k t) (lies k t) (pairs-at (λ k t. beq (same k t) (lies k t)) (65 ∷ 67 ∷ 71 ∷ 84 ∷ 97 ∷ 99 ∷ 103 ∷ 116 ∷ []) tt k t x y)
 

@@ -8,6 +8,7 @@ ghost use Rattle.letters.specs.Letters.{setOf};
 ghost use Rattle.letters.specs.Sets.{bit};
 ghost use Rattle.letters.specs.Table.{IsTable};
 ghost use Rattle.scoring.specs.Rules.{folded, same, lies, ruleFor};
+ghost use Rattle.scoring.specs.Plain.{isPlain, plainBoth};
 ghost use Rattle.scoring.specs.Places.{tenths, scoreBy, keyScored, scoredAs};
 ghost use Rattle.scoring.specs.Counting.{Counted, agrees};
 
@@ -60,7 +61,37 @@ fn lies_bit(codes: &[u8; 256], k: u8, t: u8) -> u8
     if set & codes[k as usize] == set {
         return 1;
     }
-    same_bit(k, t)
+    0
+}
+
+// Is a byte A, C, G or T, in either case, as a number. A letter in lower case has the bit 32, and in upper case not.
+fn plain_bit(b: u8) -> u8
+    ensures { λ r. ⌜ r ≡ bit (isPlain b) ⌝ }
+{
+    let small = b | 32;
+    if small == b'a' {
+        return 1;
+    }
+    if small == b'c' {
+        return 1;
+    }
+    if small == b'g' {
+        return 1;
+    }
+    if small == b't' {
+        return 1;
+    }
+    0
+}
+
+// Are two bytes so, as a number.
+fn plain_bits(k: u8, t: u8) -> u8
+    ensures { λ r. ⌜ r ≡ bit (plainBoth k t) ⌝ }
+{
+    if plain_bit(k) == 1 {
+        return plain_bit(t);
+    }
+    0
 }
 
 // How many of 32 places are right in edition 1.
@@ -73,6 +104,18 @@ fn same32(key: &[u8], typed: &[u8], at: usize) -> u8
         right = right + same_bit(key[at + j], typed[at + j]);
     }
     right
+}
+
+// At how many of 32 places both bytes are A, C, G or T. There the editions agree.
+fn plain32(key: &[u8], typed: &[u8], at: usize) -> u8
+    requires { ⌜ (at + 32 ≤ length (now key)) × (at + 32 ≤ length (now typed)) ⌝ }
+    ensures { λ r. ⌜ Counted (agrees plainBoth (now (key .entry)) (now (typed .entry))) at 32 r ⌝ }
+{
+    let mut plain: u8 = 0;
+    for j in 0..32 {
+        plain = plain + plain_bits(key[at + j], typed[at + j]);
+    }
+    plain
 }
 
 fn wide(b: u8) -> usize
@@ -105,7 +148,7 @@ fn right_bit(codes: &[u8; 256], k: u8, t: u8, second: bool) -> u8
     same_bit(k, t)
 }
 
-// How many of 32 places are right: what edition 1 takes, edition 2 takes too.
+// How many of 32 places are right: what edition 1 takes, edition 2 takes too, and of plain letters it takes no other.
 fn block(codes: &[u8; 256], key: &[u8], typed: &[u8], at: usize, second: bool) -> usize
     requires { ⌜ IsTable setOf (now codes) × (at + 32 ≤ length (now key)) × (at + 32 ≤ length (now typed)) ⌝ }
     ensures { λ r. ⌜ Counted (agrees (ruleFor second) (now (key .entry)) (now (typed .entry))) at 32 r ⌝ }
@@ -115,6 +158,9 @@ fn block(codes: &[u8; 256], key: &[u8], typed: &[u8], at: usize, second: bool) -
         return 32;
     }
     if second {
+        if plain32(key, typed, at) == 32 {
+            return wide(all);
+        }
         return run(codes, key, typed, at, 32, second);
     }
     wide(all)

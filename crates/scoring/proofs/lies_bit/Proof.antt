@@ -7,7 +7,7 @@ use lib.ListN.{getD}
 use Rattle.letters.specs.Sets.{bit}
 use Rattle.letters.specs.Letters.{setOf}
 use Rattle.letters.specs.Table.{entry}
-use Rattle.scoring.specs.RuleLaws.{lies-none, lies-in, lies-out}
+use Rattle.scoring.specs.RuleLaws.{lies-none, lies-in, lies-no}
 use borrow.Author.Needs.{needs}
 use Rattle.scoring.proofs.lies_bit.Statement.{statement}
 use Rattle.scoring.proofs.lies_bit.Tie as tie
@@ -36,11 +36,8 @@ element-copy-out-if2 c = search needs
 returns-2 : tie.Need-returns-2
 returns-2 c = let s = c .before .before .before .before in ap bit (lies-in _ _ (λ z. c .before .before .if1 .left (typed-set s ∙ z)) (rw (typed-set s, key-set s) at (c .if2 .taken)))
 
-same-bit-requires-2 : tie.Need-same-bit-requires-2
-same-bit-requires-2 c κs = search needs
-
 returns-3 : tie.Need-returns-3
-returns-3 c = let s = c .before .before .before .before .before in c .same-bit2 .ensures ∙ ap bit (lies-out _ _ (λ z. c .before .before .before .if1 .left (typed-set s ∙ z)) (λ z. c .before .if2 .left (rw (typed-set s, key-set s) z)))
+returns-3 c = let s = c .before .before .before .before in ap bit (lies-no _ _ (λ z. c .before .before .if1 .left (typed-set s ∙ z)) (λ z. c .if2 .left (rw (typed-set s, key-set s) z)))
 
 pub lies-bit-spec : {M : Type 1} → statement M
 lies-bit-spec =
@@ -51,5 +48,4 @@ lies-bit-spec =
     returns
     element-copy-out-if2
     returns-2
-    same-bit-requires-2
     returns-3)
