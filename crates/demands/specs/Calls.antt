@@ -16,13 +16,17 @@ use Rattle.fitting.specs.Rules.{rowsIn}
 use Rattle.region.specs.Exact.{exactRead}
 use Rattle.region.specs.Raw.{rawRead}
 use Rattle.checker.specs.Check.{checkOf}
+use Rattle.exercise.specs.Writing as exercise
+use Rattle.scorer.specs.Scorer.{scorerOf}
 use Rattle.table.specs.Numbers.{numbersIn}
 use Rattle.wakeluri.specs.declared.answer.Answer.{Answer}
 use Rattle.wakeluri.specs.declared.answer.DefinitionAnswer.{DefinitionAnswer}
 use Rattle.wakeluri.specs.declared.answer.RowAnswer.{RowAnswer}
+use Rattle.wakeluri.specs.declared.course.ScoreAnswer.{ScoreAnswer}
 use Rattle.wakeluri.specs.Answer.{boundOf, givenBy, verdictAnswer, foundAnswer, definitionAnswer, stepAnswer}
 use Rattle.output.specs.Outcome.{leaves}
 use Rattle.wakeluri.specs.Told.{filledTold, writtenTold, sequenceTold}
+use Rattle.wakeluri.specs.Course.{scoredTold}
 
 -- wakeluri_check(file, index) answers a
 abbrev pub Check : List ℕ → List ℕ → Answer → Type 0
@@ -69,3 +73,11 @@ IndexRecord file at a = a ≡ stepAnswer (recordRead file (record { at = at }))
 -- wakeluri_read_sequence(file, at, out)
 abbrev pub ReadSequence : List ℕ → ℕ → List ℕ → Answer → List ℕ → Type 0
 ReadSequence file at out a out′ = leaves a out′ ≡ sequenceTold (readWhole file (record { at = at }) out)
+
+-- wakeluri_write_exercise(name, start, end, edition, out)
+abbrev pub WriteExercise : List ℕ → ℕ → ℕ → ℕ → List ℕ → Answer → List ℕ → Type 0
+WriteExercise name start end edition out a out′ = leaves a out′ ≡ writtenTold (exercise.writtenAs 2 name start end edition out)
+
+-- wakeluri_score_exercise(exercise, typed, file, names, table, in_use, room)
+abbrev pub ScoreExercise : List ℕ → List ℕ → List ℕ → List ℕ → List ℕ → ℕ → List ℕ → ScoreAnswer → List ℕ → Type 0
+ScoreExercise exercise typed file names table in-use room a room′ = leaves a room′ ≡ scoredTold (scorerOf exercise typed file names (numbersIn table) in-use room)

@@ -11,3 +11,4 @@ pub mod LookUp
 pub mod BadDefinition
 pub mod WritingLaws
 pub mod Writing
+pub mod Scoring

@@ -1,16 +1,18 @@
-// Demand 3 at the entry points, looking up and reading as two calls (request K8), and a written record read back (K3). The theorems are in
-// specs/AtTheEdge.antt, LookUp.antt and Writing.antt, over the calls' promises as relations (specs/Calls.antt). Here each call is made, and has
-// its relation for a contract: so the theorems are about the calls themselves.
+// Demand 3 at the entry points, looking up and reading as two calls (request K8), a written record read back (K3), and a written exercise
+// scored (K5). The theorems are in specs/AtTheEdge.antt, LookUp.antt, Writing.antt and Scoring.antt, over the calls' promises as relations
+// (specs/Calls.antt). Here each call is made, and has its relation for a contract: so the theorems are about the calls themselves.
 use wakeluri::answer::Answer;
 use wakeluri::answer::DefinitionAnswer;
 use wakeluri::answer::RowAnswer;
+use wakeluri::course;
+use wakeluri::course::ScoreAnswer;
 use wakeluri::files;
 use wakeluri::rows;
 use wakeluri::scan;
 use wakeluri::text;
 use wakeluri::writing;
 ghost use Rattle.fitting.specs.declared.Rule.the-variants.{Strict, Complete};
-ghost use Rattle.demands.specs.Calls.{Check, ReadIndex, IndexFile, WriteIndexLine, Find, ReadExact, ReadRaw, WriteRecord, DefinitionLine, IndexRecord, ReadSequence};
+ghost use Rattle.demands.specs.Calls.{Check, ReadIndex, IndexFile, WriteIndexLine, Find, ReadExact, ReadRaw, WriteRecord, DefinitionLine, IndexRecord, ReadSequence, WriteExercise, ScoreExercise};
 
 fn check(file: &[u8], index: &[u8]) -> Answer
     ensures { λ a. ⌜ Check (now (file .entry)) (now (index .entry)) a ⌝ }
@@ -129,4 +131,24 @@ fn read_sequence(file: &[u8], at: u64, out: &mut [u8]) -> Answer
     ensures { λ a. ⌜ ReadSequence (now (file .entry)) at (now (out .entry)) a (now (out .exit)) ⌝ }
 {
     scan::wakeluri_read_sequence(file, at, out)
+}
+
+fn write_exercise(name: &[u8], start: u64, end: u64, edition: u64, out: &mut [u8]) -> Answer
+    ensures { λ a. ⌜ WriteExercise (now (name .entry)) start end edition (now (out .entry)) a (now (out .exit)) ⌝ }
+{
+    course::wakeluri_write_exercise(name, start, end, edition, out)
+}
+
+fn score_exercise(
+    exercise: &[u8],
+    typed: &[u8],
+    file: &[u8],
+    names: &[u8],
+    table: &[u8],
+    in_use: u64,
+    room: &mut [u8],
+) -> ScoreAnswer
+    ensures { λ a. ⌜ ScoreExercise (now (exercise .entry)) (now (typed .entry)) (now (file .entry)) (now (names .entry)) (now (table .entry)) «in_use» (now (room .entry)) a (now (room .exit)) ⌝ }
+{
+    course::wakeluri_score_exercise(exercise, typed, file, names, table, in_use, room)
 }

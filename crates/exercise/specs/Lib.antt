@@ -4,4 +4,5 @@ pub mod Writing
 pub mod Laws
 pub mod Within
 pub mod Fields
+pub mod Calls
 pub mod Examples

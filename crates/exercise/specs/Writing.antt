@@ -44,7 +44,7 @@ writtenAs newest name start end edition out =
 
 -- by how much room there is
 module _ (name : List ℕ) (start end edition : ℕ) (out : List ℕ) where
-  text-length : length (textOf name start end edition) ≡ length name + 29
+  pub text-length : length (textOf name start end edition) ≡ length name + 29
   unfolding textOf
   text-length = simp (length-append, length-bigBytes) (omega arith)
 
