@@ -1,92 +1,105 @@
--- Plain letters, at which the two editions agree.
+-- Where edition 2 is told by edition 1 and by N alone.
 use Prim.Native.Nat.{ℕ, zero, suc, _+_, _≤_, _<_}
 use mathlib.Core.Path.{_≡_, refl, sym, ap, _∙_}
-use mathlib.Core.Bool.{Bool, true, false, cond, true≢false}
+use mathlib.Core.Bool.{Bool, true, false, cond, _&&_, _||_, true≢false}
 use mathlib.Core.List.{List, [], _∷_}
 use native.Mathlib.Omega.{arith}
 use native.Mathlib.Nat.{add-zero, add-suc}
-use lib.Dec.{T, eqb}
+use lib.Dec.{T, eqb, eqb→eq}
 use lib.ListN.{getD}
 use lib.Bits.{bitOr}
-use Rattle.letters.specs.Sets.{bit, bit-lt}
-use Rattle.scoring.specs.Rules.{same, lies, ruleFor}
+use mir.Val.{boolByte}
+use Rattle.letters.specs.Letters.{setOf}
+use Rattle.letters.specs.Sets.{bit, bit-lt, inside}
+use Rattle.scoring.specs.Rules.{folded, same, coded, lies}
 use Rattle.scoring.specs.RuleLaws.{holds, holds-at}
 use Rattle.scoring.specs.Places.{countBelow}
-use Rattle.scoring.specs.Counting.{Counted, agrees, count-none, count-more, counted-none}
-use Rattle.scoring.specs.Theorems.{among, beq, beq-same, plain-both}
+use Rattle.scoring.specs.Counting.{Counted, agrees}
+use Rattle.scoring.specs.Theorems.{among, all, all-at, beq, beq-same}
 
--- A, C, G or T, in either case
+abbrev plain : List ℕ
+plain = 65 ∷ 67 ∷ 71 ∷ 84 ∷ 97 ∷ 99 ∷ 103 ∷ 116 ∷ []
+
+-- A, C, G or T, in either case; N, in either case
 unfoldable pub isPlain : ℕ → Bool
 isPlain b = among b (65 ∷ 67 ∷ 71 ∷ 84 ∷ 97 ∷ 99 ∷ 103 ∷ 116 ∷ [])
 
-unfoldable pub plainBoth : ℕ → ℕ → Bool
-plainBoth k t = cond (isPlain k) (isPlain t) false
+unfoldable pub isAny : ℕ → Bool
+isAny b = among b (78 ∷ 110 ∷ [])
 
--- by the letter in lower case
-abbrev pub small : ℕ → Bool
-small b = cond (eqb (bitOr b 32) 97) true (cond (eqb (bitOr b 32) 99) true (cond (eqb (bitOr b 32) 103) true (cond (eqb (bitOr b 32) 116) true false)))
+-- a plain letter was typed for a plain one or for N
+unfoldable pub sure : ℕ → ℕ → Bool
+sure k t = isPlain t && (isPlain k || isAny k)
 
-plain-test : ℕ → Bool
-plain-test b = beq (isPlain b) (small b)
+-- the key has N at a place
+unfoldable pub anyAt : List ℕ → ℕ → Bool
+anyAt key p = isAny (getD key p 0)
 
-pub plain-small : (b : ℕ) → b < 256 → isPlain b ≡ small b
-unfolding isPlain beq plain-test
-plain-small b h = beq-same (isPlain b) (small b) (holds-at plain-test 256 tt b h)
+-- ---- by bits
 
--- by the first of two bytes
-pub both-first : (k t : ℕ) → bit (isPlain k) ≡ 1 → plainBoth k t ≡ isPlain t
-unfolding plainBoth
-both-first k t h = go (isPlain k) h
+plain-bits : ℕ → Bool
+plain-bits b = beq ((eqb (bitOr (bitOr b 32) 4) 103 || eqb (bitOr b 32) 97) || eqb (bitOr b 32) 116) (isPlain b)
+
+pub plain-test : (b : ℕ) → b < 256 → ((eqb (bitOr (bitOr b 32) 4) 103 || eqb (bitOr b 32) 97) || eqb (bitOr b 32) 116) ≡ isPlain b
+unfolding isPlain beq plain-bits
+plain-test b h = beq-same _ (isPlain b) (holds-at plain-bits 256 tt b h)
+
+any-bits : ℕ → Bool
+any-bits b = beq (eqb (bitOr b 32) 110) (isAny b)
+
+pub any-test : (b : ℕ) → b < 256 → eqb (bitOr b 32) 110 ≡ isAny b
+unfolding isAny beq any-bits
+any-test b h = beq-same _ (isAny b) (holds-at any-bits 256 tt b h)
+
+pub byte-bit : (b : Bool) → boolByte b ≡ bit b
+byte-bit true = refl
+byte-bit false = refl
+
+-- ---- what edition 2 takes there
+
+-- one of two kinds of key, and a plain letter: computed
+told : ℕ → ℕ → Bool
+told k t = eqb (bit (lies k t)) (bit (same k t) + bit (isAny k))
+
+pub sure-told : (k t : ℕ) → sure k t ≡ true → bit (lies k t) ≡ bit (same k t) + bit (isAny k)
+unfolding sure isPlain isAny told same lies coded folded setOf inside
+sure-told k t h = eqb→eq _ _ (go (isPlain t) refl (isPlain k) refl (isAny k) refl h)
   where
-    go : (a : Bool) → bit a ≡ 1 → cond a (isPlain t) false ≡ isPlain t
-    go true e = refl
-    go false e = absurd (omega arith)
+    go : (a : Bool) → isPlain t ≡ a → (b : Bool) → isPlain k ≡ b → (c : Bool) → isAny k ≡ c → (a && (b || c)) ≡ true → T (told k t)
+    go true p true q c r e = all-at (told k) plain (all-at (λ k. all (told k) plain) plain tt k (rw q tt)) t (rw p tt)
+    go true p false q true r e = all-at (told k) plain (all-at (λ k. all (told k) plain) (78 ∷ 110 ∷ []) tt k (rw r tt)) t (rw p tt)
+    go true p false q false r e = absurd (true≢false (sym e))
+    go false p b q c r e = absurd (true≢false (sym e))
 
-pub none-first : (k t : ℕ) → (bit (isPlain k) ≡ 1 → ⊥) → plainBoth k t ≡ false
-unfolding plainBoth
-none-first k t h = go (isPlain k) h
-  where
-    go : (a : Bool) → (bit a ≡ 1 → ⊥) → cond a (isPlain t) false ≡ false
-    go true e = absurd (e refl)
-    go false e = refl
-
-pub both-agree : (k t : ℕ) → plainBoth k t ≡ true → same k t ≡ lies k t
-unfolding plainBoth isPlain
-both-agree k t h = go (isPlain k) refl (isPlain t) refl h
-  where
-    go : (a : Bool) → isPlain k ≡ a → (b : Bool) → isPlain t ≡ b → cond a b false ≡ true → same k t ≡ lies k t
-    go true p true q e = plain-both k t (rw p tt) (rw q tt)
-    go true p false q e = absurd (true≢false (sym e))
-    go false p b q e = absurd (true≢false (sym e))
-
--- ---- where all places pass a test, two tests that agree there count alike
+-- ---- where all places pass a test, what is a sum at each of them is a sum of all
 
 count-rise : (f : ℕ → Bool) (a d : ℕ) → countBelow f (a + d) ≤ countBelow f a + d
 unfolding countBelow
 count-rise f a zero = rw (add-zero a) (omega arith)
 count-rise f a (suc d) = rw (add-suc a d) (omega (arith, count-rise f a d, bit-lt (f (a + d))))
 
-alike : (f g h : ℕ → Bool) (at n : ℕ) → ((p : ℕ) → h p ≡ true → f p ≡ g p) → countBelow h at + n ≡ countBelow h (at + n)
-    → countBelow f (at + n) + countBelow g at ≡ countBelow g (at + n) + countBelow f at
+sums : (f m g h : ℕ → Bool) (at n : ℕ) → ((p : ℕ) → h p ≡ true → bit (g p) ≡ bit (f p) + bit (m p)) → countBelow h at + n ≡ countBelow h (at + n)
+    → countBelow g (at + n) + countBelow f at + countBelow m at ≡ countBelow g at + countBelow f (at + n) + countBelow m (at + n)
 unfolding countBelow
-alike f g h at zero e c = rw (add-zero at) (omega arith)
-alike f g h at (suc n) e c = rw (add-suc at n) (go (h (at + n)) refl (λ w. alike f g h at n e w))
+sums f m g h at zero e c = rw (add-zero at) (omega arith)
+sums f m g h at (suc n) e c = rw (add-suc at n) (go (h (at + n)) refl (λ w. sums f m g h at n e w))
   where
     here : countBelow h at + suc n ≡ countBelow h (at + n) + bit (h (at + n))
     here = rw (add-suc at n) at c
 
-    go : (t : Bool) → h (at + n) ≡ t → (countBelow h at + n ≡ countBelow h (at + n) → countBelow f (at + n) + countBelow g at ≡ countBelow g (at + n) + countBelow f at)
-        → countBelow f (at + n) + bit (f (at + n)) + countBelow g at ≡ countBelow g (at + n) + bit (g (at + n)) + countBelow f at
+    go : (t : Bool) → h (at + n) ≡ t
+        → (countBelow h at + n ≡ countBelow h (at + n) → countBelow g (at + n) + countBelow f at + countBelow m at ≡ countBelow g at + countBelow f (at + n) + countBelow m (at + n))
+        → countBelow g (at + n) + bit (g (at + n)) + countBelow f at + countBelow m at ≡ countBelow g at + (countBelow f (at + n) + bit (f (at + n))) + (countBelow m (at + n) + bit (m (at + n)))
     go true p more =
-        let m : countBelow h at + n ≡ countBelow h (at + n) = omega (arith, count-rise h at n, here, ap bit p) in
-        rw (e (at + n) p) (omega (arith, more m))
+        let w : countBelow h at + n ≡ countBelow h (at + n) = omega (arith, count-rise h at n, here, ap bit p) in
+        omega (arith, more w, e (at + n) p)
     go false p more = absurd (omega (arith, count-rise h at n, here, ap bit p))
 
--- a part whose letters are all plain has as many right places by either edition
-pub counted-plain : (key typed : List ℕ) (at n r : ℕ) → Counted (agrees plainBoth key typed) at n n → Counted (agrees same key typed) at n r → Counted (agrees lies key typed) at n r
-unfolding agrees
-counted-plain key typed at n r h c =
-    record {
-      counts = omega (arith, c .counts, alike (agrees same key typed) (agrees lies key typed) (agrees plainBoth key typed) at n (λ p e. both-agree (getD key p 0) (getD typed p 0) e) (h .counts));
-      most = c .most;
-    }
+-- a part that is sure all along: right by edition 2 is what is right by edition 1, and the places of N
+pub counted-sure : (key typed : List ℕ) (at n r s : ℕ) → Counted (agrees sure key typed) at n n → Counted (agrees same key typed) at n r → Counted (anyAt key) at n s
+    → Counted (agrees lies key typed) at n (r + s)
+unfolding agrees anyAt
+counted-sure key typed at n r s h c d =
+    let w = sums (agrees same key typed) (anyAt key) (agrees lies key typed) (agrees sure key typed) at n (λ p e. sure-told (getD key p 0) (getD typed p 0) e) (h .counts) in
+    let q : countBelow (agrees lies key typed) at + (r + s) ≡ countBelow (agrees lies key typed) (at + n) = omega (arith, w, c .counts, d .counts) in
+    record { counts = q; most = omega (arith, q, count-rise (agrees lies key typed) at n) }

@@ -112,11 +112,11 @@ abbrev pub among : ℕ → List ℕ → Bool
 among b [] = false
 among b (x ∷ xs) = cond (eqb b x) true (among b xs)
 
-abbrev all : (ℕ → Bool) → List ℕ → Bool
+abbrev pub all : (ℕ → Bool) → List ℕ → Bool
 all f [] = true
 all f (x ∷ xs) = cond (f x) (all f xs) false
 
-all-at : (f : ℕ → Bool) (xs : List ℕ) → T (all f xs) → (b : ℕ) → T (among b xs) → T (f b)
+pub all-at : (f : ℕ → Bool) (xs : List ℕ) → T (all f xs) → (b : ℕ) → T (among b xs) → T (f b)
 all-at f [] t b h = absurd h
 all-at f (x ∷ xs) t b h = go (f x) refl t (eqb b x) refl h (λ u v. all-at f xs u b v)
   where

@@ -8,7 +8,7 @@ ghost use Rattle.letters.specs.Letters.{setOf};
 ghost use Rattle.letters.specs.Sets.{bit};
 ghost use Rattle.letters.specs.Table.{IsTable};
 ghost use Rattle.scoring.specs.Rules.{folded, same, lies, ruleFor};
-ghost use Rattle.scoring.specs.Plain.{isPlain, plainBoth};
+ghost use Rattle.scoring.specs.Plain.{isPlain, isAny, sure, anyAt};
 ghost use Rattle.scoring.specs.Places.{tenths, scoreBy, keyScored, scoredAs};
 ghost use Rattle.scoring.specs.Counting.{Counted, agrees};
 
@@ -64,34 +64,32 @@ fn lies_bit(codes: &[u8; 256], k: u8, t: u8) -> u8
     0
 }
 
-// Is a byte A, C, G or T, in either case, as a number. A letter in lower case has the bit 32, and in upper case not.
-fn plain_bit(b: u8) -> u8
-    ensures { λ r. ⌜ r ≡ bit (isPlain b) ⌝ }
+// Is a byte A, C, G or T, in either case. A letter in lower case has the bit 32; C and G differ in the bit 4.
+fn is_plain(b: u8) -> bool
+    ensures { λ r. ⌜ r ≡ isPlain b ⌝ }
 {
-    let small = b | 32;
-    if small == b'a' {
-        return 1;
-    }
-    if small == b'c' {
-        return 1;
-    }
-    if small == b'g' {
-        return 1;
-    }
-    if small == b't' {
-        return 1;
-    }
-    0
+    let low = b | 32;
+    (low | 4 == b'g') | (low == b'a') | (low == b't')
 }
 
-// Are two bytes so, as a number.
-fn plain_bits(k: u8, t: u8) -> u8
-    ensures { λ r. ⌜ r ≡ bit (plainBoth k t) ⌝ }
+// Is a byte N, in either case: any base.
+fn is_any(b: u8) -> bool
+    ensures { λ r. ⌜ r ≡ isAny b ⌝ }
 {
-    if plain_bit(k) == 1 {
-        return plain_bit(t);
-    }
-    0
+    b | 32 == b'n'
+}
+
+fn any_bit(k: u8) -> u8
+    ensures { λ r. ⌜ r ≡ bit (isAny k) ⌝ }
+{
+    is_any(k) as u8
+}
+
+// Is edition 2 told by edition 1 and by N alone, as a number: a plain letter was typed for a plain one or for N.
+fn sure_bit(k: u8, t: u8) -> u8
+    ensures { λ r. ⌜ r ≡ bit (sure k t) ⌝ }
+{
+    (is_plain(t) & (is_plain(k) | is_any(k))) as u8
 }
 
 // How many of 32 places are right in edition 1.
@@ -106,16 +104,28 @@ fn same32(key: &[u8], typed: &[u8], at: usize) -> u8
     right
 }
 
-// At how many of 32 places both bytes are A, C, G or T. There the editions agree.
-fn plain32(key: &[u8], typed: &[u8], at: usize) -> u8
+// At how many of 32 places edition 2 is told so.
+fn sure32(key: &[u8], typed: &[u8], at: usize) -> u8
     requires { ⌜ (at + 32 ≤ length (now key)) × (at + 32 ≤ length (now typed)) ⌝ }
-    ensures { λ r. ⌜ Counted (agrees plainBoth (now (key .entry)) (now (typed .entry))) at 32 r ⌝ }
+    ensures { λ r. ⌜ Counted (agrees sure (now (key .entry)) (now (typed .entry))) at 32 r ⌝ }
 {
-    let mut plain: u8 = 0;
+    let mut right: u8 = 0;
     for j in 0..32 {
-        plain = plain + plain_bits(key[at + j], typed[at + j]);
+        right = right + sure_bit(key[at + j], typed[at + j]);
     }
-    plain
+    right
+}
+
+// At how many of 32 places the key has N.
+fn any32(key: &[u8], at: usize) -> u8
+    requires { ⌜ at + 32 ≤ length (now key) ⌝ }
+    ensures { λ r. ⌜ Counted (anyAt (now (key .entry))) at 32 r ⌝ }
+{
+    let mut right: u8 = 0;
+    for j in 0..32 {
+        right = right + any_bit(key[at + j]);
+    }
+    right
 }
 
 fn wide(b: u8) -> usize
@@ -148,7 +158,7 @@ fn right_bit(codes: &[u8; 256], k: u8, t: u8, second: bool) -> u8
     same_bit(k, t)
 }
 
-// How many of 32 places are right: what edition 1 takes, edition 2 takes too, and of plain letters it takes no other.
+// How many of 32 places are right: what edition 1 takes, edition 2 takes too; for a plain letter no other, and for N any plain one.
 fn block(codes: &[u8; 256], key: &[u8], typed: &[u8], at: usize, second: bool) -> usize
     requires { ⌜ IsTable setOf (now codes) × (at + 32 ≤ length (now key)) × (at + 32 ≤ length (now typed)) ⌝ }
     ensures { λ r. ⌜ Counted (agrees (ruleFor second) (now (key .entry)) (now (typed .entry))) at 32 r ⌝ }
@@ -158,8 +168,8 @@ fn block(codes: &[u8; 256], key: &[u8], typed: &[u8], at: usize, second: bool) -
         return 32;
     }
     if second {
-        if plain32(key, typed, at) == 32 {
-            return wide(all);
+        if sure32(key, typed, at) == 32 {
+            return wide(all) + wide(any32(key, at));
         }
         return run(codes, key, typed, at, 32, second);
     }

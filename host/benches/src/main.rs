@@ -15,7 +15,8 @@ mod report;
 use files::{Lines, Numbers, one_line, room};
 use measure::{Work, in_turns, limits};
 use original::{Region, Sequence, over_c, over_crate};
-use report::{Checked, Compared, Grown, HandedOut, LookedUp, Mapped, Report};
+use report::{Checked, Compared, Grown, HandedOut, LookedUp, Mapped, Report, Scored};
+use wakeluri::Edition;
 use wakeluri::entry::ROW_BYTES;
 
 /// So many bytes lie in the processor's own cache; 64 times as many come from the memory.
@@ -331,6 +332,47 @@ fn index_text(plan: &Plan, report: &mut Report, fasta: &[u8]) {
     }
 }
 
+/// Times a class: a hundred answers of a thousand bases to one exercise, by either edition, beside a plain comparison.
+fn scores(plan: &Plan, report: &mut Report, fasta: &[u8]) {
+    const ANSWERS: usize = 100;
+    const BASES: u64 = 1000;
+    let table = wakeluri::index(fasta).expect("a good file");
+    let record = table.records().next().expect("a record");
+    let key = table.read_exact(fasta, table.find(record.name).expect("its row"), 101..=100 + BASES).expect("its bases");
+    let mut numbers = Numbers::new(6);
+    let typed: Vec<Vec<u8>> = (0..ANSWERS)
+        .map(|_| {
+            let mut typed = key.clone();
+            // one base in fifty is typed anew
+            typed.iter_mut().filter(|_| numbers.below(50) == 0).for_each(|base| *base = b'A');
+            typed
+        })
+        .collect();
+    let mut exercises = [Edition::First, Edition::Second].map(|edition| {
+        let exercise = wakeluri::write_exercise(record.name, 101, 100 + BASES, edition).expect("an exercise");
+        (edition, exercise, room(BASES as usize))
+    });
+    for (edition, exercise, room) in &mut exercises {
+        let right = |typed: &[u8]| key.iter().zip(typed).filter(|(key, typed)| key == typed).count() as u64;
+        let scored = ours::score(&table, fasta, exercise, &typed, room);
+        assert_eq!(scored, typed.iter().map(|typed| right(typed)).sum::<u64>(), "{edition}: of plain letters");
+    }
+    let [(_, first, one), (_, second, two)] = &mut exercises;
+    let taken = in_turns(
+        plan.rounds(),
+        &mut [
+            Box::new(|| ours::score(&table, fasta, first, &typed, one)),
+            Box::new(|| ours::score(&table, fasta, second, &typed, two)),
+            Box::new(|| ours::compared(&key, &typed)),
+        ],
+    );
+    let [first, second, plain] = taken[..] else { unreachable!("three works") };
+    for (edition, ours) in [(Edition::First, first), (Edition::Second, second)] {
+        let work = format!("by {edition}, one base in fifty typed anew");
+        report.scored.push(Scored { work, answers: ANSWERS, bases: BASES as usize, ours, plain });
+    }
+}
+
 /// Times the indexing, to a lent table, and the checking of longer and longer files.
 fn growth(plan: &Plan, report: &mut Report) {
     let megabytes = if plan.quick { &[1, 10, 100][..] } else { &[1, 10, 100, 1000] };
@@ -423,6 +465,9 @@ fn run(plan: &Plan) -> Report {
     if part("text") {
         index_text(plan, &mut report, &records);
     }
+    if part("scores") {
+        scores(plan, &mut report, &lf(60).genome(MEGABYTE));
+    }
     if part("growth") {
         growth(plan, &mut report);
     }
@@ -431,7 +476,7 @@ fn run(plan: &Plan) -> Report {
 
 fn main() {
     let Some(plan) = Plan::of_words(std::env::args().skip(1)) else {
-        eprintln!("usage: benches [--quick] [--only lines|records|long|reads|names|complement|write|text|growth]");
+        eprintln!("usage: benches [--quick] [--only lines|records|long|reads|names|complement|write|text|scores|growth]");
         std::process::exit(2);
     };
     print!("{}", run(&plan));
@@ -457,6 +502,7 @@ mod tests {
             look_ups(&QUICK, &mut report, &lines.records(50), 20);
             look_ups(&QUICK, &mut report, &lines.records(20), 50);
             map(&QUICK, &mut report, &lines.records(50), 20);
+            scores(&QUICK, &mut report, &lines.genome(4000));
         }
         assert_eq!((report.compared.len(), report.checked.len(), report.handed_out.len()), (30, 4, 2));
         let told = report.to_string();

@@ -64,6 +64,15 @@ pub struct Mapped {
     pub used: f64,
 }
 
+/// Answers to one exercise scored, beside a plain comparison of the same bytes.
+pub struct Scored {
+    pub work: String,
+    pub answers: usize,
+    pub bases: usize,
+    pub ours: f64,
+    pub plain: f64,
+}
+
 /// All that was found.
 #[derive(Default)]
 pub struct Report {
@@ -74,6 +83,7 @@ pub struct Report {
     pub handed_out: Vec<HandedOut>,
     pub looked_up: Vec<LookedUp>,
     pub mapped: Vec<Mapped>,
+    pub scored: Vec<Scored>,
 }
 
 /// The checker's goal: so much of the speed of indexing.
@@ -81,6 +91,9 @@ const CHECK_GOAL: f64 = 0.8;
 
 /// The goal of the map of names: with its building, so many times as fast as the walks.
 const MAP_GOAL: f64 = 10.0;
+
+/// The goal of scoring 100 answers of 1,000 bases, in seconds.
+const SCORE_GOAL: f64 = 0.002;
 
 /// A number with commas.
 pub fn number(n: usize) -> String {
@@ -194,6 +207,16 @@ impl fmt::Display for Report {
             let ([look_ups, names], [walk, built, used]) =
                 ([*look_ups, *names].map(number), [*walk, *built, *used].map(time));
             writeln!(f, "| {look_ups} | {names} | {MAP_GOAL} | {ratio:.1} | {verdict} | {walk} | {built} | {used} |")?;
+        }
+        if !self.scored.is_empty() {
+            writeln!(f, "\n| scored | answers | bases | goal | time | | a plain comparison | times as long |")?;
+            writeln!(f, "|---|---|---|---|---|---|---|---|")?;
+        }
+        for Scored { work, answers, bases, ours, plain } in &self.scored {
+            let verdict = if *ours <= SCORE_GOAL { "reached" } else { "**not reached**" };
+            let (ratio, goal, ours, plain) = (ours / plain, time(SCORE_GOAL), time(*ours), time(*plain));
+            let (answers, bases) = (number(*answers), number(*bases));
+            writeln!(f, "| {work} | {answers} | {bases} | {goal} | {ours} | {verdict} | {plain} | {ratio:.1} |")?;
         }
         if !self.looked_up.is_empty() {
             writeln!(f, "\n| records | regions of one base | time | ns for a record or region |")?;
