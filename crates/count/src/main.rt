@@ -119,9 +119,7 @@ fn score_input(key: &[u8], edition: u64) {
 
 // Scores what was typed for an exercise about the one record of a file.
 fn score_exercise(exercise: &[u8], typed: &[u8], file: &[u8], table: &[u8], room: &mut [u8]) {
-    say_scored(scorer::score_exercise(
-        exercise, typed, file, file, table, 1, room,
-    ));
+    say_scored(scorer::score_exercise(exercise, typed, file, file, table, 1, room));
 }
 
 // Scores what was typed on standard input for bases 1 to 10,000 of record s.

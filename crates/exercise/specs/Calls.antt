@@ -52,9 +52,10 @@ module _ (name : List ℕ) (start end edition : ℕ) (out : List ℕ) (k : ℕ) 
 
     -- it reads back as it was given, and its name is the name
     pub written-exercise-reads : (readAs 2 (take k after) ≡ read.Read (written name start end edition)) × (take (length name) (drop 3 (take k after)) ≡ name)
-    written-exercise-reads =
-        (within 2 (take k after) small ∙ (ap (saysFrom 2) (wrote .text) ∙ written-reads 2 name start end edition (wrote .short) s e (wrote .known)),
-        ap (λ (l : List ℕ). take (length name) (drop 3 l)) (wrote .text) ∙ written-name name start end edition)
+    written-exercise-reads = (
+      within 2 (take k after) small ∙ (ap (saysFrom 2) (wrote .text) ∙ written-reads 2 name start end edition (wrote .short) s e (wrote .known)),
+      ap (λ (l : List ℕ). take (length name) (drop 3 l)) (wrote .text) ∙ written-name name start end edition,
+    )
 
     -- a program that knows edition 1 alone refuses one of edition 2, with the offset of the edition's field
     pub edition-one-refuses : edition ≡ 2 → readAs 1 (take k after) ≡ read.Refused (UnknownEdition (length name + 25))

@@ -96,6 +96,12 @@ pub fn score_exercise(
     }
     match asked_row(exercise, names, table, in_use) {
         Asked::Refused(f) => Scored::Refused(f),
-        Asked::Row(x, row) => score_row(x, typed, file, table::bytes::row(table, in_use, row), room),
+        Asked::Row(x, row) => score_row(
+            x,
+            typed,
+            file,
+            table::bytes::row(table, in_use, row),
+            room,
+        ),
     }
 }

@@ -407,7 +407,9 @@ pub fn command() -> Command {
                         .value_hint(ValueHint::DirPath),
                 )
                 .arg(flag("csv").help("lines for a spreadsheet, of one answer too"))
-                .arg(flag("explain").help("key, typed and marks under each other, ten to a block").conflicts_with("csv"))
+                .arg(
+                    flag("explain").help("key, typed and marks under each other, ten to a block").conflicts_with("csv"),
+                )
                 .arg(index_option())
                 .arg(flag("unchecked").help("use the index as it is, without checking it with the file")),
         )

@@ -20,9 +20,13 @@ fn typed(right: usize, wrong: &str) -> String {
 #[test]
 fn written_and_shown() {
     let folder = drilled("exercise");
-    let said = "drill: s, bases 1 to 100 (100 bases), edition 1: a letter is right if it is the key's, in either case\n";
+    let said =
+        "drill: s, bases 1 to 100 (100 bases), edition 1: a letter is right if it is the key's, in either case\n";
     folder.run(&["exercise", "s:1-100", "-o", "drill"]).gave(said);
-    assert_eq!(folder.read("drill"), b"\x01\0\x01s\x02\0\x08\0\0\0\0\0\0\0\x01\x03\0\x08\0\0\0\0\0\0\0\x64\x04\0\x01\x01");
+    assert_eq!(
+        folder.read("drill"),
+        b"\x01\0\x01s\x02\0\x08\0\0\0\0\0\0\0\x01\x03\0\x08\0\0\0\0\0\0\0\x64\x04\0\x01\x01"
+    );
     folder.run(&["exercise", "--show", "drill"]).gave(said);
     folder.run(&["-q", "exercise", "s:1-100", "-e", "2", "-o", "drill"]).gave("");
     folder
@@ -159,9 +163,9 @@ fn a_class() {
     let told = folder.run(&["score", "f.fa", "drill", "-a", "class", "--json"]).out;
     assert_eq!(told.lines().count(), 3);
     assert!(told.starts_with("{\"answer\":\"-c.txt\","), "{told}");
-    folder.run(&["score", "f.fa", "drill", "class/anna.txt", "--csv"]).gave(
-        "answer,percent,right,wrong,missing,surplus,asked,edition\nanna.txt,49.0,49,1,50,0,100,1\n",
-    );
+    folder
+        .run(&["score", "f.fa", "drill", "class/anna.txt", "--csv"])
+        .gave("answer,percent,right,wrong,missing,surplus,asked,edition\nanna.txt,49.0,49,1,50,0,100,1\n");
     // all of them, or nothing
     folder.write("class/dan.txt", ">dan\nACGT\n");
     let told = folder.run(&["score", "f.fa", "drill", "--answers", "class"]);

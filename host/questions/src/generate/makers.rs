@@ -393,7 +393,8 @@ fn scored_exercise(chance: &mut Chance) -> Vec<Value> {
     }
     // the bases of the region where lines are ignored: right in many places
     let bases = sample.text.get(row[3] as usize..).unwrap_or_default();
-    let bases = bases.iter().filter(|byte| !matches!(byte, b'\n' | b'\r')).skip(start as usize - usize::from(start > 0));
+    let bases =
+        bases.iter().filter(|byte| !matches!(byte, b'\n' | b'\r')).skip(start as usize - usize::from(start > 0));
     let asked = if start <= end { (end - start).saturating_add(1).min(300) as usize } else { 0 };
     let mut typed: Vec<u8> = bases.copied().take(asked).collect();
     for _ in 0..chance.below(4).min(typed.len()) {
