@@ -8,11 +8,11 @@ use lib.ListN.{length}
 use lib.Dec.{eqb}
 use borrow.Author.Tests.{eqb-true, ne-eqb}
 use Rattle.lines.specs.Lines.{onto}
-use Rattle.index_line.specs.Decimal.{decimalOf}
-use Rattle.index_line.specs.Fields.{cutAt, tabbed, numbersText}
-use Rattle.index_line.specs.Bytes.{is}
-use Rattle.index_line.specs.Reading.{cut-first}
-use Rattle.index_line.specs.Lacks.{Lacks, lacks-head, lacks-tail, decimal-lacks}
+use Rattle.columns.specs.Decimal.{decimalOf}
+use Rattle.columns.specs.Fields.{cutAt, tabbed, numbersText}
+use Rattle.columns.specs.Bytes.{is}
+use Rattle.columns.specs.Reading.{cut-first}
+use Rattle.columns.specs.Lacks.{Lacks, lacks-head, lacks-tail, decimal-lacks}
 
 -- fields with tabs between
 abbrev joined : List (List ℕ) → List ℕ

@@ -5,9 +5,9 @@ use mathlib.Core.List.{List, [], _∷_}
 use mathlib.Core.Bool.{Bool, true, cond, not, _&&_, _||_}
 use lib.ListN.{length}
 use lib.Dec.{ltb, leb, eqb}
-use Rattle.index_line.specs.Bytes.{laidAt}
-use Rattle.index_line.specs.declared.Number.{Number}
-use Rattle.index_line.specs.declared.Number.the-variants.{Value, Bad}
+use Rattle.columns.specs.Bytes.{laidAt}
+use Rattle.columns.specs.declared.Number.{Number}
+use Rattle.columns.specs.declared.Number.the-variants.{Value, Bad}
 
 -- ---- reading
 

@@ -11,8 +11,8 @@ use lib.ListN.{length, getD, drop, drop-of-length-le}
 use lib.Seq.{drop-cons}
 use lib.Dec.{ltb, leb, eqb, lit<}
 use borrow.Author.Tests.{lt-ltb, le-ltb, ltb-true, ltb-false, le-leb, lt-leb, leb-true, eq-eqb, ne-eqb, eqb-false}
-use Rattle.index_line.specs.declared.Number.the-variants.{Value, Bad}
-use Rattle.index_line.specs.Decimal.{allDigits, valueFrom, numberFrom, digitsOf, numberOf, plainNumber, digits, widthFrom, width, decimalOf}
+use Rattle.columns.specs.declared.Number.the-variants.{Value, Bad}
+use Rattle.columns.specs.Decimal.{allDigits, valueFrom, numberFrom, digitsOf, numberOf, plainNumber, digits, widthFrom, width, decimalOf}
 
 -- ---- reading, from a place on
 

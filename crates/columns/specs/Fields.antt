@@ -5,16 +5,17 @@ use mathlib.Core.Bool.{Bool, true, cond, _&&_, _||_}
 use lib.ListN.{length, drop}
 use lib.Dec.{eqb, ltb}
 use Rattle.refusal.specs.declared.Refusal.{Refusal}
-use Rattle.refusal.specs.declared.Refusal.the-variants.{FieldAbsent, NotANumber, ZeroField, NameSplit, NoRoom}
+use Rattle.refusal.specs.Numbers.{overLimit}
+use Rattle.refusal.specs.declared.Refusal.the-variants.{TooLong, FieldAbsent, NotANumber, ZeroField, NameSplit, NoRoom}
 use Rattle.lines.specs.Lines.{onto}
-use Rattle.index_line.specs.Bytes.{is, firstWhere}
-use Rattle.index_line.specs.Decimal.{numberOf, plainNumber, decimalOf}
-use Rattle.index_line.specs.declared.Number.{Number}
-use Rattle.index_line.specs.declared.Number.the-variants.{Value, Bad}
+use Rattle.columns.specs.Bytes.{is, firstWhere}
+use Rattle.columns.specs.Decimal.{numberOf, plainNumber, decimalOf}
+use Rattle.columns.specs.declared.Number.{Number}
+use Rattle.columns.specs.declared.Number.the-variants.{Value, Bad}
 use Rattle.output.specs.declared.Written.{Written}
 use Rattle.output.specs.Outcome.{Outcome, refuses, pours}
-use Rattle.index_line.specs.declared.fields.FieldRead.{FieldRead}
-use Rattle.index_line.specs.declared.fields.FieldRead.the-variants as field
+use Rattle.columns.specs.declared.fields.FieldRead.{FieldRead}
+use Rattle.columns.specs.declared.fields.FieldRead.the-variants as field
 
 -- ---- reading
 
@@ -76,3 +77,7 @@ splits b = is 9 b || is 10 b
 -- a name and numbers: a name with a tab or an LF is refused, with the first place of one
 unfoldable pub textWritten : List ℕ → List ℕ → List ℕ → Outcome Written
 textWritten name ns out = cond (ltb (firstWhere splits name) (length name)) (refuses (NameSplit (firstWhere splits name)) out) (pours (textOf name ns) out)
+
+-- the call: the size limit first, of the name and of the numbers
+unfoldable pub textWithin : List ℕ → List ℕ → List ℕ → Outcome Written
+textWithin name ns out = cond (overLimit (length name)) (refuses TooLong out) (cond (overLimit (length ns)) (refuses TooLong out) (textWritten name ns out))

@@ -7,9 +7,9 @@ use mathlib.Core.Bool.{Bool, true, false, cond, _||_, true≢false}
 use native.Mathlib.Omega.{arith}
 use lib.ListN.{length, take}
 use Rattle.lines.specs.Lines.{ends}
-use Rattle.index_line.specs.Bytes.{is, firstWhere}
-use Rattle.index_line.specs.Decimal.{digits, width, decimalOf}
-use Rattle.index_line.specs.Fields.{tabbed, numbersText, splits}
+use Rattle.columns.specs.Bytes.{is, firstWhere}
+use Rattle.columns.specs.Decimal.{digits, width, decimalOf}
+use Rattle.columns.specs.Fields.{tabbed, numbersText, splits}
 
 abbrev pub Lacks : (ℕ → Bool) → List ℕ → Type 0
 Lacks p l = firstWhere p l ≡ length l

@@ -6,14 +6,14 @@ use mathlib.Core.Bool.{Bool, true, false, _&&_, true≢false}
 use native.Mathlib.Omega.{arith}
 use native.Mathlib.Nat.{add-zero, suc-add, add-suc}
 use lib.ListN.{length, getD}
-use Rattle.index_line.specs.Decimal.{decimalOf}
-use Rattle.index_line.specs.Digits.{read-written, written-plain, write-read, number-fits}
-use Rattle.index_line.specs.Fields.{zeroBarred, fieldSays, Numbers, front, numbersFrom}
-use Rattle.index_line.specs.Fields.Numbers.{Are, Not}
-use Rattle.index_line.specs.Reading.{Fine, good-is}
-use Rattle.index_line.specs.declared.fields.Field.{Field}
-use Rattle.index_line.specs.declared.fields.FieldRead.{FieldRead}
-use Rattle.index_line.specs.declared.fields.FieldRead.the-variants as field
+use Rattle.columns.specs.Decimal.{decimalOf}
+use Rattle.columns.specs.Digits.{read-written, written-plain, write-read, number-fits}
+use Rattle.columns.specs.Fields.{zeroBarred, fieldSays, Numbers, front, numbersFrom}
+use Rattle.columns.specs.Fields.Numbers.{Are, Not}
+use Rattle.columns.specs.Reading.{Fine, good-is}
+use Rattle.columns.specs.declared.fields.Field.{Field}
+use Rattle.columns.specs.declared.fields.FieldRead.{FieldRead}
+use Rattle.columns.specs.declared.fields.FieldRead.the-variants as field
 
 -- the first k of some fields are these numbers, all plain or not; the first has the given place
 pub data Reads : ℕ → ℕ → List (List ℕ) → List ℕ → Bool → Type 0 where

@@ -9,15 +9,15 @@ use lib.ListN.{length, take, drop, getD}
 use lib.Seq.{take-suc, take-all, take-length, length-take-le, drop-cons}
 use lib.Dec.{eqb, ltb, leb}
 use borrow.Author.Tests.{eqb-true, le-ltb, ltb-true, ne-eqb, lt-ltb, le-leb}
-use Rattle.index_line.specs.Bytes.{is, firstWhere}
-use Rattle.index_line.specs.Decimal.{isDigit, allDigits, valueFrom, numberFrom, digitsOf, numberOf, plainNumber}
-use Rattle.index_line.specs.Fields.{fieldSays, zeroBarred, Numbers, numbersFrom}
-use Rattle.index_line.specs.Fields.Numbers.{Are}
-use Rattle.index_line.specs.Digits.{from-ge, digit-in}
-use Rattle.index_line.specs.Reading.{fieldLen, behind, after, after-none, field-good, on-end, on-within, on-good}
-use Rattle.index_line.specs.declared.Number.the-variants.{Value, Bad}
-use Rattle.index_line.specs.declared.fields.Field.{Field}
-use Rattle.index_line.specs.declared.fields.FieldRead.the-variants.{Good}
+use Rattle.columns.specs.Bytes.{is, firstWhere}
+use Rattle.columns.specs.Decimal.{isDigit, allDigits, valueFrom, numberFrom, digitsOf, numberOf, plainNumber}
+use Rattle.columns.specs.Fields.{fieldSays, zeroBarred, Numbers, numbersFrom}
+use Rattle.columns.specs.Fields.Numbers.{Are}
+use Rattle.columns.specs.Digits.{from-ge, digit-in}
+use Rattle.columns.specs.Reading.{fieldLen, behind, after, after-none, field-good, on-end, on-within, on-good}
+use Rattle.columns.specs.declared.Number.the-variants.{Value, Bad}
+use Rattle.columns.specs.declared.fields.Field.{Field}
+use Rattle.columns.specs.declared.fields.FieldRead.the-variants.{Good}
 
 -- the first n bytes are digits, whose value is v
 pub record FrontDigits (s : List ℕ) (v n : ℕ) : Type 0 where

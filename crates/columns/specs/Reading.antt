@@ -11,16 +11,16 @@ use lib.Dec.{eqb}
 use Rattle.refusal.specs.declared.Refusal.{Refusal}
 use Rattle.refusal.specs.declared.Refusal.the-variants.{FieldAbsent, NotANumber, ZeroField}
 use Rattle.lines.specs.Lines.{onto}
-use Rattle.index_line.specs.Bytes.{is, firstWhere, first-le}
-use Rattle.index_line.specs.Decimal.{numberOf, plainNumber}
-use Rattle.index_line.specs.Fields.{cutAt, zeroBarred, placed, fieldSays, Numbers, front, numbersFrom}
-use Rattle.index_line.specs.Fields.Numbers.{Are, Not}
-use Rattle.index_line.specs.declared.Number.{Number}
-use Rattle.index_line.specs.declared.Number.the-variants.{Value, Bad}
-use Rattle.index_line.specs.declared.fields.Field.{Field}
-use Rattle.index_line.specs.declared.fields.FieldRead.the-variants as field
-use Rattle.index_line.specs.declared.fields.NumbersRead.{NumbersRead}
-use Rattle.index_line.specs.declared.fields.NumbersRead.the-variants as read
+use Rattle.columns.specs.Bytes.{is, firstWhere, first-le}
+use Rattle.columns.specs.Decimal.{numberOf, plainNumber}
+use Rattle.columns.specs.Fields.{cutAt, zeroBarred, placed, fieldSays, Numbers, front, numbersFrom}
+use Rattle.columns.specs.Fields.Numbers.{Are, Not}
+use Rattle.columns.specs.declared.Number.{Number}
+use Rattle.columns.specs.declared.Number.the-variants.{Value, Bad}
+use Rattle.columns.specs.declared.fields.Field.{Field}
+use Rattle.columns.specs.declared.fields.FieldRead.the-variants as field
+use Rattle.columns.specs.declared.fields.NumbersRead.{NumbersRead}
+use Rattle.columns.specs.declared.fields.NumbersRead.the-variants as read
 
 -- how many bytes the first field has, where k tabs cut
 unfoldable pub fieldLen : ℕ → List ℕ → ℕ

@@ -9,13 +9,14 @@ use lib.ListN.{length, getD, take, drop, set, length-append, take-append-drop}
 use lib.Seq.{take-suc, append-snoc}
 use lib.Dec.{ltb}
 use borrow.Author.Tests.{lt-ltb, le-ltb, ltb-false}
-use Rattle.index_line.specs.Bytes.{is, firstWhere, first-le, overlaid, laidAt, overlaid-length, overlaid-next, overlaid-more, overlaid-zero, laid-all}
-use Rattle.index_line.specs.Decimal.{decimalOf}
+use Rattle.columns.specs.Bytes.{is, firstWhere, first-le, overlaid, laidAt, overlaid-length, overlaid-next, overlaid-more, overlaid-zero, laid-all}
+use Rattle.columns.specs.Decimal.{decimalOf}
 use Rattle.output.specs.Outcome.{leaves, refuses, pours}
 use Rattle.output.specs.Laws.{no-bytes, poured-known}
-use Rattle.index_line.specs.Fields.{tabbed, numbersText, textOf, splits, textWritten}
+use Rattle.columns.specs.Fields.{tabbed, numbersText, textOf, splits, textWritten, textWithin}
 use Rattle.output.specs.declared.Written.the-variants.{Bytes, Refused}
-use Rattle.refusal.specs.declared.Refusal.the-variants.{NameSplit, NoRoom}
+use Rattle.refusal.specs.declared.Refusal.the-variants.{TooLong, NameSplit, NoRoom}
+use Rattle.refusal.specs.Numbers.{overLimit}
 
 -- numbers put from a place on: the place behind them, and the output afterwards
 pub record NumbersPut (ns out : List ℕ) (at behind : ℕ) (after : List ℕ) : Type 0 where
@@ -121,3 +122,27 @@ text-known name ns out k after h = go (ltb (firstWhere splits name) (length name
     go false e q =
         let f = poured-known (textOf name ns) out k after q in
         record { whole = omega (arith, ltb-false (firstWhere splits name) (length name) e, first-le splits name); front = f .front; rest = f .rest }
+
+-- ---- the call
+
+module _ (name ns out : List ℕ) where
+  pub within-name : overLimit (length name) ≡ true → refuses TooLong out ≡ textWithin name ns out
+  unfolding textWithin
+  within-name h = rw h
+
+  pub within-numbers : overLimit (length name) ≡ false → overLimit (length ns) ≡ true → refuses TooLong out ≡ textWithin name ns out
+  unfolding textWithin
+  within-numbers h k = rw (h, k)
+
+  pub within-both : overLimit (length name) ≡ false → overLimit (length ns) ≡ false → textWritten name ns out ≡ textWithin name ns out
+  unfolding textWithin
+  within-both h k = rw (h, k)
+
+-- what is no more than the limit is not over it
+pub not-over : (n : ℕ) → n ≤ 1099511627776 → overLimit n ≡ false
+unfolding overLimit
+not-over n h = le-ltb 1099511627776 n h
+
+pub over-not : (n : ℕ) → overLimit n ≡ false → n ≤ 1099511627776
+unfolding overLimit
+over-not n h = ltb-false 1099511627776 n h

@@ -5,8 +5,8 @@ ghost use mathlib.Core.Path.{_≡_};
 ghost use Prim.Native.Nat.{_+_, _*_, _^_, _≤_};
 ghost use lib.ListN.{length};
 ghost use lib.Dec.{ltb};
-ghost use Rattle.index_line.specs.Decimal.{digitsOf, numberOf, plainNumber, digits, decimalOf, NumberWritten};
-ghost use Rattle.index_line.specs.Bytes.{overlaid};
+ghost use Rattle.columns.specs.Decimal.{digitsOf, numberOf, plainNumber, digits, decimalOf, NumberWritten};
+ghost use Rattle.columns.specs.Bytes.{overlaid};
 
 // The largest number.
 const LARGEST: u64 = 18446744073709551615;

@@ -8,12 +8,12 @@ ghost use mathlib.Core.Path.{_≡_};
 ghost use mathlib.Core.Bool.{true};
 ghost use Prim.Native.Nat.{_+_, _*_, _^_, _<_, _≤_};
 ghost use lib.ListN.{length, take, drop};
-ghost use Rattle.index_line.specs.Bytes.{is, firstWhere, overlaid};
+ghost use Rattle.columns.specs.Bytes.{is, firstWhere, overlaid};
 ghost use Rattle.output.specs.Outcome.{leaves};
-ghost use Rattle.index_line.specs.Fields.{zeroBarred, fieldSays, numbersFrom, numbersText, textOf, splits, textWritten};
-ghost use Rattle.index_line.specs.Reading.{fieldLen, behind, told};
-ghost use Rattle.index_line.specs.Quick.{FrontDigits, endsAt, Quick, ReadAll};
-ghost use Rattle.index_line.specs.Writing.{NumbersPut};
+ghost use Rattle.columns.specs.Fields.{zeroBarred, fieldSays, numbersFrom, numbersText, textOf, splits, textWritten, textWithin};
+ghost use Rattle.columns.specs.Reading.{fieldLen, behind, told};
+ghost use Rattle.columns.specs.Quick.{FrontDigits, endsAt, Quick, ReadAll};
+ghost use Rattle.columns.specs.Writing.{NumbersPut};
 
 // A field that is a number: its value, how many bytes it has, and whether it has no needless leading zero and no plus.
 pub struct Field {
@@ -49,7 +49,7 @@ fn first_byte(l: &[u8], b: u8) -> usize
 }
 
 // How many bytes the first field of `l` has, where so many tabs cut.
-pub(crate) fn field_length(l: &[u8], tabs: usize) -> usize
+pub fn field_length(l: &[u8], tabs: usize) -> usize
     ensures { λ r. ⌜ r ≡ fieldLen tabs (now (l .entry)) ⌝ }
 {
     if tabs == 0 {
@@ -101,7 +101,6 @@ fn number_field(rest: &[u8], tabs: usize, line: u64, place: u64) -> FieldRead
 
 // Reads as many numbers as the table has, one by one, and tells which is refused and why.
 fn read_each(content: &[u8], name: usize, line: u64, numbers: &mut [u64]) -> NumbersRead
-    requires { ⌜ length (now numbers) ≤ 5 ⌝ }
     ensures { λ r. ⌜ told r (now (numbers .exit)) ≡ numbersFrom line 2 (length (now (numbers .entry))) (behind (length (now (numbers .entry))) (drop name (now (content .entry)))) ⌝ }
 {
     let mut tab = name;
@@ -195,7 +194,6 @@ fn quick_field(s: &[u8], tabs: usize) -> Field
 
 // Reads as many numbers as the table has, if all are as most are written; else the table holds any numbers.
 fn read_quickly(content: &[u8], name: usize, numbers: &mut [u64]) -> bool
-    requires { ⌜ length (now numbers) ≤ 5 ⌝ }
     ensures { λ r. ⌜ (r ≡ true → ReadAll (now (content .entry)) name (now (numbers .exit))) ⌝ }
 {
     let mut tab = name;
@@ -216,13 +214,12 @@ fn read_quickly(content: &[u8], name: usize, numbers: &mut [u64]) -> bool
 }
 
 // Reads as many numbers as the table has, each behind a tab; the first tab stands behind a name of `name` bytes, or there is the end.
-pub(crate) fn read_numbers(
+pub fn read_numbers(
     content: &[u8],
     name: usize,
     line: u64,
     numbers: &mut [u64],
 ) -> NumbersRead
-    requires { ⌜ length (now numbers) ≤ 5 ⌝ }
     ensures { λ r. ⌜ told r (now (numbers .exit)) ≡ numbersFrom line 2 (length (now (numbers .entry))) (behind (length (now (numbers .entry))) (drop name (now (content .entry)))) ⌝ }
 {
     if read_quickly(content, name, numbers) {
@@ -288,7 +285,7 @@ fn put_text(name: &[u8], numbers: &[u64], out: &mut [u8])
 }
 
 // The same, if the name has no tab and no LF, and if there is room.
-pub(crate) fn write_text(name: &[u8], numbers: &[u64], out: &mut [u8]) -> Written
+fn write_short(name: &[u8], numbers: &[u64], out: &mut [u8]) -> Written
     requires { ⌜ length (now name) + 21 * length (now numbers) + 1 < 2 ^ 64 ⌝ }
     ensures { λ r. ⌜ leaves r (now (out .exit)) ≡ textWritten (now (name .entry)) (now (numbers .entry)) (now (out .entry)) ⌝ }
 {
@@ -306,4 +303,17 @@ pub(crate) fn write_text(name: &[u8], numbers: &[u64], out: &mut [u8]) -> Writte
     }
     put_text(name, numbers, out);
     Written::Bytes(needed)
+}
+
+// The same for any name and numbers: those over the size limit are refused (1).
+pub fn write_text(name: &[u8], numbers: &[u64], out: &mut [u8]) -> Written
+    ensures { λ r. ⌜ leaves r (now (out .exit)) ≡ textWithin (now (name .entry)) (now (numbers .entry)) (now (out .entry)) ⌝ }
+{
+    if refusal::over_limit(name.len()) {
+        return Written::Refused(Refusal::TooLong);
+    }
+    if refusal::over_limit(numbers.len()) {
+        return Written::Refused(Refusal::TooLong);
+    }
+    write_short(name, numbers, out)
 }

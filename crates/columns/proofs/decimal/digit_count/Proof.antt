@@ -1,12 +1,12 @@
--- `index_line::digit_count` meets its contract. The loop's invariant: after w - 1 divisions by ten, m is left of n, and is not 0; once
+-- `columns::digit_count` meets its contract. The loop's invariant: after w - 1 divisions by ten, m is left of n, and is not 0; once
 -- it is a single digit, w digits are enough and fewer are not.
 -- Assumes nothing.
 use Prim.Native.Nat.{suc, _≤_, _<_, _+_, _-_, _/_, _^_}
 use mathlib.Core.Path.{_≡_, _∙_}
 use native.Mathlib.Omega.{arith}
-use Rattle.index_line.specs.Digits.{digits-counted, ten-times}
-use Rattle.index_line.proofs.decimal.digit_count.Statement.{statement}
-use Rattle.index_line.proofs.decimal.digit_count.Tie as tie
+use Rattle.columns.specs.Digits.{digits-counted, ten-times}
+use Rattle.columns.proofs.decimal.digit_count.Statement.{statement}
+use Rattle.columns.proofs.decimal.digit_count.Tie as tie
 
 abbrev Inv-loop : tie.InvT-loop
 Inv-loop n w₀ m₀ w m = (1 ≤ w) × ((w + m ≤ n + 1) × ((m ≡ n / 10 ^ (w - 1)) × (1 < w → 1 ≤ m)))

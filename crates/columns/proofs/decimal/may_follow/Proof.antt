@@ -1,4 +1,4 @@
--- `index_line::decimal::may_follow` meets its contract: a tenth of what is left of the largest number has room for the number, or not.
+-- `columns::decimal::may_follow` meets its contract: a tenth of what is left of the largest number has room for the number, or not.
 -- Assumes nothing.
 use Prim.Native.Nat.{_+_, _-_, _*_, _/_, _^_}
 use mathlib.Core.Path.{_≡_, refl, sym}
@@ -7,8 +7,8 @@ use lib.Dec.{leb, ltb}
 use borrow.Author.Needs.{needs}
 use borrow.Author.Tests.{lt-ltb, le-ltb, leb-true, leb-false}
 use native.Mathlib.Omega.{arith}
-use Rattle.index_line.proofs.decimal.may_follow.Statement.{statement}
-use Rattle.index_line.proofs.decimal.may_follow.Tie as tie
+use Rattle.columns.proofs.decimal.may_follow.Statement.{statement}
+use Rattle.columns.proofs.decimal.may_follow.Tie as tie
 
 returns : tie.Need-returns
 returns c = sym (lt-ltb (c .before .args .value * 10 + c .before .args .digit) (2 ^ 64) (omega arith))

@@ -1,9 +1,9 @@
--- `index_line::plain_number` meets its contract: a number of one byte is plain, and of a longer one the first byte tells.
+-- `columns::plain_number` meets its contract: a number of one byte is plain, and of a longer one the first byte tells.
 -- Assumes nothing.
 use borrow.Author.Needs.{needs}
-use Rattle.index_line.specs.Digits.{plain-short, plain-plus, plain-first}
-use Rattle.index_line.proofs.decimal.plain_number.Statement.{statement}
-use Rattle.index_line.proofs.decimal.plain_number.Tie as tie
+use Rattle.columns.specs.Digits.{plain-short, plain-plus, plain-first}
+use Rattle.columns.proofs.decimal.plain_number.Statement.{statement}
+use Rattle.columns.proofs.decimal.plain_number.Tie as tie
 
 returns : tie.Need-returns
 returns c = plain-short _ (c .if1 .taken)

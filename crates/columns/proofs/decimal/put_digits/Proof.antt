@@ -1,15 +1,15 @@
--- `index_line::decimal::put_digits` meets its contract. The loop goes from the back: the last digits stand from `place` on, and m is what is
+-- `columns::decimal::put_digits` meets its contract. The loop goes from the back: the last digits stand from `place` on, and m is what is
 -- left of n.
 -- Assumes nothing.
 use Prim.Native.Nat.{suc, _≤_, _+_, _-_, _/_, _^_}
 use mathlib.Core.Path.{_≡_, refl, _∙_}
 use native.Mathlib.Omega.{arith}
 use lib.ListN.{length, length-set}
-use Rattle.index_line.specs.Bytes.{overlaid, overlaid-none, overlaid-front}
-use Rattle.index_line.specs.Decimal.{digits}
-use Rattle.index_line.specs.Digits.{ten-times}
-use Rattle.index_line.proofs.decimal.put_digits.Statement.{statement}
-use Rattle.index_line.proofs.decimal.put_digits.Tie as tie
+use Rattle.columns.specs.Bytes.{overlaid, overlaid-none, overlaid-front}
+use Rattle.columns.specs.Decimal.{digits}
+use Rattle.columns.specs.Digits.{ten-times}
+use Rattle.columns.proofs.decimal.put_digits.Statement.{statement}
+use Rattle.columns.proofs.decimal.put_digits.Tie as tie
 
 abbrev Inv-loop : tie.InvT-loop
 Inv-loop n w out₀ at m₀ place₀ out m place =

@@ -1,4 +1,4 @@
--- `index_line::read_digits` meets its contract. The loop's invariant: the digits passed make `value`, and the number from here, with
+-- `columns::read_digits` meets its contract. The loop's invariant: the digits passed make `value`, and the number from here, with
 -- those before it, is the number from the start. Each way out is a law of `numberFrom`.
 -- Assumes nothing.
 use Prim.Native.Nat.{_≤_, _<_, _+_, _-_, _*_, _^_}
@@ -7,10 +7,10 @@ use borrow.Author.Needs.{needs}
 use native.Mathlib.Omega.{arith}
 use lib.ListN.{length, drop, getD}
 use borrow.Author.Tests.{ltb-true, ltb-false, not-true, not-false}
-use Rattle.index_line.specs.Decimal.{numberFrom, digitsOf}
-use Rattle.index_line.specs.Digits.{digits-none, digits-start, number-end, number-low, number-high, number-more, number-over}
-use Rattle.index_line.proofs.decimal.read_digits.Statement.{statement}
-use Rattle.index_line.proofs.decimal.read_digits.Tie as tie
+use Rattle.columns.specs.Decimal.{numberFrom, digitsOf}
+use Rattle.columns.specs.Digits.{digits-none, digits-start, number-end, number-low, number-high, number-more, number-over}
+use Rattle.columns.proofs.decimal.read_digits.Statement.{statement}
+use Rattle.columns.proofs.decimal.read_digits.Tie as tie
 
 abbrev Inv-loop : tie.InvT-loop
 Inv-loop s value₀ i₀ value i = (i ≤ length s) × ((value < 2 ^ 64) × (numberFrom value (drop i s) ≡ digitsOf s))

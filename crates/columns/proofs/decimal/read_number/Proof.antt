@@ -1,12 +1,12 @@
--- `index_line::read_number` meets its contract: behind one plus, and where there is none, the digits tell.
+-- `columns::read_number` meets its contract: behind one plus, and where there is none, the digits tell.
 -- Assumes nothing.
 use mathlib.Core.Path.{_∙_}
 use native.Mathlib.Omega.{arith}
 use borrow.Author.Needs.{needs}
-use Rattle.index_line.specs.Bytes.{take-rest}
-use Rattle.index_line.specs.Digits.{number-none, number-plus, number-digits}
-use Rattle.index_line.proofs.decimal.read_number.Statement.{statement}
-use Rattle.index_line.proofs.decimal.read_number.Tie as tie
+use Rattle.columns.specs.Bytes.{take-rest}
+use Rattle.columns.specs.Digits.{number-none, number-plus, number-digits}
+use Rattle.columns.proofs.decimal.read_number.Statement.{statement}
+use Rattle.columns.proofs.decimal.read_number.Tie as tie
 
 returns : tie.Need-returns
 returns c = number-none _ (c .if1 .taken)

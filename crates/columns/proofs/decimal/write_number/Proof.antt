@@ -1,12 +1,12 @@
--- `index_line::write_number` meets its contract: without room nothing is written; with room the digits are laid over what was there.
+-- `columns::write_number` meets its contract: without room nothing is written; with room the digits are laid over what was there.
 -- Assumes nothing.
 use borrow.Author.Needs.{needs}
 use mathlib.Core.Path.{_∙_}
 use native.Mathlib.Omega.{arith}
-use Rattle.index_line.specs.Bytes.{laid-none, laid-all}
-use Rattle.index_line.specs.Digits.{all-digits}
-use Rattle.index_line.proofs.decimal.write_number.Statement.{statement}
-use Rattle.index_line.proofs.decimal.write_number.Tie as tie
+use Rattle.columns.specs.Bytes.{laid-none, laid-all}
+use Rattle.columns.specs.Digits.{all-digits}
+use Rattle.columns.proofs.decimal.write_number.Statement.{statement}
+use Rattle.columns.proofs.decimal.write_number.Tie as tie
 
 digit-count-requires : tie.Need-digit-count-requires
 digit-count-requires c κs = search needs

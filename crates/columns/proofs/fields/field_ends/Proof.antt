@@ -1,9 +1,9 @@
--- `index_line::fields::field_ends`: its tests are those of the definition.
+-- `columns::fields::field_ends`: its tests are those of the definition.
 -- Assumes nothing.
-use Rattle.index_line.specs.Quick.{ends-all, ends-out, ends-tab}
+use Rattle.columns.specs.Quick.{ends-all, ends-out, ends-tab}
 use borrow.Author.Needs.{needs}
-use Rattle.index_line.proofs.fields.field_ends.Statement.{statement}
-use Rattle.index_line.proofs.fields.field_ends.Tie as tie
+use Rattle.columns.proofs.fields.field_ends.Statement.{statement}
+use Rattle.columns.proofs.fields.field_ends.Tie as tie
 
 returns : tie.Need-returns
 returns c = ends-all _ _ _ (c .if1 .taken)

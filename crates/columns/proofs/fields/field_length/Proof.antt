@@ -1,10 +1,10 @@
--- `index_line::fields::field_length` meets its contract: where no tab cuts, the field is all.
+-- `columns::fields::field_length` meets its contract: where no tab cuts, the field is all.
 -- Assumes nothing.
 use borrow.Author.Needs.{needs}
-use Rattle.index_line.specs.Reading.{len-all, len-tab}
+use Rattle.columns.specs.Reading.{len-all, len-tab}
 use mathlib.Core.Path.{_∙_}
-use Rattle.index_line.proofs.fields.field_length.Statement.{statement}
-use Rattle.index_line.proofs.fields.field_length.Tie as tie
+use Rattle.columns.proofs.fields.field_length.Statement.{statement}
+use Rattle.columns.proofs.fields.field_length.Tie as tie
 
 returns : tie.Need-returns
 returns c = len-all _ _ (c .if1 .taken)

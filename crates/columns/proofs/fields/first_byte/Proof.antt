@@ -1,13 +1,13 @@
--- `index_line::fields::first_byte` meets its contract. The loop's invariant: the first b from here is the first from the start.
+-- `columns::fields::first_byte` meets its contract. The loop's invariant: the first b from here is the first from the start.
 -- Assumes nothing.
 use Prim.Native.Nat.{_≤_, _+_, _-_}
 use mathlib.Core.Path.{_≡_}
 use native.Mathlib.Omega.{arith}
 use lib.ListN.{length, drop}
 use borrow.Author.Tests.{eq-eqb, ne-eqb}
-use Rattle.index_line.specs.Bytes.{is, firstWhere, first-hit, first-miss, first-end}
-use Rattle.index_line.proofs.fields.first_byte.Statement.{statement}
-use Rattle.index_line.proofs.fields.first_byte.Tie as tie
+use Rattle.columns.specs.Bytes.{is, firstWhere, first-hit, first-miss, first-end}
+use Rattle.columns.proofs.fields.first_byte.Statement.{statement}
+use Rattle.columns.proofs.fields.first_byte.Tie as tie
 
 abbrev Inv-loop : tie.InvT-loop
 Inv-loop l b i₀ i = (i ≤ length l) × (i + firstWhere (is b) (drop i l) ≡ firstWhere (is b) l)

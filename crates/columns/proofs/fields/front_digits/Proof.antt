@@ -1,12 +1,12 @@
--- `index_line::fields::front_digits`: before each turn the bytes passed are digits, and the value is theirs.
+-- `columns::fields::front_digits`: before each turn the bytes passed are digits, and the value is theirs.
 -- Assumes nothing.
 use Prim.Native.Nat.{_-_}
 use native.Mathlib.Omega.{arith}
 use borrow.Author.Needs.{needs}
 use lib.ListN.{length}
-use Rattle.index_line.specs.Quick.{FrontDigits, front-none, front-more}
-use Rattle.index_line.proofs.fields.front_digits.Statement.{statement}
-use Rattle.index_line.proofs.fields.front_digits.Tie as tie
+use Rattle.columns.specs.Quick.{FrontDigits, front-none, front-more}
+use Rattle.columns.proofs.fields.front_digits.Statement.{statement}
+use Rattle.columns.proofs.fields.front_digits.Tie as tie
 
 abbrev Inv-loop : tie.InvT-loop
 Inv-loop s value₀ i₀ value i = FrontDigits s value i

@@ -1,12 +1,12 @@
--- `index_line::fields::name_split` meets its contract: the first LF before the first tab, or else that tab, is the first of either.
+-- `columns::fields::name_split` meets its contract: the first LF before the first tab, or else that tab, is the first of either.
 -- Assumes nothing.
 use borrow.Author.Needs.{needs}
 use mathlib.Core.Path.{sym}
 use lib.Seq.{length-take-le}
-use Rattle.index_line.specs.Bytes.{is, first-le}
-use Rattle.index_line.specs.Writing.{split-is}
-use Rattle.index_line.proofs.fields.name_split.Statement.{statement}
-use Rattle.index_line.proofs.fields.name_split.Tie as tie
+use Rattle.columns.specs.Bytes.{is, first-le}
+use Rattle.columns.specs.Writing.{split-is}
+use Rattle.columns.proofs.fields.name_split.Statement.{statement}
+use Rattle.columns.proofs.fields.name_split.Tie as tie
 
 first-byte-requires : tie.Need-first-byte-requires
 first-byte-requires c κs = search needs

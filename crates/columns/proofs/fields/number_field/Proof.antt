@@ -1,11 +1,11 @@
--- `index_line::fields::number_field` meets its contract: the field is the front of the rest, and `whole_field` reads it.
+-- `columns::fields::number_field` meets its contract: the field is the front of the rest, and `whole_field` reads it.
 -- Assumes nothing.
 use borrow.Author.Needs.{needs}
 use mathlib.Core.Path.{sym}
 use lib.Seq.{length-take-le}
-use Rattle.index_line.specs.Reading.{fieldLen-le}
-use Rattle.index_line.proofs.fields.number_field.Statement.{statement}
-use Rattle.index_line.proofs.fields.number_field.Tie as tie
+use Rattle.columns.specs.Reading.{fieldLen-le}
+use Rattle.columns.proofs.fields.number_field.Statement.{statement}
+use Rattle.columns.proofs.fields.number_field.Tie as tie
 
 field-length-requires : tie.Need-field-length-requires
 field-length-requires c κs = search needs

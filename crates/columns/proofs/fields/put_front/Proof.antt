@@ -1,13 +1,13 @@
--- `index_line::fields::put_front` meets its contract: a copy of all bytes, which have room, to the front.
+-- `columns::fields::put_front` meets its contract: a copy of all bytes, which have room, to the front.
 -- Assumes nothing.
 use mathlib.Core.Path.{_∙_}
 use lib.ListN.{length}
 use borrow.Author.Needs.{needs}
 use native.Mathlib.Omega.{arith}
 use Rattle.copying.specs.Laws.{copy-whole}
-use Rattle.index_line.specs.Bytes.{overlaid-paste}
-use Rattle.index_line.proofs.fields.put_front.Statement.{statement}
-use Rattle.index_line.proofs.fields.put_front.Tie as tie
+use Rattle.columns.specs.Bytes.{overlaid-paste}
+use Rattle.columns.proofs.fields.put_front.Statement.{statement}
+use Rattle.columns.proofs.fields.put_front.Tie as tie
 
 copy-run-requires : tie.Need-copy-run-requires
 copy-run-requires c κs = search needs

@@ -1,4 +1,4 @@
--- `index_line::fields::put_numbers` meets its contract. The loop's invariant: the text of the first i numbers is laid over the output from
+-- `columns::fields::put_numbers` meets its contract. The loop's invariant: the text of the first i numbers is laid over the output from
 -- `at` on, and `place` is behind it.
 -- Assumes nothing.
 use borrow.Author.Needs.{needs}
@@ -7,12 +7,12 @@ use mathlib.Core.Path.{_≡_, refl, _∙_}
 use native.Mathlib.Omega.{arith}
 use lib.ListN.{length, getD, take}
 use lib.Seq.{take-all}
-use Rattle.index_line.specs.Bytes.{overlaid, overlaid-none, overlaid-length}
-use Rattle.index_line.specs.Decimal.{decimalOf}
-use Rattle.index_line.specs.Fields.{tabbed, numbersText}
-use Rattle.index_line.specs.Writing.{text-more-length, next-room, next-put}
-use Rattle.index_line.proofs.fields.put_numbers.Statement.{statement}
-use Rattle.index_line.proofs.fields.put_numbers.Tie as tie
+use Rattle.columns.specs.Bytes.{overlaid, overlaid-none, overlaid-length}
+use Rattle.columns.specs.Decimal.{decimalOf}
+use Rattle.columns.specs.Fields.{tabbed, numbersText}
+use Rattle.columns.specs.Writing.{text-more-length, next-room, next-put}
+use Rattle.columns.proofs.fields.put_numbers.Statement.{statement}
+use Rattle.columns.proofs.fields.put_numbers.Tie as tie
 
 abbrev Inv-loop : tie.InvT-loop
 Inv-loop numbers out₀ at place₀ i₀ out place i =

@@ -1,14 +1,14 @@
--- `index_line::fields::put_text` meets its contract: each piece is laid over the output behind the one before it.
+-- `columns::fields::put_text` meets its contract: each piece is laid over the output behind the one before it.
 -- Assumes nothing.
 use Prim.Native.Nat.{_+_, _≤_}
 use mathlib.Core.Path.{_≡_, ap, _∙_}
 use native.Mathlib.Omega.{arith}
 use lib.ListN.{length, length-set}
-use Rattle.index_line.specs.Bytes.{overlaid-length}
-use Rattle.index_line.specs.Fields.{numbersText}
-use Rattle.index_line.specs.Writing.{text-length, put-line}
-use Rattle.index_line.proofs.fields.put_text.Statement.{statement}
-use Rattle.index_line.proofs.fields.put_text.Tie as tie
+use Rattle.columns.specs.Bytes.{overlaid-length}
+use Rattle.columns.specs.Fields.{numbersText}
+use Rattle.columns.specs.Writing.{text-length, put-line}
+use Rattle.columns.proofs.fields.put_text.Statement.{statement}
+use Rattle.columns.proofs.fields.put_text.Tie as tie
 
 -- there is room for the name, the numbers and the LF
 room : (c : tie.Start) → length (c .args .name .now) + length (numbersText (c .args .numbers .now)) + 1 ≤ length (c .args .out .now)

@@ -1,11 +1,11 @@
--- `index_line::fields::quick_field`: digits that begin with 1 to 9 and end where a field ends are the field.
+-- `columns::fields::quick_field`: digits that begin with 1 to 9 and end where a field ends are the field.
 -- Assumes nothing.
 use mathlib.Core.Path.{sym, _∙_}
 use native.Mathlib.Omega.{arith}
-use Rattle.index_line.specs.Quick.{quick-good, quick-none}
+use Rattle.columns.specs.Quick.{quick-good, quick-none}
 use borrow.Author.Needs.{needs}
-use Rattle.index_line.proofs.fields.quick_field.Statement.{statement}
-use Rattle.index_line.proofs.fields.quick_field.Tie as tie
+use Rattle.columns.proofs.fields.quick_field.Statement.{statement}
+use Rattle.columns.proofs.fields.quick_field.Tie as tie
 
 front-digits-requires : tie.Need-front-digits-requires
 front-digits-requires c κs = search needs

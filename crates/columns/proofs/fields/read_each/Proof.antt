@@ -1,4 +1,4 @@
--- `index_line::fields::read_each` meets its contract. The loop's invariant: the numbers read, and what the fields behind the tab say,
+-- `columns::fields::read_each` meets its contract. The loop's invariant: the numbers read, and what the fields behind the tab say,
 -- together are what all fields say. Each way on is a law of specs/Reading.antt.
 -- Assumes nothing.
 use borrow.Author.Needs.{needs}
@@ -9,12 +9,12 @@ use native.Mathlib.Numerals.{add-one}
 use native.Mathlib.Nat.{sub-zero}
 use lib.ListN.{length, take, drop, length-set}
 use lib.Seq.{take-all, take-suc-set}
-use Rattle.index_line.specs.Bytes.{take-rest}
-use Rattle.index_line.specs.Fields.{fieldSays, numbersFrom}
-use Rattle.index_line.specs.Reading.{fieldLen, behind, after, after-none, on-end, on-absent, on-refused, on-within, on-good}
-use Rattle.index_line.specs.declared.fields.FieldRead.the-variants.{Good}
-use Rattle.index_line.proofs.fields.read_each.Statement.{statement}
-use Rattle.index_line.proofs.fields.read_each.Tie as tie
+use Rattle.columns.specs.Bytes.{take-rest}
+use Rattle.columns.specs.Fields.{fieldSays, numbersFrom}
+use Rattle.columns.specs.Reading.{fieldLen, behind, after, after-none, on-end, on-absent, on-refused, on-within, on-good}
+use Rattle.columns.specs.declared.fields.FieldRead.the-variants.{Good}
+use Rattle.columns.proofs.fields.read_each.Statement.{statement}
+use Rattle.columns.proofs.fields.read_each.Tie as tie
 
 abbrev Inv-loop : tie.InvT-loop
 Inv-loop content name line numbers₀ tab₀ plain₀ place₀ i₀ numbers tab plain place i =

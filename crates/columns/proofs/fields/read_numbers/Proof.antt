@@ -1,12 +1,12 @@
--- `index_line::fields::read_numbers`: the quick way and the slow way say the same.
+-- `columns::fields::read_numbers`: the quick way and the slow way say the same.
 -- Assumes nothing.
 use mathlib.Core.Path.{_≡_}
 use native.Mathlib.Omega.{arith}
 use lib.ListN.{length}
-use Rattle.index_line.specs.Quick.{ReadAll}
+use Rattle.columns.specs.Quick.{ReadAll}
 use borrow.Author.Needs.{needs}
-use Rattle.index_line.proofs.fields.read_numbers.Statement.{statement}
-use Rattle.index_line.proofs.fields.read_numbers.Tie as tie
+use Rattle.columns.proofs.fields.read_numbers.Statement.{statement}
+use Rattle.columns.proofs.fields.read_numbers.Tie as tie
 
 read-quickly-requires : tie.Need-read-quickly-requires
 read-quickly-requires c κs = search needs

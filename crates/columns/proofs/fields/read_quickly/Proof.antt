@@ -1,4 +1,4 @@
--- `index_line::fields::read_quickly`: the numbers read, and what the fields behind the tab say, together are what all fields say.
+-- `columns::fields::read_quickly`: the numbers read, and what the fields behind the tab say, together are what all fields say.
 -- Assumes nothing.
 use borrow.Author.Tests.{eqb-true}
 use Prim.Native.Nat.{ℕ, _≤_, _+_, _-_}
@@ -10,12 +10,12 @@ use native.Mathlib.Nat.{sub-zero}
 use borrow.Author.Needs.{needs}
 use lib.ListN.{length, take, drop, length-set}
 use lib.Seq.{take-all, take-suc-set}
-use Rattle.index_line.specs.Bytes.{take-rest}
-use Rattle.index_line.specs.Fields.{numbersFrom}
-use Rattle.index_line.specs.Reading.{behind, after, after-none, on-end}
-use Rattle.index_line.specs.Quick.{Quick, ReadAll, quick-within, quick-turn}
-use Rattle.index_line.proofs.fields.read_quickly.Statement.{statement}
-use Rattle.index_line.proofs.fields.read_quickly.Tie as tie
+use Rattle.columns.specs.Bytes.{take-rest}
+use Rattle.columns.specs.Fields.{numbersFrom}
+use Rattle.columns.specs.Reading.{behind, after, after-none, on-end}
+use Rattle.columns.specs.Quick.{Quick, ReadAll, quick-within, quick-turn}
+use Rattle.columns.proofs.fields.read_quickly.Statement.{statement}
+use Rattle.columns.proofs.fields.read_quickly.Tie as tie
 
 abbrev Inv-loop : tie.InvT-loop
 Inv-loop content name numbers₀ tab₀ i₀ numbers tab i =

@@ -1,4 +1,4 @@
--- `index_line::fields::text_length` meets its contract. The loop's invariant: n counts the name, the LF, and a tab and the digits of each
+-- `columns::fields::text_length` meets its contract. The loop's invariant: n counts the name, the LF, and a tab and the digits of each
 -- number passed; these are at most 21 bytes for a number.
 -- Assumes nothing.
 use borrow.Author.Needs.{needs}
@@ -7,11 +7,11 @@ use mathlib.Core.Path.{_≡_}
 use native.Mathlib.Omega.{arith}
 use lib.ListN.{length, take}
 use lib.Seq.{take-all}
-use Rattle.index_line.specs.Digits.{decimal-short}
-use Rattle.index_line.specs.Fields.{tabbed, numbersText}
-use Rattle.index_line.specs.Writing.{text-length, text-more-length}
-use Rattle.index_line.proofs.fields.text_length.Statement.{statement}
-use Rattle.index_line.proofs.fields.text_length.Tie as tie
+use Rattle.columns.specs.Digits.{decimal-short}
+use Rattle.columns.specs.Fields.{tabbed, numbersText}
+use Rattle.columns.specs.Writing.{text-length, text-more-length}
+use Rattle.columns.proofs.fields.text_length.Statement.{statement}
+use Rattle.columns.proofs.fields.text_length.Tie as tie
 
 abbrev Inv-loop : tie.InvT-loop
 Inv-loop name numbers n₀ i₀ n i =

@@ -1,12 +1,12 @@
--- `index_line::fields::whole_field` meets its contract: what is read of the bytes, and whether it is a barred 0, decide by a law each.
+-- `columns::fields::whole_field` meets its contract: what is read of the bytes, and whether it is a barred 0, decide by a law each.
 -- Assumes nothing.
 use borrow.Author.Needs.{needs}
 use mathlib.Core.Path.{_≡_, sym, _∙_}
-use Rattle.index_line.specs.Decimal.{numberOf}
-use Rattle.index_line.specs.declared.Number.the-variants.{Value}
-use Rattle.index_line.specs.Reading.{field-bad, field-zero, field-good}
-use Rattle.index_line.proofs.fields.whole_field.Statement.{statement}
-use Rattle.index_line.proofs.fields.whole_field.Tie as tie
+use Rattle.columns.specs.Decimal.{numberOf}
+use Rattle.columns.specs.declared.Number.the-variants.{Value}
+use Rattle.columns.specs.Reading.{field-bad, field-zero, field-good}
+use Rattle.columns.proofs.fields.whole_field.Statement.{statement}
+use Rattle.columns.proofs.fields.whole_field.Tie as tie
 
 read-number-requires : tie.Need-read-number-requires
 read-number-requires c κs = search needs

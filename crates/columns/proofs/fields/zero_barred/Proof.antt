@@ -1,8 +1,8 @@
--- `index_line::fields::zero_barred` meets its contract: the tests are the definition's own.
+-- `columns::fields::zero_barred` meets its contract: the tests are the definition's own.
 -- Assumes nothing.
 use borrow.Author.Tests.{eq-eqb, ne-eqb}
-use Rattle.index_line.proofs.fields.zero_barred.Statement.{statement}
-use Rattle.index_line.proofs.fields.zero_barred.Tie as tie
+use Rattle.columns.proofs.fields.zero_barred.Statement.{statement}
+use Rattle.columns.proofs.fields.zero_barred.Tie as tie
 
 returns : tie.Need-returns
 returns c = rw (ne-eqb _ _ (c .if1 .taken))

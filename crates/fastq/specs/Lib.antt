@@ -1,0 +1,3 @@
+pub mod Fastq
+pub mod Steps
+pub mod Laws
