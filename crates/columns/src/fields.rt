@@ -214,12 +214,7 @@ fn read_quickly(content: &[u8], name: usize, numbers: &mut [u64]) -> bool
 }
 
 // Reads as many numbers as the table has, each behind a tab; the first tab stands behind a name of `name` bytes, or there is the end.
-pub fn read_numbers(
-    content: &[u8],
-    name: usize,
-    line: u64,
-    numbers: &mut [u64],
-) -> NumbersRead
+pub fn read_numbers(content: &[u8], name: usize, line: u64, numbers: &mut [u64]) -> NumbersRead
     ensures { λ r. ⌜ told r (now (numbers .exit)) ≡ numbersFrom line 2 (length (now (numbers .entry))) (behind (length (now (numbers .entry))) (drop name (now (content .entry)))) ⌝ }
 {
     if read_quickly(content, name, numbers) {

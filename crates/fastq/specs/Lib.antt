@@ -1,3 +1,4 @@
 pub mod Fastq
 pub mod Steps
 pub mod Laws
+pub mod RecordLaws

@@ -7,6 +7,7 @@ ghost use Prim.Native.Nat.{_+_, _-_, _≤_, _<_};
 ghost use lib.ListN.{length};
 ghost use Rattle.lines.specs.Lines.{none, firstLine};
 ghost use Rattle.fastq.specs.Fastq.{linesAt, bodyAt, lineSays, fitsPartner, sequenceSays, recordAt};
+ghost use Rattle.fastq.specs.RecordLaws.{GoodBody};
 ghost use Rattle.fastq.specs.Steps.{restSays, partnersOf, partnerOf, qualitiesSay};
 use definition::Parsed;
 use lines::Line;
@@ -67,7 +68,7 @@ fn line_at(s: &[u8], at: usize) -> Line
     if s.len() <= at {
         return Line { width: 0, bases: 0 };
     }
-    let e = lines::line_end(s, at);
+    let e = lines::ends::line_end(s, at);
     let bases = lines::base_count(&s[at..e]);
     Line {
         width: e - at,
@@ -180,7 +181,7 @@ fn judge_qualities(s: &[u8], at: usize, count: usize, first: Line, last: Line) -
                 expected: p.bases as u64,
             });
         }
-        let e = lines::line_end(s, i);
+        let e = lines::ends::line_end(s, i);
         if !fits_partner(p, &s[i..e]) {
             let found = lines::base_count(&s[i..e]);
             return Qualities::Refused(Refusal::QualityLine {
@@ -201,5 +202,82 @@ fn refused(at: usize, x: Refusal) -> Step
     Step {
         answer: Indexed::Refused(x),
         next: at,
+    }
+}
+
+// The record at `at`, whose sequence lines are good, and whose name has this place in its definition line, which ends at `e`.
+fn index_qualities(s: &[u8], at: usize, e: usize, name: Span, body: Body) -> Step
+    requires { ⌜ GoodBody (now s) at e name body ⌝ }
+    ensures { λ r. ⌜ r ≡ sequenceSays at (e - at) name (linesAt (now (s .entry)) e) ⌝ }
+{
+    let next = body.next;
+    if s.len() <= next {
+        return refused(at, Refusal::NoPlusLine);
+    }
+    let q = lines::ends::line_end(s, next);
+    let first = body.first;
+    let last = body.last;
+    match judge_qualities(s, q, body.count, first, last) {
+        Qualities::Refused(x) => refused(at, x),
+        Qualities::Behind(behind) => {
+            let x = Record::unnamed(
+                body.bases as u64,
+                Offset(e as u64),
+                first.bases as u64,
+                first.width as u64,
+            );
+            let record = x.named((at + name.start) as u64, name.length as u64);
+            Step {
+                answer: Indexed::Row(QualityRow {
+                    record,
+                    qualities: Offset(q as u64),
+                }),
+                next: behind,
+            }
+        }
+    }
+}
+
+// The record at `at`, whose name has this place in its definition line, which ends at `e`.
+fn index_sequence(s: &[u8], at: usize, e: usize, name: Span) -> Step
+    requires { ⌜ (at < e) × (e ≤ length (now s)) × (name .start ≤ e - at) ⌝ }
+    ensures { λ r. ⌜ r ≡ sequenceSays at (e - at) name (linesAt (now (s .entry)) e) ⌝ }
+{
+    if body_ends(s, e) {
+        return refused(at, Refusal::NoBases { offset: e as u64 });
+    }
+    let first = line_at(s, e);
+    let next = e + first.width;
+    if first.bases == 0 {
+        return refused(
+            at,
+            Refusal::NoBases {
+                offset: next as u64,
+            },
+        );
+    }
+    match index_rest(s, next, first) {
+        Sequence::Refused(x) => refused(at, x),
+        Sequence::Lines(body) => index_qualities(s, at, e, name, body),
+    }
+}
+
+// Indexes the record at `at` of a file that is not too long.
+pub fn index_at(s: &[u8], at: usize) -> Step
+    ensures { λ r. ⌜ r ≡ recordAt (now (s .entry)) at ⌝ }
+{
+    if s.len() <= at {
+        return Step {
+            answer: Indexed::End,
+            next: at,
+        };
+    }
+    let e = lines::ends::line_end(s, at);
+    match definition::parse_marked(&s[at..e], b'@') {
+        Parsed::Named(d) => {
+            let name = d.name;
+            index_sequence(s, at, e, name)
+        }
+        Parsed::Bad(f) => refused(at, f.refusal((at + f.place()) as u64, 0)),
     }
 }

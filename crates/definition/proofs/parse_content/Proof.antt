@@ -30,8 +30,8 @@ returns-3 c =
     let b = c .before .before in
     says-no-name _ _ (b .before .before .if1 .left) (b .if2 .left) _ (c .before .run-end .ensures) (c .if3 .taken)
 
-sub-t6 : tie.Need-sub-t6
-sub-t6 c = search needs
+sub-t7 : tie.Need-sub-t7
+sub-t7 c = search needs
 
 run-end-requires-2 : tie.Need-run-end-requires-2
 run-end-requires-2 c κs = search needs
@@ -56,8 +56,8 @@ named c r e =
 returns-4 : tie.Need-returns-4
 returns-4 c = named (c .before) _ (described-none (c .before .before .run-end2 .result) (c .before .kept-end .result - c .before .before .run-end2 .result) (omega arith))
 
-sub-t6-2 : tie.Need-sub-t6-2
-sub-t6-2 c = search needs
+sub-t7-2 : tie.Need-sub-t7-2
+sub-t7-2 c = search needs
 
 returns-5 : tie.Need-returns-5
 returns-5 c = named (c .before) _ (described-some (c .before .before .run-end2 .result) (c .before .kept-end .result - c .before .before .run-end2 .result) (omega (arith, c .before .kept-end .ensures)))
@@ -71,9 +71,9 @@ parse-content-spec =
     returns-2
     run-end-requires
     returns-3
-    sub-t6
+    sub-t7
     run-end-requires-2
     kept-end-requires
     returns-4
-    sub-t6-2
+    sub-t7-2
     returns-5)

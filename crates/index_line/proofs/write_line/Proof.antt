@@ -81,7 +81,7 @@ returns-3 c =
     let x = w .before .before .before .before .before .before in
     let n = x .before .before in
     let v = x .x .given .0 .0 in
-    rw (sym (n .before .before .over-limit .ensures) ∙ n .before .if1 .left, held x, ← add-sub-cancel-left (v .«name_start») (v .«name_length»)) 
+    rw (sym (n .before .before .over-limit .ensures) ∙ n .before .if1 .left, held x, ← add-sub-cancel-left (v .«name_start») (v .«name_length»))
     (w .write-text .ensures ∙ sym (within-both _ _ _ (not-over _ (omega (arith, length-take (v .«name_start» + v .«name_length» - v .«name_start») (drop (v .«name_start») (n .before .before .before .before .before .args .names .now)), inside x, small (x .before .before .before)))) (not-over 4 (omega arith))))
 
 pub write-line-spec : {M : Type 1} → statement M
