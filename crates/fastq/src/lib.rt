@@ -7,6 +7,7 @@ ghost use Prim.Native.Nat.{_+_, _-_, _≤_, _<_};
 ghost use lib.ListN.{length};
 ghost use Rattle.lines.specs.Lines.{none, firstLine};
 ghost use Rattle.fastq.specs.Fastq.{linesAt, bodyAt, lineSays, fitsPartner, sequenceSays, recordAt};
+ghost use Rattle.fastq.specs.Parts.{partOf};
 ghost use Rattle.fastq.specs.RecordLaws.{GoodBody};
 ghost use Rattle.fastq.specs.Steps.{restSays, partnersOf, partnerOf, qualitiesSay};
 use definition::Parsed;
@@ -20,6 +21,12 @@ use refusal::Refusal;
 pub struct QualityRow {
     pub record: Record,
     pub qualities: Offset,
+}
+
+// What of a record is read.
+pub enum Part {
+    Bases,
+    Qualities,
 }
 
 // What is at a place: a record's row, or the end of the file, or a refusal.
@@ -279,5 +286,30 @@ pub fn index_at(s: &[u8], at: usize) -> Step
             index_sequence(s, at, e, name)
         }
         Parsed::Bad(f) => refused(at, f.refusal((at + f.place()) as u64, 0)),
+    }
+}
+
+impl QualityRow {
+    // The record of one part: the addressing rule leads to its bases, or to its qualities.
+    pub fn part(self, part: Part) -> Record
+        ensures { λ r. ⌜ r ≡ partOf part self ⌝ }
+    {
+        let x = self.record;
+        match part {
+            Part::Bases => x,
+            Part::Qualities => {
+                let position = self.qualities;
+                Record {
+                    name_start: x.name_start,
+                    name_length: x.name_length,
+                    length: x.length,
+                    position,
+                    line_bases: x.line_bases,
+                    line_width: x.line_width,
+                    description_start: x.description_start,
+                    description_length: x.description_length,
+                }
+            }
+        }
     }
 }
