@@ -1,0 +1,2 @@
+pub mod SixColumns
+pub mod Laws
