@@ -43,24 +43,23 @@ module _ (x : QualityRow) (at n : ℕ) (some : 1 ≤ n) (name : Span) where
       go judged.Good [] q = let z : _≡_ {A = ℕ} 0 1 = cc in absurd (omega arith)
       go judged.Good (p ∷ qs) q = good (length p) qs (qualitiesOf (map lineOf (bodyOf ls)) qs) q
 
+record-here : (s : List ℕ) (at : ℕ) (x : QualityRow) → recordAt s at .answer ≡ indexed.Row x → at < length s → at < recordAt s at .next
+unfolding recordAt
+record-here s at x e h =
+    let n : 1 ≤ length (part s at (lineEnd s at)) = omega (arith, part-length s at (lineEnd s at) (lineEnd-le s at (omega arith)), lineEnd-gt s at h) in
+    rw (linesAt-cut s at h) (said n (markedSays 64 (contentOf (part s at (lineEnd s at)))) (rw (linesAt-cut s at h) at e))
+  where
+    said : 1 ≤ length (part s at (lineEnd s at)) → (p : Parsed)
+        → definedSays at (length (part s at (lineEnd s at))) (linesAt s (lineEnd s at)) p .answer ≡ indexed.Row x
+        → at < definedSays at (length (part s at (lineEnd s at))) (linesAt s (lineEnd s at)) p .next
+    said n (Named d) q = grows x at (length (part s at (lineEnd s at))) n (d .name) (linesAt s (lineEnd s at)) q
+    said n (Bad f) q = let z : _≡_ {A = ℕ} 0 1 = cc in absurd (omega arith)
+
 record-moves : (s : List ℕ) (at : ℕ) (x : QualityRow) → recordAt s at .answer ≡ indexed.Row x → (at < length s) × (at < recordAt s at .next)
 record-moves s at x e = go (ltb at (length s)) refl
   where
-    here : (h : at < length s) → at < recordAt s at .next
-    unfolding recordAt
-    here h =
-        let l = part s at (lineEnd s at) in
-        let n : 1 ≤ length l = omega (arith, part-length s at (lineEnd s at) (lineEnd-le s at (omega arith)), lineEnd-gt s at h) in
-        rw (linesAt-cut s at h) (said n (markedSays 64 (contentOf l)) (rw (linesAt-cut s at h) at e))
-      where
-        said : 1 ≤ length (part s at (lineEnd s at)) → (p : Parsed)
-            → definedSays at (length (part s at (lineEnd s at))) (linesAt s (lineEnd s at)) p .answer ≡ indexed.Row x
-            → at < definedSays at (length (part s at (lineEnd s at))) (linesAt s (lineEnd s at)) p .next
-        said n (Named d) q = grows x at (length (part s at (lineEnd s at))) n (d .name) (linesAt s (lineEnd s at)) q
-        said n (Bad f) q = let z : _≡_ {A = ℕ} 0 1 = cc in absurd (omega arith)
-
     go : (t : Bool) → ltb at (length s) ≡ t → (at < length s) × (at < recordAt s at .next)
-    go true h = (ltb-true _ _ h, here (ltb-true _ _ h))
+    go true h = (ltb-true _ _ h, record-here s at x e (ltb-true _ _ h))
     go false h =
         let q : indexed.End ≡ indexed.Row x = ap (λ (r : Step). r .answer) (record-end s at (ltb-false _ _ h)) ∙ e in
         let z : _≡_ {A = ℕ} 0 1 = cc in

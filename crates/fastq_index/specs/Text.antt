@@ -6,7 +6,6 @@ use lib.ListN.{length, drop}
 use Rattle.refusal.specs.Numbers.{overLimit}
 use Rattle.refusal.specs.declared.Refusal.the-variants.{TooLong}
 use Rattle.lines.specs.Lines.{lines}
-use Rattle.index.specs.Index as index
 use Rattle.fastq.specs.declared.QualityRow.{QualityRow}
 use Rattle.fastq_table.specs.Fill.{Found, nothing, withFirst, heldIn}
 use Rattle.table.specs.declared.Stop.the-variants.{Ended, Refused}
@@ -18,7 +17,20 @@ use Rattle.fastq_index.specs.declared.LineRow.the-variants as row
 
 -- a line's row, its name a span of the whole text, in which the line begins at an offset
 abbrev pub placedAt : ℕ → QualityRow → QualityRow
-placedAt at x = record { «record» = index.placedAt at (x .«record»); qualities = x .qualities }
+placedAt at x =
+    record {
+      «record» = record {
+        «name_start» = at;
+        «name_length» = x .«record» .«name_length»;
+        length = x .«record» .length;
+        position = x .«record» .position;
+        «line_bases» = x .«record» .«line_bases»;
+        «line_width» = x .«record» .«line_width»;
+        «description_start» = x .«record» .«description_start»;
+        «description_length» = x .«record» .«description_length»;
+      };
+      qualities = x .qualities;
+    }
 
 -- what a line says, which begins at an offset and ends at another
 abbrev pub rowAs : ℕ → ℕ → LineRead → LineRow

@@ -39,8 +39,8 @@ enum-known-read-2 c = search needs
 
 returns-2 : tie.Need-returns-2
 returns-2 c =
-    let l = c .before .before .before .before .before .before .before in
-    rw (c .named .ensures) (row-here _ _ _ (l .before .if1 .left) _ (l .line-end .ensures) _ _ (c .before .before .before .before .before .parse-line .ensures) (c .before .before .before .read .given .1))
+    let l = c .before .before .before .before .before .before .before .before .before in
+    rw (c .named .ensures) (row-here _ _ _ (l .before .if1 .left) _ (l .line-end .ensures) _ _ (c .before .before .before .before .before .before .before .parse-line .ensures) (c .before .before .before .before .before .read .given .1))
 
 returns-3 : tie.Need-returns-3
 returns-3 c =
