@@ -273,7 +273,7 @@ line-same l m b w =
     ap (λ (n : ℕ). record { width = n; bases = l .bases }) w ∙ ap (λ (n : ℕ). record { width = m .width; bases = n }) b
 
 -- a good line that is not the last is like the first
-good-same : (first l : Line) → lineSays first false l ≡ judged.Good → l ≡ first
+pub good-same : (first l : Line) → lineSays first false l ≡ judged.Good → l ≡ first
 unfolding lineSays fitsLast
 good-same first l e = blank (eqb (l .bases) 0) e
   where
@@ -292,7 +292,7 @@ good-same first l e = blank (eqb (l .bases) 0) e
     blank true q = let z : _≡_ {A = ℕ} 0 1 = cc in absurd (omega arith)
     blank false q = bases (eqb (l .bases) (first .bases)) refl q
 
-then-good : (v w : Verdict) → andThen v w ≡ judged.Good → (v ≡ judged.Good) × (w ≡ judged.Good)
+pub then-good : (v w : Verdict) → andThen v w ≡ judged.Good → (v ≡ judged.Good) × (w ≡ judged.Good)
 then-good judged.Good w e = (refl, e)
 then-good (judged.Bad x) w e = let z : _≡_ {A = ℕ} 0 1 = cc in absurd (omega arith)
 

@@ -3,3 +3,5 @@ pub mod Steps
 pub mod Laws
 pub mod RecordLaws
 pub mod Parts
+pub mod Leading
+pub mod Examples
