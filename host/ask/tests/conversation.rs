@@ -1,16 +1,9 @@
 //! The library answers the examples as they stand, and as the model does.
 
 use ask::Library;
-use questions::family::EXAMPLES;
+use questions::family::{EXAMPLES, not_yet};
 use questions::form::answered;
 use questions::generate::Questions;
-
-/// Families of FASTQ, which the library does not answer yet: the model does.
-const NOT_YET: [&str; 6] = ["fqi ", "fqt ", "fql ", "fqw ", "fqr ", "fqc "];
-
-fn not_yet(line: &str) -> bool {
-    NOT_YET.iter().any(|family| line.starts_with(family))
-}
 
 const LIBRARY: Library = Library { program: None };
 
