@@ -9,17 +9,17 @@ use Rattle.refusal.specs.declared.Refusal.{Refusal}
 use Rattle.refusal.specs.declared.Refusal.the-variants.{EmptyIndexLine, FieldAbsent, NotANumber, ZeroField}
 use Rattle.lines.specs.Lines.{contentOf}
 use Rattle.lines.specs.Groups.{Group}
-use Rattle.index_line.specs.Decimal.{numberOf, plainNumber}
-use Rattle.index_line.specs.Fields.{zeroBarred, placed, fieldSays, Numbers, front, numbersFrom}
-use Rattle.index_line.specs.Fields.Numbers.{Are, Not}
+use Rattle.columns.specs.Decimal.{numberOf, plainNumber}
+use Rattle.columns.specs.Fields.{zeroBarred, placed, fieldSays, Numbers, front, numbersFrom}
+use Rattle.columns.specs.Fields.Numbers.{Are, Not}
 use Rattle.index_line.specs.IndexLine.{fieldsOf, entryRead, fieldsSay, plainEnd, onlyIf}
 use Rattle.index_line.specs.IndexLine as index
-use Rattle.index_line.specs.declared.Number.{Number}
-use Rattle.index_line.specs.declared.Number.the-variants.{Value, Bad}
+use Rattle.columns.specs.declared.Number.{Number}
+use Rattle.columns.specs.declared.Number.the-variants.{Value, Bad}
 use Rattle.index_line.specs.declared.LineRead.{LineRead}
 use Rattle.index_line.specs.declared.LineRead.the-variants as read
-use Rattle.index_line.specs.declared.fields.FieldRead.{FieldRead}
-use Rattle.index_line.specs.declared.fields.FieldRead.the-variants as field
+use Rattle.columns.specs.declared.fields.FieldRead.{FieldRead}
+use Rattle.columns.specs.declared.fields.FieldRead.the-variants as field
 use lib.ListN.{length}
 use Rattle.checker.specs.FirstFault.{LineFault}
 use Rattle.checker.specs.FirstFault.LineFault.{bad-line, other-name, other-length, other-place}

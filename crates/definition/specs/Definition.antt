@@ -59,7 +59,12 @@ namedOf s (suc n) =
       description = described (suc (suc n) + trim (drop (suc n) s) .start) (trim (drop (suc n) s) .length);
     })
 
--- what the content of a line says: the name is what follows '>', up to the first whitespace
+-- what the content of a line says that a mark begins: the name is what follows the mark, up to the first whitespace
+unfoldable pub markedSays : ℕ → List ℕ → Parsed
+markedSays mark [] = Bad Empty
+markedSays mark (b ∷ s) = cond (eqb b mark) (namedOf s (run (spaced false) s)) (Bad NoPrefix)
+
+-- and of a line whose mark is '>'
 unfoldable pub contentSays : List ℕ → Parsed
 contentSays [] = Bad Empty
 contentSays (b ∷ s) = cond (eqb b 62) (namedOf s (run (spaced false) s)) (Bad NoPrefix)

@@ -12,7 +12,7 @@ use native.Mathlib.Nat.{sub-zero}
 use Rattle.lines.specs.Lines.{part, contentOf}
 use Rattle.lines.specs.declared.Span.{Span}
 use Rattle.lines.specs.Laws.{part-none, part-snoc, part-length, content-le}
-use Rattle.definition.specs.Definition.{isSpace, spaced, run, kept, keep, described, namedOf, contentSays, definitionSays, failsAt}
+use Rattle.definition.specs.Definition.{isSpace, spaced, run, kept, keep, described, namedOf, markedSays, contentSays, definitionSays, failsAt}
 use Rattle.definition.specs.declared.Definition.{Definition}
 use Rattle.definition.specs.declared.Fault.{Fault}
 use Rattle.definition.specs.declared.Fault.the-variants.{Empty, NoPrefix, NoName}
@@ -92,35 +92,41 @@ pub described-some : (d n : ℕ) → 0 < n → described d n ≡ record { start 
 described-some d zero h = absurd (omega arith)
 described-some d (suc n) h = refl
 
-pub says-empty : (l : List ℕ) → length l ≡ 0 → Bad Empty ≡ contentSays l
-unfolding contentSays
-says-empty [] h = refl
-says-empty (b ∷ s) h = absurd (omega arith)
+-- a mark '>' is that of every line of this crate's other laws
+pub marked-prefix : (l : List ℕ) → markedSays 62 l ≡ contentSays l
+unfolding markedSays contentSays
+marked-prefix [] = refl
+marked-prefix (b ∷ s) = refl
 
-pub says-prefix : (l : List ℕ) → (length l ≡ 0 → ⊥) → (getD l 0 0 ≡ 62 → ⊥) → Bad NoPrefix ≡ contentSays l
-unfolding contentSays
-says-prefix [] z x = absurd (z refl)
-says-prefix (b ∷ s) z x = rw (ne-eqb b 62 x)
+pub says-empty : (mark : ℕ) (l : List ℕ) → length l ≡ 0 → Bad Empty ≡ markedSays mark l
+unfolding markedSays
+says-empty mark [] h = refl
+says-empty mark (b ∷ s) h = absurd (omega arith)
 
-module _ (l : List ℕ) (z : length l ≡ 0 → ⊥) (x : getD l 0 0 ≡ 62) (n : ℕ) (m : n ≡ 1 + run (spaced false) (drop 1 l)) where
-  pub says-no-name : n ≡ 1 → Bad NoName ≡ contentSays l
-  unfolding contentSays
+pub says-prefix : (mark : ℕ) (l : List ℕ) → (length l ≡ 0 → ⊥) → (getD l 0 0 ≡ mark → ⊥) → Bad NoPrefix ≡ markedSays mark l
+unfolding markedSays
+says-prefix mark [] z x = absurd (z refl)
+says-prefix mark (b ∷ s) z x = rw (ne-eqb b mark x)
+
+module _ (mark : ℕ) (l : List ℕ) (z : length l ≡ 0 → ⊥) (x : getD l 0 0 ≡ mark) (n : ℕ) (m : n ≡ 1 + run (spaced false) (drop 1 l)) where
+  pub says-no-name : n ≡ 1 → Bad NoName ≡ markedSays mark l
+  unfolding markedSays
   says-no-name y = go l z x m
     where
-      go : (T : List ℕ) → (length T ≡ 0 → ⊥) → getD T 0 0 ≡ 62 → n ≡ 1 + run (spaced false) (drop 1 T) → Bad NoName ≡ contentSays T
+      go : (T : List ℕ) → (length T ≡ 0 → ⊥) → getD T 0 0 ≡ mark → n ≡ 1 + run (spaced false) (drop 1 T) → Bad NoName ≡ markedSays mark T
       go [] w p q = absurd (w refl)
-      go (b ∷ s) w p q = let r : run (spaced false) s ≡ 0 = omega arith in rw (eq-eqb b 62 p, r)
+      go (b ∷ s) w p q = let r : run (spaced false) s ≡ 0 = omega arith in rw (eq-eqb b mark p, r)
 
   -- by the places that the code finds: the name's end, the description's start and end
   pub says-named : (d k : ℕ) → (n ≡ 1 → ⊥) → d ≡ n + run (spaced true) (drop n l) → k ≡ d + keep isSpace (drop d l)
-      → Named (record { name = record { start = 1; length = n - 1 }; description = described d (k - d) }) ≡ contentSays l
-  unfolding contentSays
+      → Named (record { name = record { start = 1; length = n - 1 }; description = described d (k - d) }) ≡ markedSays mark l
+  unfolding markedSays
   says-named d k y p q = go l z x m p q
     where
-      go : (T : List ℕ) → (length T ≡ 0 → ⊥) → getD T 0 0 ≡ 62 → n ≡ 1 + run (spaced false) (drop 1 T) → d ≡ n + run (spaced true) (drop n T)
-          → k ≡ d + keep isSpace (drop d T) → Named (record { name = record { start = 1; length = n - 1 }; description = described d (k - d) }) ≡ contentSays T
+      go : (T : List ℕ) → (length T ≡ 0 → ⊥) → getD T 0 0 ≡ mark → n ≡ 1 + run (spaced false) (drop 1 T) → d ≡ n + run (spaced true) (drop n T)
+          → k ≡ d + keep isSpace (drop d T) → Named (record { name = record { start = 1; length = n - 1 }; description = described d (k - d) }) ≡ markedSays mark T
       go [] w u v p q = absurd (w refl)
-      go (b ∷ s) w u v p q = rw (eq-eqb b 62 u) (some (run (spaced false) s) refl)
+      go (b ∷ s) w u v p q = rw (eq-eqb b mark u) (some (run (spaced false) s) refl)
         where
           some : (j : ℕ) → run (spaced false) s ≡ j → Named (record { name = record { start = 1; length = n - 1 }; description = described d (k - d) }) ≡ namedOf s j
           some zero e = absurd (y (omega arith))
@@ -156,11 +162,11 @@ spaced-not false true b e h = rw (← e)
 
 -- ---- where a name lies
 
--- a name lies in its line, behind the '>'
-pub name-within : (l : List ℕ) (d : Definition) → definitionSays l ≡ Named d
+-- a name lies in its line, behind the mark
+pub marked-within : (mark : ℕ) (l : List ℕ) (d : Definition) → markedSays mark (contentOf l) ≡ Named d
     → (d .name .start ≡ 1) × (1 ≤ d .name .length) × (d .name .start + d .name .length ≤ length l)
-unfolding definitionSays contentSays
-name-within l d h = go (contentOf l) (content-le l) h
+unfolding markedSays
+marked-within mark l d h = go (contentOf l) (content-le l) h
   where
     some : (s : List ℕ) (n : ℕ) → n ≤ length s → suc (length s) ≤ length l → namedOf s n ≡ Named d
         → (d .name .start ≡ 1) × (1 ≤ d .name .length) × (d .name .start + d .name .length ≤ length l)
@@ -172,14 +178,19 @@ name-within l d h = go (contentOf l) (content-le l) h
         let q : d .name .length ≡ suc n = ap (λ (x : Definition). x .name .length) v in
         (p, omega arith, omega arith)
 
-    go : (t : List ℕ) → length t ≤ length l → contentSays t ≡ Named d → (d .name .start ≡ 1) × (1 ≤ d .name .length) × (d .name .start + d .name .length ≤ length l)
+    go : (t : List ℕ) → length t ≤ length l → markedSays mark t ≡ Named d → (d .name .start ≡ 1) × (1 ≤ d .name .length) × (d .name .start + d .name .length ≤ length l)
     go [] a e = let z : _≡_ {A = ℕ} 0 1 = cc in absurd (omega arith)
-    go (b ∷ s) a e = prefixed (eqb b 62) e
+    go (b ∷ s) a e = prefixed (eqb b mark) e
       where
         prefixed : (t : Bool) → cond t (namedOf s (run (spaced false) s)) (Bad NoPrefix) ≡ Named d
             → (d .name .start ≡ 1) × (1 ≤ d .name .length) × (d .name .start + d .name .length ≤ length l)
         prefixed true e = some s (run (spaced false) s) (run-le (spaced false) s) a e
         prefixed false e = let z : _≡_ {A = ℕ} 0 1 = cc in absurd (omega arith)
+
+pub name-within : (l : List ℕ) (d : Definition) → definitionSays l ≡ Named d
+    → (d .name .start ≡ 1) × (1 ≤ d .name .length) × (d .name .start + d .name .length ≤ length l)
+unfolding definitionSays
+name-within l d h = marked-within 62 l d (marked-prefix (contentOf l) ∙ h)
 
 -- what is kept behind some bytes
 pub keep-drop : (p : ℕ → Bool) (i : ℕ) (s : List ℕ) → keep p (drop i s) ≡ keep p s - i

@@ -3,7 +3,8 @@
 ghost use mathlib.Core.Path.{_≡_};
 ghost use Prim.Native.Nat.{_+_, _≤_};
 ghost use lib.ListN.{length, drop};
-ghost use Rattle.definition.specs.Definition.{isSpace, spaced, run, keep, contentSays, definitionSays, failsAt, refusalOf, readAs, contentRead, lineRead};
+ghost use Rattle.lines.specs.Lines.{contentOf};
+ghost use Rattle.definition.specs.Definition.{isSpace, spaced, run, keep, markedSays, contentSays, definitionSays, failsAt, refusalOf, readAs, contentRead, lineRead};
 use lines::Span;
 use refusal::Refusal;
 
@@ -81,14 +82,14 @@ fn kept_end(l: &[u8], at: usize) -> usize
     i
 }
 
-// What the content of a definition line says: the line without its end.
-fn parse_definition(content: &[u8]) -> Parsed
-    ensures { λ r. ⌜ r ≡ contentSays (now (content .entry)) ⌝ }
+// What the content of a definition line that a mark begins says: the line without its end.
+fn parse_content(content: &[u8], mark: u8) -> Parsed
+    ensures { λ r. ⌜ r ≡ markedSays mark (now (content .entry)) ⌝ }
 {
     if content.len() == 0 {
         return Parsed::Bad(Fault::Empty);
     }
-    if content[0] != b'>' {
+    if content[0] != mark {
         return Parsed::Bad(Fault::NoPrefix);
     }
     let n = run_end(content, 1, false);
@@ -117,6 +118,21 @@ fn parse_definition(content: &[u8]) -> Parsed
             length: k - d,
         },
     })
+}
+
+// What the content of a definition line says.
+fn parse_definition(content: &[u8]) -> Parsed
+    ensures { λ r. ⌜ r ≡ contentSays (now (content .entry)) ⌝ }
+{
+    parse_content(content, b'>')
+}
+
+// What a definition line that a mark begins says, given with its end: a FASTQ file's begins with '@'.
+pub fn parse_marked(l: &[u8], mark: u8) -> Parsed
+    ensures { λ r. ⌜ r ≡ markedSays mark (contentOf (now (l .entry))) ⌝ }
+{
+    let e = lines::content_length(l);
+    parse_content(&l[..e], mark)
 }
 
 // What a definition line says, given with its end.

@@ -18,10 +18,10 @@ use Rattle.record.specs.Place.{placeOf, placesFrom, offsetOf, hasPlace, address
 use Rattle.table.specs.Rows.{wordsOf, words, rowCount, rowAt, usedAt, soundRow, heldOf, heldAt, namedIn, namedOf, namedAt}
 use Rattle.sequence.specs.Scan.{endsLine, skipped, scanFrom, scanAt, scanAll}
 use Rattle.table.specs.Fill.{heldIn}
-use Rattle.index_line.specs.Bytes.{firstWhere}
-use Rattle.index_line.specs.Decimal.{allDigits, valueFrom, numberFrom, digitsOf, numberOf, plainNumber, digits, widthFrom, width, decimalOf}
+use Rattle.columns.specs.Bytes.{firstWhere}
+use Rattle.columns.specs.Decimal.{allDigits, valueFrom, numberFrom, digitsOf, numberOf, plainNumber, digits, widthFrom, width, decimalOf}
 use Rattle.output.specs.Outcome.{Outcome, leaves, pours}
-use Rattle.index_line.specs.Fields.{cutAt, fieldSays, numbersFrom, tabbed, textOf, textWritten}
+use Rattle.columns.specs.Fields.{cutAt, fieldSays, numbersFrom, tabbed, textOf, textWritten}
 use Rattle.index_line.specs.IndexLine.{fieldsOf, plainEnd, nameOf, nameIn, lineWritten, writtenAs}
 use Rattle.index_line.specs.IndexLine as index
 use Rattle.indexer.specs.Rule.{sequenceBy, groupsBy, fileBy, callBy}

@@ -12,8 +12,8 @@ use Rattle.table.specs.declared.Held.{Held}
 use Rattle.table.specs.declared.Held.the-variants as held
 use Rattle.table.specs.Rows.{namedAt}
 use Rattle.output.specs.Outcome.{Outcome, refuses}
-use Rattle.index_line.specs.Fields.{cutAt, Numbers, numbersFrom, textOf, textWritten}
-use Rattle.index_line.specs.Fields.Numbers.{Are, Not}
+use Rattle.columns.specs.Fields.{cutAt, Numbers, numbersFrom, textOf, textWritten}
+use Rattle.columns.specs.Fields.Numbers.{Are, Not}
 use Rattle.output.specs.declared.Written.{Written}
 use Rattle.index_line.specs.declared.Entry.{Entry}
 use Rattle.index_line.specs.declared.LineRead.{LineRead}

@@ -12,11 +12,11 @@ use Rattle.refusal.specs.declared.Refusal.the-variants.{EmptyIndexLine}
 use Rattle.lines.specs.Lines.{contentOf}
 use Rattle.lines.specs.Laws.{content-le, content-front}
 use Rattle.record.specs.declared.Record.{Record}
-use Rattle.index_line.specs.Fields.{cutAt, tabbed, Numbers, numbersFrom}
-use Rattle.index_line.specs.Fields.Numbers.{Are, Not}
-use Rattle.index_line.specs.Reading.{fieldLen, fieldLen-le, behind, cut-first}
-use Rattle.index_line.specs.Numbers.{Reads, numbers-read, reads-say, reads-allowed}
-use Rattle.index_line.specs.Cut.{cut-text}
+use Rattle.columns.specs.Fields.{cutAt, tabbed, Numbers, numbersFrom}
+use Rattle.columns.specs.Fields.Numbers.{Are, Not}
+use Rattle.columns.specs.Reading.{fieldLen, fieldLen-le, behind, cut-first}
+use Rattle.columns.specs.Numbers.{Reads, numbers-read, reads-say, reads-allowed}
+use Rattle.columns.specs.Cut.{cut-text}
 use Rattle.index_line.specs.IndexLine.{fieldsOf, recordOf, entryRead, fieldsSay, contentSays, plainEnd, onlyIf, indexLineSays, nameOf}
 use Rattle.index_line.specs.declared.Entry.{Entry}
 use Rattle.index_line.specs.declared.LineRead.{LineRead}

@@ -9,9 +9,9 @@ use lib.Dec.{eqb}
 use borrow.Author.Tests.{eq-eqb, eqb-true, ne-eqb}
 use Rattle.lines.specs.Lines.{lineLen}
 use Rattle.record.specs.declared.Record.{Record}
-use Rattle.index_line.specs.Bytes.{is, firstWhere}
-use Rattle.index_line.specs.Fields.{numbersText, textOf, splits}
-use Rattle.index_line.specs.Lacks.{Lacks, lacks-head, lacks-tail, lacks-cons, lacks-append, text-lacks, splits-lf}
+use Rattle.columns.specs.Bytes.{is, firstWhere}
+use Rattle.columns.specs.Fields.{numbersText, textOf, splits}
+use Rattle.columns.specs.Lacks.{Lacks, lacks-head, lacks-tail, lacks-cons, lacks-append, text-lacks, splits-lf}
 use Rattle.index_line.specs.IndexLine.{oneLine, columnsOf, lineOf}
 
 one-length : (c : List ℕ) → Lacks (is 10) c → lineLen (c ++ (10 ∷ [])) ≡ length (c ++ (10 ∷ []))

@@ -9,11 +9,11 @@ use borrow.Author.Tests.{le-ltb}
 use Rattle.table.specs.declared.Held.the-variants as held
 use Rattle.table.specs.Rows.{namedAt, rowCount, rowAt, withRow}
 use Rattle.table.specs.RowLaws.{length-withRow, row-stored}
-use Rattle.index_line.specs.Bytes.{firstWhere}
+use Rattle.columns.specs.Bytes.{firstWhere}
 use Rattle.output.specs.Outcome.{gives, pours}
-use Rattle.index_line.specs.Fields.{splits, textWritten}
-use Rattle.index_line.specs.Lacks.{Lacks}
-use Rattle.index_line.specs.Numbers.{both}
+use Rattle.columns.specs.Fields.{splits, textWritten}
+use Rattle.columns.specs.Lacks.{Lacks}
+use Rattle.columns.specs.Numbers.{both}
 use Rattle.index_line.specs.IndexLine.{oneLine, readLine, lineOf, nameIn, lineWritten, writtenAs}
 use Rattle.index_line.specs.Laws.{line-sound}
 use Rattle.index_line.specs.RoundTrip.{plain-writes}

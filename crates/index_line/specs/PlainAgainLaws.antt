@@ -12,11 +12,11 @@ use Rattle.record.specs.declared.Record.{Record}
 use Rattle.table.specs.declared.Held.the-variants as held
 use Rattle.table.specs.Rows.{namedAt, rowCount, rowAt}
 use Rattle.table.specs.RowLaws.{held-row, named-row, name-inside}
-use Rattle.index_line.specs.Bytes.{is, firstWhere}
-use Rattle.index_line.specs.Fields.{splits}
-use Rattle.index_line.specs.Reading.{fieldLen, cut-first}
-use Rattle.index_line.specs.Lacks.{Lacks, first-lacks, lacks-take, lacks-splits}
-use Rattle.index_line.specs.Numbers.{both}
+use Rattle.columns.specs.Bytes.{is, firstWhere}
+use Rattle.columns.specs.Fields.{splits}
+use Rattle.columns.specs.Reading.{fieldLen, cut-first}
+use Rattle.columns.specs.Lacks.{Lacks, first-lacks, lacks-take, lacks-splits}
+use Rattle.columns.specs.Numbers.{both}
 use Rattle.index_line.specs.Ends.{plain-content}
 use Rattle.index_line.specs.OneLine.{one-lacks}
 use Rattle.index_line.specs.IndexLine.{plainEnd, oneLine, onlyIf, nameOf, indexLineSays, readLine}

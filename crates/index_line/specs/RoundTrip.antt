@@ -14,14 +14,14 @@ use Rattle.record.specs.declared.Record.{Record}
 use Rattle.table.specs.declared.Held.the-variants as held
 use Rattle.table.specs.Rows.{namedAt}
 use Rattle.table.specs.RowLaws.{held-known, named-known}
-use Rattle.index_line.specs.Bytes.{is}
-use Rattle.index_line.specs.Decimal.{decimalOf}
+use Rattle.columns.specs.Bytes.{is}
+use Rattle.columns.specs.Decimal.{decimalOf}
 use Rattle.output.specs.Outcome.{leaves}
-use Rattle.index_line.specs.Fields.{tabbed, numbersText, textOf}
-use Rattle.index_line.specs.Lacks.{Lacks, splits-tab}
+use Rattle.columns.specs.Fields.{tabbed, numbersText, textOf}
+use Rattle.columns.specs.Lacks.{Lacks, splits-tab}
 use Rattle.index_line.specs.OneLine.{line-one}
-use Rattle.index_line.specs.Numbers.{both, reads-text, reads-count}
-use Rattle.index_line.specs.Cut.{cut-text, cut-most}
+use Rattle.columns.specs.Numbers.{both, reads-text, reads-count}
+use Rattle.columns.specs.Cut.{cut-text, cut-most}
 use Rattle.index_line.specs.Ends.{content-lf, plain-lf, plain-content}
 use Rattle.index_line.specs.IndexLine.{entryOf, plainEnd, indexLineSays, readLine, columnsOf, lineOf, nameIn, writtenAs}
 use Rattle.index_line.specs.Laws.{Lined, line-known, fields-cut}

@@ -16,15 +16,15 @@ use Rattle.table.specs.declared.Held.{Held}
 use Rattle.table.specs.declared.Held.the-variants as held
 use Rattle.table.specs.Rows.{namedAt, rowAt}
 use Rattle.table.specs.RowLaws.{HeldRow, named-known}
-use Rattle.index_line.specs.Bytes.{is}
-use Rattle.index_line.specs.Decimal.{decimalOf}
+use Rattle.columns.specs.Bytes.{is}
+use Rattle.columns.specs.Decimal.{decimalOf}
 use Rattle.output.specs.Outcome.{leaves, refuses}
 use Rattle.output.specs.Laws.{no-bytes}
-use Rattle.index_line.specs.Fields.{cutAt, tabbed, numbersText, textOf}
-use Rattle.index_line.specs.Writing.{TextPut, text-known}
-use Rattle.index_line.specs.Lacks.{Lacks, lacks-ends, text-lacks}
-use Rattle.index_line.specs.Numbers.{Allowed, text-reads, reads-say}
-use Rattle.index_line.specs.Cut.{text-cut}
+use Rattle.columns.specs.Fields.{cutAt, tabbed, numbersText, textOf}
+use Rattle.columns.specs.Writing.{TextPut, text-known}
+use Rattle.columns.specs.Lacks.{Lacks, lacks-ends, text-lacks}
+use Rattle.columns.specs.Numbers.{Allowed, text-reads, reads-say}
+use Rattle.columns.specs.Cut.{text-cut}
 use Rattle.index_line.specs.Ends.{ends-behind}
 use Rattle.index_line.specs.IndexLine.{entryOf, fieldsOf, recordOf, contentSays, columnsOf, lineOf, nameIn, rowWritten, lineWritten, writtenAs}
 use Rattle.index_line.specs.Laws.{Lined}

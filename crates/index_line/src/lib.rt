@@ -2,10 +2,8 @@
 // with tabs between, and an LF. Refused in reading: 9, an empty line; 10, a field that is absent; 11, one that is no number; 12, a 0 in
 // field 4 or 5. In writing: 25, a row that is not there or not sound; 13, a name with a tab or an LF; 14, no room. 1 comes first in the
 // calls on a line that stands alone and in writing.
-mod decimal;
-mod fields;
-
-use fields::NumbersRead;
+use columns::fields;
+use columns::fields::NumbersRead;
 use output::Written;
 use record::Offset;
 use record::Record;
@@ -17,12 +15,6 @@ ghost use Rattle.index_line.specs.IndexLine.{contentSays, onlyIf, indexL
 ghost use lib.ListN.{length};
 ghost use Rattle.output.specs.Outcome.{leaves};
 ghost use Rattle.table.specs.Rows.{namedOf};
-
-// A number read: its value, or that it is none.
-pub enum Number {
-    Value(u64),
-    Bad,
-}
 
 // What an index line says: a record, whose name's span counts from the line's start; and whether the line is plain, so that writing
 // its record gives the same bytes.

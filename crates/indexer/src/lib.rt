@@ -38,7 +38,7 @@ enum Rest {
 }
 
 // May a line be a record's last: no line follows, and neither width nor bases exceed the first line's.
-fn fits(last: bool, l: Line, first: Line) -> bool
+pub fn fits(last: bool, l: Line, first: Line) -> bool
     ensures { λ r. ⌜ r ≡ fitsLast last l first ⌝ }
 {
     if last {

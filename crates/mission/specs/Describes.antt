@@ -13,7 +13,7 @@ use Rattle.record.specs.Place.{placeIn}
 use Rattle.record.specs.declared.Record.{Record}
 use Rattle.table.specs.Fill.{Found}
 use Rattle.table.specs.declared.Stop.the-variants.{Ended}
-use Rattle.index_line.specs.Lacks.{Lacks}
+use Rattle.columns.specs.Lacks.{Lacks}
 use Rattle.index_line.specs.IndexLine.{nameIn}
 use Rattle.checker.specs.Check.{spanOf}
 use Rattle.checker.specs.Accepts.{recordAt, sequenceAt}

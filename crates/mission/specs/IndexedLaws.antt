@@ -36,14 +36,14 @@ use Rattle.table.specs.Fill.{Found, nothing, withFirst, heldIn}
 use Rattle.table.specs.Laws.{held-all}
 use Rattle.table.specs.declared.Stop.{Stop}
 use Rattle.table.specs.declared.Stop.the-variants as stop
-use Rattle.index_line.specs.Bytes.{is, firstWhere}
+use Rattle.columns.specs.Bytes.{is, firstWhere}
 use Rattle.output.specs.Outcome.{gives, pours}
-use Rattle.index_line.specs.Fields.{numbersText, textOf, splits, textWritten}
+use Rattle.columns.specs.Fields.{numbersText, textOf, splits, textWritten}
 use Rattle.output.specs.declared.Written.the-variants.{Bytes}
-use Rattle.index_line.specs.Lacks.{Lacks, lacks-head, lacks-tail, lacks-cons, lacks-less, text-lacks}
+use Rattle.columns.specs.Lacks.{Lacks, lacks-head, lacks-tail, lacks-cons, lacks-less, text-lacks}
 use Rattle.index_line.specs.IndexLine.{entryOf, columnsOf, nameOf, nameIn}
 use Rattle.index_line.specs.IndexLine as index
-use Rattle.index_line.specs.Numbers.{both}
+use Rattle.columns.specs.Numbers.{both}
 use Rattle.index_line.specs.Laws.{Lined, line-sound}
 use Rattle.index_line.specs.RoundTrip.{written-reads}
 use Rattle.indexer.specs.Rule.{Verdict, good, bad, SequenceRule, judgedBy, sequenceBy, definedBy, stepped, groupBy, groupsBy, fileBy, callBy}

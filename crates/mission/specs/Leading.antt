@@ -21,8 +21,8 @@ use Rattle.record.specs.declared.Record.{Record}
 use Rattle.table.specs.Fill.{Found, withFirst}
 use Rattle.table.specs.declared.Stop.{Stop}
 use Rattle.table.specs.declared.Stop.the-variants.{Ended}
-use Rattle.index_line.specs.Bytes.{is}
-use Rattle.index_line.specs.Lacks.{Lacks}
+use Rattle.columns.specs.Bytes.{is}
+use Rattle.columns.specs.Lacks.{Lacks}
 use Rattle.output.specs.Outcome.{gives}
 use Rattle.index_line.specs.IndexLine.{entryOf, columnsOf, lineOf, nameIn, lineWritten, writtenAs}
 use Rattle.index_line.specs.IndexLine as index

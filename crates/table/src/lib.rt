@@ -4,7 +4,7 @@
 // where names are looked at, a name or a description outside their bytes. A good record that finds no free row is refused (8). A table is
 // filled from its first row on: the rows before a refusal stand, and what is behind them stays as it was.
 pub mod bytes;
-mod numbers;
+pub mod numbers;
 
 use record::Offset;
 use record::Record;

@@ -40,14 +40,14 @@ fn to_bytes(number: u64, bytes: &mut [u8])
 }
 
 // How many numbers a table has.
-pub(crate) fn count(table: &[u8]) -> usize
+pub fn count(table: &[u8]) -> usize
     ensures { λ r. ⌜ r ≡ length (numbersIn (now (table .entry))) ⌝ }
 {
     table.len() / 8
 }
 
 // Number `k` of a table; 0 where it has none.
-fn number(table: &[u8], k: usize) -> u64
+pub fn number(table: &[u8], k: usize) -> u64
     ensures { λ r. ⌜ r ≡ getD (numbersIn (now (table .entry))) k 0 ⌝ }
 {
     if count(table) <= k {
@@ -58,7 +58,7 @@ fn number(table: &[u8], k: usize) -> u64
 }
 
 // Puts a number in the place of number `k` of a table, if it has one.
-fn put(table: &mut [u8], k: usize, number: u64)
+pub fn put(table: &mut [u8], k: usize, number: u64)
     ensures { λ _. ⌜ Became (now (table .entry)) (set (numbersIn (now (table .entry))) k number) (now (table .exit)) ⌝ }
 {
     if count(table) <= k {

@@ -12,7 +12,7 @@ use native.Mathlib.Numerals.{add-one}
 use native.Mathlib.Nat.{div-eq-of-lt, div-le-self, add-div-right}
 use Rattle.copying.specs.Copied.{afterCopy}
 use Rattle.copying.specs.Laws.{copy-whole}
-use Rattle.index_line.specs.Bytes.{overlaid, overlaid-none, overlaid-length, overlaid-next, overlaid-more, overlaid-zero}
+use Rattle.columns.specs.Bytes.{overlaid, overlaid-none, overlaid-length, overlaid-next, overlaid-more, overlaid-zero}
 use Rattle.output.specs.Outcome.{leaves, refuses, pours}
 use Rattle.output.specs.Laws.{pours-short, pours-fits}
 use Rattle.output.specs.declared.Written.the-variants.{Bytes}

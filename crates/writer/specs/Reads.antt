@@ -15,7 +15,7 @@ use Rattle.definition.specs.Definition.{isSpace, spaced, run, kept, keep, descr
 use Rattle.definition.specs.Laws.{described-some}
 use Rattle.definition.specs.declared.Definition.{Definition}
 use Rattle.definition.specs.declared.Parsed.the-variants.{Named}
-use Rattle.index_line.specs.Bytes.{is}
+use Rattle.columns.specs.Bytes.{is}
 use Rattle.output.specs.declared.Written.{Written}
 use Rattle.output.specs.Outcome.{leaves, refuses, pours}
 use Rattle.output.specs.Laws.{no-bytes, poured-known}

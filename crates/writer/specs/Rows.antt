@@ -9,7 +9,7 @@ use borrow.Author.Tests.{eq-eqb}
 use native.Mathlib.Omega.{arith}
 use Rattle.lines.specs.Lines.{lines, lineByte, chop, basesOf, begins, seqOf, allBases}
 use Rattle.lines.specs.Laws.{chop-hit, chop-keep}
-use Rattle.index_line.specs.Bytes.{is}
+use Rattle.columns.specs.Bytes.{is}
 use Rattle.writer.specs.Text.{rowsUpTo, lineOf, rowsText, anyOf, barred}
 use Rattle.writer.specs.Laws.{any-append}
 

@@ -8,7 +8,7 @@ use lib.Dec.{eqb}
 use Rattle.refusal.specs.Numbers.{overLimit}
 use Rattle.refusal.specs.declared.Refusal.the-variants.{TooLong, ZeroWidth, NameUnfit, DescriptionUnfit, BaseUnfit}
 use Rattle.definition.specs.Definition.{isSpace}
-use Rattle.index_line.specs.Bytes.{is, overlaid}
+use Rattle.columns.specs.Bytes.{is, overlaid}
 use Rattle.output.specs.declared.Written.{Written}
 use Rattle.output.specs.Outcome.{Outcome, refuses, pours}
 

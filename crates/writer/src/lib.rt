@@ -10,7 +10,7 @@ ghost use mathlib.Core.Bool.{_&&_};
 ghost use Prim.Native.Nat.{_+_, _≤_, _<_, min};
 ghost use lib.ListN.{length};
 ghost use Rattle.definition.specs.Definition.{isSpace};
-ghost use Rattle.index_line.specs.Bytes.{is, overlaid};
+ghost use Rattle.columns.specs.Bytes.{is, overlaid};
 ghost use Rattle.output.specs.Outcome.{leaves};
 ghost use Rattle.writer.specs.Text.{anyOf, nameUnfit, descriptionUnfit, barred, describedText, definitionText, sequenceText, tooLong, recordWritten, sequenceWritten, Put};
 

@@ -10,7 +10,7 @@ use Rattle.lines.specs.Lines.{lines, seqOf, seqAt, sumWidths}
 use Rattle.sequence.specs.Scan.{scanAll}
 use Rattle.sequence.specs.Clean.{has, Clean}
 use Rattle.sequence.specs.Agree.{rules-agree}
-use Rattle.index_line.specs.Bytes.{is}
+use Rattle.columns.specs.Bytes.{is}
 use Rattle.writer.specs.Text.{definitionText, rowsOf, lineOf, rowsText, recordText, anyOf, barred}
 use Rattle.writer.specs.Rows.{none-both, none-less, base-no-cr, base-no-prefix, bases-line, Good, row, good-rows, good-lines, good-seq}
 use Rattle.writer.specs.Reads.{Writable, text-behind, record-bases, no-more}

@@ -7,6 +7,7 @@ mod checker;
 mod complete;
 mod course;
 mod fed;
+mod fastq;
 mod lines;
 mod primers;
 mod reads;
@@ -22,6 +23,7 @@ use questions::form::Value::{
     self, Bounds, Bytes, MaybeBytes, MaybeNumber, Number, Numbers, Output, Regions, Rows, Stepped, Steps, Table,
 };
 use questions::form::{Answer, No, Speaker};
+use questions::row::row;
 use reads::{complemented, exact, raw, sequence, sheet};
 use rows::{file_rows, find, index_content, index_rows, is_plain, record, write_line};
 use windows::{needed, window};
@@ -87,7 +89,9 @@ impl Speaker for Model {
                 read.map(|row| vec![Numbers(row.to_vec()), Number(u64::from(is_plain(line)))]).into()
             }
             ("ixc", [Bytes(content)]) => index_content(content, 0, 1).map(|row| vec![Numbers(row.to_vec())]).into(),
-            ("ixt", [Bytes(index), Table(table)]) => index_rows(index, table).into(),
+            ("ixt", [Bytes(index), Table(table)]) => {
+                index_rows(index, table, |content, start, line| index_content(content, start, line).map(row)).into()
+            }
             ("wrl", [Bytes(names), Rows(rows), Number(row), Output(out)]) => write_line(names, rows, *row, out).into(),
             ("fnd", [Bytes(names), Rows(rows), Bytes(name)]) => find(names, rows, name).into(),
             ("exr", [Bytes(file), Rows(rows), Number(row), Bounds(bounds), Output(out)]) => {
@@ -129,6 +133,16 @@ impl Speaker for Model {
             ("scr", [Bytes(exercise), Bytes(typed), Bytes(file), Bytes(names), Rows(rows), Output(key)]) => {
                 course::score_exercise(exercise, typed, file, names, rows, key).into()
             }
+            ("fqi", [Bytes(file), Table(table)]) => file_rows(file, table, fastq::record).into(),
+            ("fqt", [Bytes(index), Table(table)]) => index_rows(index, table, fastq::line).into(),
+            ("fql", [Bytes(line)]) => fastq::line(content(line), 0, 1).map(|row| vec![Numbers(row.to_vec())]).into(),
+            ("fqw", [Bytes(names), Rows(rows), Number(row), Output(out)]) => {
+                fastq::write_line(names, rows, *row, out).into()
+            }
+            ("fqr", [Bytes(file), Rows(rows), Number(row), Bounds(bounds), Number(which), Output(out)]) => {
+                fastq::exact(file, rows, *row, *bounds, *which, out).into()
+            }
+            ("fqc", [Bytes(file), Bytes(index)]) => fastq::check(file, index).into(),
             ("chk", [Bytes(fasta), Bytes(index)]) => check(fasta, index).into(),
             ("prg", [Bytes(input)]) => Ok(vec![Bytes(program(input))]).into(),
             _ => return None,

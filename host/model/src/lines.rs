@@ -37,9 +37,14 @@ pub(crate) fn is_space(b: &u8) -> bool {
 
 /// Name start, name length, description start, description length. A refusal tells the place in the line at which it failed.
 pub(crate) fn definition(content: &[u8]) -> Result<[u64; 4], No> {
+    marked_definition(b'>', content)
+}
+
+/// The same of a definition line that another byte begins.
+pub(crate) fn marked_definition(mark: u8, content: &[u8]) -> Result<[u64; 4], No> {
     match content.first() {
         None => return no(2, 0, 0),
-        Some(b'>') => {}
+        Some(first) if *first == mark => {}
         Some(_) => return no(3, 0, 0),
     }
     let name_end = (1..content.len()).find(|i| is_space(&content[*i])).unwrap_or(content.len());

@@ -66,10 +66,10 @@ impl From<Filled> for Answer {
 }
 
 /// Rows of a file from its start on, each by a rule for one record.
-pub(crate) fn file_rows(
+pub(crate) fn file_rows<const W: usize>(
     file: &[u8],
     table: &mut [u64],
-    record: impl Fn(&[u8], u64) -> Result<Option<(Row, u64)>, No>,
+    record: impl Fn(&[u8], u64) -> Result<Option<([u64; W], u64)>, No>,
 ) -> Filled {
     let (mut at, mut stopped) = (0, false);
     let rows = std::iter::from_fn(|| {
@@ -92,17 +92,17 @@ pub(crate) fn file_rows(
 }
 
 /// Writes a row at a count of rows, or refuses where none is free.
-pub(crate) fn put_row(table: &mut [u64], count: usize, row: Row) -> Result<(), No> {
-    let whole = table.len() / WORDS;
+pub(crate) fn put_row<const W: usize>(table: &mut [u64], count: usize, row: [u64; W]) -> Result<(), No> {
+    let whole = table.len() / W;
     if count >= whole {
         return no(8, n(whole), 0);
     }
-    table[WORDS * count..][..WORDS].copy_from_slice(&row);
+    table[W * count..][..W].copy_from_slice(&row);
     Ok(())
 }
 
 /// Rows from a source of them, until it ends or refuses.
-pub(crate) fn fill(table: &mut [u64], rows: impl Iterator<Item = Result<Row, No>>) -> Filled {
+pub(crate) fn fill<const W: usize>(table: &mut [u64], rows: impl Iterator<Item = Result<[u64; W], No>>) -> Filled {
     let mut count = 0;
     for row in rows {
         if let Err(no) = row.and_then(|row| put_row(table, count, row)) {
@@ -113,8 +113,12 @@ pub(crate) fn fill(table: &mut [u64], rows: impl Iterator<Item = Result<Row, No>
     Filled { no: None, count: n(count) }
 }
 
-/// Rows of an index text; their names are spans of it.
-pub(crate) fn index_rows(index: &[u8], table: &mut [u64]) -> Filled {
+/// Rows of an index text, each by a rule for one line; their names are spans of it.
+pub(crate) fn index_rows<const W: usize>(
+    index: &[u8],
+    table: &mut [u64],
+    says: impl Fn(&[u8], u64, u64) -> Result<[u64; W], No>,
+) -> Filled {
     let mut at = 0;
     let lines = index.split_inclusive(|b| *b == b'\n');
     fill(
@@ -122,7 +126,7 @@ pub(crate) fn index_rows(index: &[u8], table: &mut [u64]) -> Filled {
         lines.zip(1..).map(|(line, number)| {
             let start = at;
             at += n(line.len());
-            index_content(content(line), start, number).map(row)
+            says(content(line), start, number)
         }),
     )
 }
@@ -142,23 +146,29 @@ pub(crate) fn number(field: &[u8]) -> Option<u64> {
 
 /// What an index line's content says, its name starting at `start`; refusals name this line or record.
 pub(crate) fn index_content(content: &[u8], start: u64, line: u64) -> Result<[u64; OF_A_LINE], No> {
+    columns(content, start, line)
+}
+
+/// What a content of as many columns says as there are numbers without the name's start: a name and so many numbers.
+pub(crate) fn columns<const W: usize>(content: &[u8], start: u64, line: u64) -> Result<[u64; W], No> {
     if content.is_empty() {
         return no(9, line, 0);
     }
-    let mut fields = content.splitn(5, |b| *b == b'\t');
+    let mut fields = content.splitn(W - 1, |b| *b == b'\t');
     let name = fields.next().expect("a first field");
-    let mut numbers = [start, n(name.len()), 0, 0, 0, 0];
-    for field in 2..=5 {
+    let mut numbers = [0; W];
+    (numbers[0], numbers[1]) = (start, n(name.len()));
+    for field in 2..W {
         let Some(text) = fields.next() else {
-            return no(10, line, field);
+            return no(10, line, n(field));
         };
         let Some(value) = number(text) else {
-            return no(11, line, field);
+            return no(11, line, n(field));
         };
-        if field >= 4 && value == 0 {
-            return no(12, line, field);
+        if matches!(field, 4 | 5) && value == 0 {
+            return no(12, line, n(field));
         }
-        numbers[field as usize] = value;
+        numbers[field] = value;
     }
     Ok(numbers)
 }

@@ -6,6 +6,12 @@ pub const WORDS: usize = 8;
 /// The numbers of a row that an index line gives: the span of its name, and four columns.
 pub const OF_A_LINE: usize = 6;
 
+/// The numbers of a row of a FASTQ file: the same as of a line, and the quality position.
+pub const FASTQ_WORDS: usize = 7;
+
+/// A row of a table of a FASTQ file.
+pub type FastqRow = [u64; FASTQ_WORDS];
+
 /// A row of a table.
 pub type Row = [u64; WORDS];
 

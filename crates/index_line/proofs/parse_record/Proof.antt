@@ -2,7 +2,7 @@
 -- Assumes nothing.
 use borrow.Author.Needs.{needs}
 use mathlib.Core.Path.{_≡_, sym, ap, _∙_}
-use Rattle.index_line.specs.Reading.{told}
+use Rattle.columns.specs.Reading.{told}
 use Rattle.index_line.specs.IndexLine.{entryRead, contentSays}
 use Rattle.index_line.specs.Laws.{content-empty, content-says}
 use Rattle.index_line.proofs.parse_record.Statement.{statement}

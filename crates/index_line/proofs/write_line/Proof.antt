@@ -11,6 +11,7 @@ use Rattle.refusal.specs.Numbers.{overLimit}
 use Rattle.table.specs.declared.Held.the-variants.{Row}
 use Rattle.table.specs.Rows.{namedOf}
 use Rattle.table.specs.RowLaws.{named-of}
+use Rattle.columns.specs.Writing.{within-both, not-over}
 use Rattle.index_line.specs.IndexLine.{nameIn, lineWritten}
 use Rattle.index_line.proofs.write_line.Statement.{statement}
 use Rattle.index_line.proofs.write_line.Tie as tie
@@ -62,10 +63,7 @@ slice-aggregate-write-text : tie.Need-slice-aggregate-write-text
 slice-aggregate-write-text c = search needs
 
 write-text-requires : tie.Need-write-text-requires
-write-text-requires c κs =
-    let x = c .before .before .before .before .before in
-    let v = x .x .given .0 .0 in
-    omega (arith, length-take (v .«name_start» + v .«name_length» - v .«name_start») (drop (v .«name_start») (x .before .before .before .before .before .before .before .args .names .now)), inside x, small (x .before .before .before))
+write-text-requires c κs = search needs
 
 returns-2 : tie.Need-returns-2
 unfolding lineWritten
@@ -83,7 +81,8 @@ returns-3 c =
     let x = w .before .before .before .before .before .before in
     let n = x .before .before in
     let v = x .x .given .0 .0 in
-    rw (sym (n .before .before .over-limit .ensures) ∙ n .before .if1 .left, held x, ← add-sub-cancel-left (v .«name_start») (v .«name_length»)) (w .write-text .ensures)
+    rw (sym (n .before .before .over-limit .ensures) ∙ n .before .if1 .left, held x, ← add-sub-cancel-left (v .«name_start») (v .«name_length»))
+    (w .write-text .ensures ∙ sym (within-both _ _ _ (not-over _ (omega (arith, length-take (v .«name_start» + v .«name_length» - v .«name_start») (drop (v .«name_start») (n .before .before .before .before .before .args .names .now)), inside x, small (x .before .before .before)))) (not-over 4 (omega arith))))
 
 pub write-line-spec : {M : Type 1} → statement M
 write-line-spec =

@@ -6,7 +6,7 @@ use borrow.Author.Needs.{needs}
 use native.Mathlib.Omega.{arith}
 use lib.ListN.{length, drop}
 use borrow.Author.Tests.{eq-eqb, ne-eqb}
-use Rattle.index_line.specs.Bytes.{is}
+use Rattle.columns.specs.Bytes.{is}
 use Rattle.writer.specs.Text.{anyOf}
 use Rattle.writer.specs.Laws.{any-hit, any-on, any-end}
 use Rattle.writer.proofs.any_lf.Statement.{statement}

@@ -5,7 +5,7 @@ use borrow.Author.Needs.{needs}
 use native.Mathlib.Omega.{arith}
 use lib.ListN.{length}
 use Rattle.copying.specs.Laws.{copy-whole}
-use Rattle.index_line.specs.Bytes.{overlaid-paste}
+use Rattle.columns.specs.Bytes.{overlaid-paste}
 use Rattle.writer.proofs.put_bytes.Statement.{statement}
 use Rattle.writer.proofs.put_bytes.Tie as tie
 

@@ -3,7 +3,7 @@
 use Prim.Native.Nat.{_+_, _≤_}
 use mathlib.Core.Path.{_≡_, ap, _∙_}
 use lib.ListN.{length, length-set}
-use Rattle.index_line.specs.Bytes.{overlaid-length}
+use Rattle.columns.specs.Bytes.{overlaid-length}
 use Rattle.writer.specs.Text.{describedText}
 use Rattle.writer.specs.Laws.{line-parts, name-length, definition-put}
 use borrow.Author.Needs.{needs}

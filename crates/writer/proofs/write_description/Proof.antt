@@ -4,7 +4,7 @@ use Prim.Native.Nat.{_+_, _≤_}
 use mathlib.Core.Path.{_≡_, ap, _∙_}
 use lib.ListN.{length, set, length-set}
 use borrow.Author.Tests.{not-true, not-false}
-use Rattle.index_line.specs.Bytes.{overlaid-length}
+use Rattle.columns.specs.Bytes.{overlaid-length}
 use Rattle.writer.specs.Laws.{description-none, description-size, description-put}
 use native.Mathlib.Omega.{arith}
 use Rattle.writer.proofs.write_description.Statement.{statement}

@@ -7,7 +7,7 @@ use borrow.Author.Needs.{needs}
 use native.Mathlib.Omega.{arith}
 use lib.ListN.{length, drop, length-set, length-drop}
 use Rattle.copying.specs.Copied.{afterCopy}
-use Rattle.index_line.specs.Bytes.{overlaid, overlaid-none}
+use Rattle.columns.specs.Bytes.{overlaid, overlaid-none}
 use Rattle.writer.specs.Text.{sequenceText}
 use Rattle.writer.specs.Laws.{text-none, line-size, line-length, line-put}
 use Rattle.writer.proofs.write_lines.Statement.{statement}

@@ -6,7 +6,7 @@ use lib.ListN.{length}
 use borrow.Author.Needs.{needs}
 use native.Mathlib.Omega.{arith}
 use borrow.Author.Tests.{eq-eqb, ne-eqb}
-use Rattle.index_line.specs.Bytes.{overlaid-length}
+use Rattle.columns.specs.Bytes.{overlaid-length}
 use Rattle.writer.specs.Text.{recordText, recordWritten}
 use Rattle.writer.specs.Laws.{short-enough, text-within, definition-within, record-size, front-no-room, record-put}
 use Rattle.writer.proofs.write_record.Statement.{statement}

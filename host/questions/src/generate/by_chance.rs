@@ -2,7 +2,7 @@
 
 use super::chance::{AWKWARD, Chance, NUMERALS};
 use crate::form::Bounds;
-use crate::row::{OF_A_LINE, Row, Rows, WORDS, described, row};
+use crate::row::{FASTQ_WORDS, OF_A_LINE, Row, Rows, WORDS, described, row};
 
 /// An output as it is lent: each of its bytes tells its place.
 pub(super) fn room(length: usize) -> Vec<u8> {
@@ -15,10 +15,13 @@ pub(super) fn table(numbers: usize) -> Vec<u64> {
 }
 
 /// A file made by chance, and what its rows should be before it is damaged.
-pub(super) struct Sample {
+pub(super) struct Sample<const W: usize = WORDS> {
     pub(super) text: Vec<u8>,
-    pub(super) rows: Vec<Row>,
+    pub(super) rows: Vec<[u64; W]>,
 }
+
+/// A FASTQ file made by chance.
+pub(super) type FastqSample = Sample<FASTQ_WORDS>;
 
 /// Line lengths around which blocks and buffers end.
 pub(super) const WIDTHS: [usize; 30] = [
@@ -84,6 +87,81 @@ fn add_record(chance: &mut Chance, sample: &mut Sample, end: &[u8]) {
     }
     let numbers = [name_start, name.len(), length, position, line_bases, line_bases + end.len()];
     sample.rows.push(described(numbers.map(|n| n as u64), description.map(|n| n as u64)));
+}
+
+/// A quality: any byte that is written for one, at times the bytes that begin other lines.
+fn quality(chance: &mut Chance) -> u8 {
+    if chance.once_in(100) { chance.one_of(b"\r \t\0\xff") } else { chance.one_of(b"@+!I>5?J#~@+") }
+}
+
+/// Some FASTQ records, whose sequences are of one line or of more.
+pub(super) fn fastq_sample(chance: &mut Chance) -> FastqSample {
+    let mut sample = FastqSample { text: vec![], rows: vec![] };
+    let end: &[u8] = if chance.once_in(3) { b"\r\n" } else { b"\n" };
+    for _ in 0..chance.one_of(&[0, 1, 1, 1, 2, 2, 3, 5]) {
+        add_fastq_record(chance, &mut sample, end);
+    }
+    if chance.once_in(4) {
+        let kept = sample.text.len() - chance.below(end.len() + 1).min(sample.text.len());
+        sample.text.truncate(kept);
+    }
+    if chance.once_in(8) {
+        sample.text.extend(chance.one_of(&[&b"\n"[..], b"\r\n", b"\r", b"+", b"@"]));
+    }
+    sample
+}
+
+fn add_fastq_record(chance: &mut Chance, sample: &mut FastqSample, end: &[u8]) {
+    let name = name(chance);
+    let name_start = sample.text.len() + 1;
+    let behind = chance.one_of(&[&b""[..], b"", b" about it", b"\tx y ", b" ", b"\x0cz"]);
+    sample.text.extend([&b"@"[..], &name, behind, end].concat());
+    let position = sample.text.len();
+    let line_bases = if chance.once_in(3) { chance.one_of(&WIDTHS) } else { 1 + chance.below(6) };
+    let whole = chance.one_of(&[0, 1, 1, 2, 2, 3, 4]);
+    let length = (whole * line_bases + chance.below(line_bases + 1)).clamp(1, 400);
+    let lines = |chance: &mut Chance, byte: fn(&mut Chance) -> u8| {
+        let bytes: Vec<u8> = (0..length).map(|_| byte(chance)).collect();
+        bytes.chunks(line_bases).flat_map(|line| [line, end].concat()).collect::<Vec<u8>>()
+    };
+    let (bases, qualities) = (lines(chance, base), lines(chance, quality));
+    sample.text.extend(bases);
+    let text = chance.one_of(&[&b""[..], b"", &name, b"\r", b"+"]);
+    sample.text.extend([&b"+"[..], text, end].concat());
+    let first = length.min(line_bases);
+    let numbers = [name_start, name.len(), length, position, first, first + end.len(), sample.text.len()];
+    sample.rows.push(numbers.map(|n| n as u64));
+    sample.text.extend(qualities);
+}
+
+/// A FASTQ file, damaged or not.
+pub(super) fn fastq_file(chance: &mut Chance) -> FastqSample {
+    let mut sample = fastq_sample(chance);
+    if chance.once_in(3) {
+        fastq_damage(chance, &mut sample.text);
+    } else {
+        damaged(chance, &mut sample.text);
+    }
+    sample
+}
+
+/// Damage that is FASTQ's own: a line's first byte, a line that is lost, and a blank one.
+pub(super) fn fastq_damage(chance: &mut Chance, text: &mut Vec<u8>) {
+    let from = chance.below(text.len() + 1);
+    let Some(lf) = text.iter().skip(from).position(|b| *b == b'\n') else { return };
+    let at = from + lf + 1;
+    match chance.below(5) {
+        0 => text.insert(at, chance.one_of(b"+@\n\r>")),
+        1 if at < text.len() => text[at] = chance.one_of(b"+@\n\rA"),
+        2 => {
+            let end = text[at..].iter().position(|b| *b == b'\n').map_or(text.len(), |lf| at + lf + 1);
+            text.drain(at..end);
+        }
+        3 => {
+            text.splice(at..at, chance.one_of(&[&b"\n"[..], b"\r\n", b"+\n", b"A\n"]).iter().copied());
+        }
+        _ => text.truncate(at),
+    }
 }
 
 /// Damages some bytes in one of the ways that files are damaged.
@@ -199,13 +277,18 @@ pub(super) fn some_room(chance: &mut Chance, enough: u64) -> Vec<u8> {
 
 /// A table with room for about so many rows, and at times a part of one more.
 pub(super) fn some_table(chance: &mut Chance, rows: usize) -> Vec<u64> {
+    some_table_of(chance, WORDS, rows)
+}
+
+/// The same, of rows with so many numbers.
+pub(super) fn some_table_of(chance: &mut Chance, words: usize, rows: usize) -> Vec<u64> {
     let rows = chance.one_of(&[rows, rows, rows + 1, rows.saturating_sub(1), 0, rows + 2]);
-    let rest = if chance.once_in(3) { chance.below(WORDS) } else { 0 };
-    table(WORDS * rows + rest)
+    let rest = if chance.once_in(3) { chance.below(words) } else { 0 };
+    table(words * rows + rest)
 }
 
 /// Rows that tell the truth, or lie in some of their numbers; and how many are said to be in use.
-pub(super) fn some_rows(chance: &mut Chance, rows: &[Row]) -> Rows {
+pub(super) fn some_rows<const W: usize>(chance: &mut Chance, rows: &[[u64; W]]) -> Rows {
     let mut numbers = rows.concat();
     if chance.once_in(2) && !numbers.is_empty() {
         for _ in 0..1 + chance.below(3) {
@@ -214,7 +297,7 @@ pub(super) fn some_rows(chance: &mut Chance, rows: &[Row]) -> Rows {
         }
     }
     if chance.once_in(8) {
-        numbers.extend(table(1 + chance.below(WORDS - 1)));
+        numbers.extend(table(1 + chance.below(W - 1)));
     }
     if chance.once_in(16) {
         numbers.truncate(chance.below(numbers.len() + 1));
@@ -260,13 +343,23 @@ pub(super) fn numeral(chance: &mut Chance, right: u64) -> Vec<u8> {
 
 /// An index text for some rows whose names lie in a file; some of its numbers lie, some of its lines are damaged.
 pub(super) fn index_text(chance: &mut Chance, file: &[u8], rows: &[Row]) -> Vec<u8> {
+    index_text_of(chance, file, rows, OF_A_LINE)
+}
+
+/// The same, where so many numbers of a row are those of a line.
+pub(super) fn index_text_of<const W: usize>(
+    chance: &mut Chance,
+    file: &[u8],
+    rows: &[[u64; W]],
+    of_a_line: usize,
+) -> Vec<u8> {
     let honest = chance.once_in(3);
     let end: &[u8] = if chance.once_in(4) { b"\r\n" } else { b"\n" };
     let mut text = vec![];
     for row in rows {
         let name = file.get(row[0] as usize..).and_then(|f| f.get(..row[1] as usize)).unwrap_or(b"gone");
         text.extend(if honest || !chance.once_in(8) { name } else { b"t" });
-        for right in &row[2..OF_A_LINE] {
+        for right in &row[2..of_a_line] {
             text.push(b'\t');
             if honest || !chance.once_in(6) {
                 text.extend(right.to_string().bytes());
@@ -286,8 +379,9 @@ pub(super) fn index_text(chance: &mut Chance, file: &[u8], rows: &[Row]) -> Vec<
 }
 
 /// The number of a row, at times of one that isn't there, and the row's own numbers.
-pub(super) fn a_row(chance: &mut Chance, sample: &Sample) -> (u64, Row) {
+pub(super) fn a_row<const W: usize>(chance: &mut Chance, sample: &Sample<W>) -> (u64, [u64; W]) {
     let number = chance.below(sample.rows.len());
-    let numbers = sample.rows.get(number).copied().unwrap_or(row([1, 1, 4, 3, 4, 5]));
+    let any = || std::array::from_fn(|word| row([1, 1, 4, 3, 4, 5])[word]);
+    let numbers = sample.rows.get(number).copied().unwrap_or_else(any);
     (if chance.once_in(12) { about(chance, number as u64) } else { number as u64 }, numbers)
 }

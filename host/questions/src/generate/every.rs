@@ -4,7 +4,7 @@ use super::Source;
 use super::by_chance::{room, table, written_length};
 use super::chance::{NUMERALS, NUMERALS_FOR_ALL};
 use crate::form::Value::{self, Bounds, Bytes, MaybeBytes, Number, Output, Rows, Table};
-use crate::row::{self, WORDS, row};
+use crate::row::{self, FASTQ_WORDS, WORDS, row};
 
 /// Every string over an alphabet, short ones first.
 fn strings(alphabet: &'static [u8], longest: u32) -> impl Iterator<Item = Vec<u8>> + Send + Clone {
@@ -189,6 +189,94 @@ pub(super) fn check() -> Source {
             let (length, position, bases, width) = (k % 5, 2 + k / 5 % 3, 1 + k / 15 % 3, 1 + k / 45 % 4);
             let index = format!("s\t{length}\t{position}\t{bases}\t{width}\n");
             vec![Bytes(fasta.clone()), Bytes(index.into_bytes())]
+        })
+    });
+    Box::new(few.chain(many))
+}
+
+// ---- FASTQ ----
+
+pub(super) fn fastq_file() -> Source {
+    let files = strings(b"@s\n\r+A ", 4).chain(after(b"@s\n", b"A\n\r+", 7)).chain(after(b"@s\nAA\n", b"A\n\r+", 7));
+    Box::new(files.map(|file| vec![Bytes(file), Table(table(2 * FASTQ_WORDS + 3))]))
+}
+
+/// Quality lines of one line, of two, and of a second record.
+pub(super) fn fastq_qualities() -> Source {
+    const FRONTS: [&[u8]; 5] =
+        [b"@s\nA\n+\n", b"@s\r\nA\r\n+\r\n", b"@s\nAA\nA\n+x\n", b"@s\nA\n+\nI\n@t\nAA\n+\n", b"@s\nA\nA\r\n+\n"];
+    let files = FRONTS.into_iter().flat_map(|front| after(front, b"@\n\r+", 5));
+    Box::new(files.flat_map(|file| [1, 2].map(|rows| vec![Bytes(file.clone()), Table(table(FASTQ_WORDS * rows))])))
+}
+
+pub(super) fn fastq_line() -> Source {
+    // the last two fields go through the numerals together with each of those before them
+    let many = (0..5 * NUMERALS_FOR_ALL.pow(2)).map(|k| {
+        let numeral = |place: u32| NUMERALS[k / 5 / NUMERALS_FOR_ALL.pow(place) % NUMERALS_FOR_ALL];
+        let mut fields = [&b"s"[..], b"4", b"3", b"60", b"61", numeral(0)];
+        fields[k % 5] = numeral(1);
+        let end: &[u8] = [&b"\n"[..], b"\r\n", b"", b"\r"][k / 4 % 4];
+        [&fields.join(&b'\t')[..], end].concat()
+    });
+    Box::new(strings(b"\t1s+\n", 6).chain(many).map(|text| vec![Bytes(text)]))
+}
+
+pub(super) fn fastq_index() -> Source {
+    const LINES: [&[u8]; 7] = [
+        b"", b"s\t4\t3\t4\t5\t10", b"\t0\t0\t1\t1\t+0", b"s\t4\t3\t4\t5", b"s\t4\t3\t4\t0\t1", b"t\t1\t1\t1\t1\tx",
+        b"s\t1\t1\t1\t1\t1\t1",
+    ];
+    const ENDS: [&[u8]; 4] = [b"\n", b"\r\n", b"\r", b""];
+    const SPACES: [usize; 5] = [0, FASTQ_WORDS, 2 * FASTQ_WORDS - 1, 2 * FASTQ_WORDS, 3 * FASTQ_WORDS];
+    let line = |k: usize| [LINES[k % 7], ENDS[k / 7 % 4]].concat();
+    let cases = (0..28 * 28).flat_map(|k| SPACES.map(|numbers| (k, numbers)));
+    Box::new(cases.map(move |(k, numbers)| {
+        let text = [line(k % 28), line(k / 28)].concat();
+        vec![Bytes(text), Table(table(numbers))]
+    }))
+}
+
+pub(super) fn fastq_written_line() -> Source {
+    let cases = (0..16 * 2 * 9).flat_map(|k| (0..16).map(move |space| (k, space)));
+    Box::new(cases.map(|(k, space)| {
+        let numbers = [[k % 4, k / 4 % 4, 10, 9, k / 16 % 2, 1, 20], [0, 1, 0, 0, 1, 1, 0]].concat();
+        let rows = row::Rows { numbers, in_use: k / 32 % 3 };
+        vec![Bytes(b"a\tb".to_vec()), Rows(rows), Number(k / 96), Output(room(space))]
+    }))
+}
+
+pub(super) fn fastq_read() -> Source {
+    const BOUNDS: [Option<u64>; 7] = [None, Some(0), Some(1), Some(2), Some(3), Some(4), Some(u64::MAX)];
+    const POSITIONS: [u64; 4] = [3, 9, 11, u64::MAX];
+    let held = (0..4 * 3 * 3 * 4 * 4)
+        .map(|k| [9, 9, k % 4, POSITIONS[k as usize / 36 % 4], k / 4 % 3, k / 12 % 3, POSITIONS[k as usize / 144]]);
+    Box::new(held.flat_map(move |row| {
+        (0..7 * 7 * 4).map(move |k| {
+            let (which, space) = (k / 49 % 2, [4, 1][k / 98]);
+            let bounds = (BOUNDS[k % 7], BOUNDS[k / 7 % 7]);
+            let rows = row::Rows { numbers: row.to_vec(), in_use: 1 };
+            let file = b"@s\nAC\nG\n+\nIJ\nK".to_vec();
+            vec![Bytes(file), Rows(rows), Number(0), Bounds(bounds), Number(which as u64), Output(room(space))]
+        })
+    }))
+}
+
+pub(super) fn fastq_check() -> Source {
+    const FILES: [&[u8]; 6] = [
+        b"@s\nA\n+\nI\n",
+        b"@s\nAA\nA\n+\nII\nI",
+        b"@s\nA\nA\n+\n@\n+\n",
+        b"@s\r\nAA\r\n+\r\nII",
+        b"@s\nAAA\n+x\nIII\n@t\nA\n+\nI\n",
+        b"@s\nA\n+\n",
+    ];
+    let few = strings(b"@s\n\t", 3)
+        .flat_map(|file| strings(b"s\n\t0", 3).map(move |index| vec![Bytes(file.clone()), Bytes(index)]));
+    let many = FILES.into_iter().flat_map(|file| {
+        (0..4 * 3 * 3 * 4 * 8).map(move |k| {
+            let (length, position, bases, width) = (k % 4, 2 + k / 4 % 3, 1 + k / 12 % 3, 1 + k / 36 % 4);
+            let index = format!("s\t{length}\t{position}\t{bases}\t{width}\t{}\n", 6 + k / 144);
+            vec![Bytes(file.to_vec()), Bytes(index.into_bytes())]
         })
     });
     Box::new(few.chain(many))

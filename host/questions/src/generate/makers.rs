@@ -1,15 +1,16 @@
 //! How the questions of each family are made: one entry for each.
 
 use super::by_chance::{
-    LETTERS, Sample, WIDTHS, a_row, about, damage, file, index_text, name, numeral, place, sample, some_bounds,
-    some_room, some_rows, some_table, spaced_file, wanted, written_length,
+    LETTERS, Sample, WIDTHS, a_row, about, damage, fastq_damage, fastq_file, fastq_sample, file, index_text,
+    index_text_of, name, numeral, place, sample, some_bounds, some_room, some_rows, some_table, some_table_of,
+    spaced_file, wanted, written_length,
 };
 use super::chance::Chance;
 use super::every::without_definition;
 use super::{Source, every};
 use crate::family::Kind;
 use crate::form::Value::{self, Bounds, Bytes, Number, Output, Rows, Table};
-use crate::row::{OF_A_LINE, WORDS};
+use crate::row::{FASTQ_WORDS, OF_A_LINE, WORDS};
 
 /// How the questions of a family are made.
 pub(super) struct Maker {
@@ -64,6 +65,12 @@ pub(super) const MAKERS: &[Maker] = &[
     maker("exd", 32, exercise, &[every::exercise]),
     maker("sco", 32, typed, &[every::typed]),
     maker("scr", 48, scored_exercise, &[every::scored_exercise]),
+    maker("fqi", 64, fastq_file_and_table, &[every::fastq_file, every::fastq_qualities]),
+    maker("fqt", 32, fastq_index, &[every::fastq_index]),
+    maker("fql", 16, fastq_line, &[every::fastq_line]),
+    maker("fqw", 16, fastq_written_line, &[every::fastq_written_line]),
+    maker("fqr", 48, fastq_read, &[every::fastq_read]),
+    maker("fqc", 48, fastq_pair, &[every::fastq_check]),
     maker("chk", 32, pair, &[every::check]),
     maker("prg", 1, program, &[every::program_limits]),
 ];
@@ -518,6 +525,59 @@ fn pair(chance: &mut Chance) -> Vec<Value> {
     let index = index_text(chance, &sample.text, &sample.rows);
     if chance.once_in(3) {
         damage(chance, &mut sample.text);
+    }
+    vec![Bytes(sample.text), Bytes(index)]
+}
+
+// ---- FASTQ ----
+
+fn fastq_file_and_table(chance: &mut Chance) -> Vec<Value> {
+    let sample = fastq_file(chance);
+    let table = some_table_of(chance, FASTQ_WORDS, sample.rows.len());
+    vec![Bytes(sample.text), Table(table)]
+}
+
+fn fastq_index(chance: &mut Chance) -> Vec<Value> {
+    let sample = fastq_sample(chance);
+    let text = index_text_of(chance, &sample.text, &sample.rows, FASTQ_WORDS);
+    vec![Bytes(text), Table(some_table_of(chance, FASTQ_WORDS, sample.rows.len()))]
+}
+
+fn fastq_line(chance: &mut Chance) -> Vec<Value> {
+    let numbers = [4, 3, 60, 61, 10].map(|right| numeral(chance, right));
+    let mut line = [&[name(chance)], &numbers[..]].concat().join(&b'\t');
+    line.extend(chance.one_of(&[&b"\n"[..], b"\n", b"\r\n", b"", b"\r"]));
+    if chance.once_in(4) {
+        damage(chance, &mut line);
+    }
+    vec![Bytes(line)]
+}
+
+fn fastq_written_line(chance: &mut Chance) -> Vec<Value> {
+    let sample = fastq_file(chance);
+    let (row, numbers) = a_row(chance, &sample);
+    let rows = some_rows(chance, &sample.rows);
+    let columns = numbers[2..].iter().map(|n| n.to_string().len() as u64 + 1).sum::<u64>();
+    vec![Bytes(sample.text), Rows(rows), Number(row), Output(some_room(chance, numbers[1] + columns + 1))]
+}
+
+fn fastq_read(chance: &mut Chance) -> Vec<Value> {
+    let sample = fastq_file(chance);
+    let (row, numbers) = a_row(chance, &sample);
+    let rows = some_rows(chance, &sample.rows);
+    let bounds = some_bounds(chance, numbers[2]);
+    let room = some_room(chance, wanted(bounds, numbers[2]));
+    let which = Number(chance.below(2) as u64);
+    vec![Bytes(sample.text), Rows(rows), Number(row), Bounds(bounds), which, Output(room)]
+}
+
+fn fastq_pair(chance: &mut Chance) -> Vec<Value> {
+    let mut sample = fastq_sample(chance);
+    let index = index_text_of(chance, &sample.text, &sample.rows, FASTQ_WORDS);
+    match chance.below(6) {
+        0 => damage(chance, &mut sample.text),
+        1 => fastq_damage(chance, &mut sample.text),
+        _ => {}
     }
     vec![Bytes(sample.text), Bytes(index)]
 }

@@ -1,0 +1,10 @@
+pub mod Bytes
+pub mod Decimal
+pub mod Fields
+pub mod Digits
+pub mod Reading
+pub mod Writing
+pub mod Lacks
+pub mod Cut
+pub mod Numbers
+pub mod Quick

@@ -1,0 +1,314 @@
+// A line of a name and numbers with tabs between, read by fields from the left, and written. How many numbers a line has is the
+// caller's to say, by the table of numbers that it lends.
+use crate::Number;
+use crate::decimal;
+use output::Written;
+use refusal::Refusal;
+ghost use mathlib.Core.Path.{_≡_};
+ghost use mathlib.Core.Bool.{true};
+ghost use Prim.Native.Nat.{_+_, _*_, _^_, _<_, _≤_};
+ghost use lib.ListN.{length, take, drop};
+ghost use Rattle.columns.specs.Bytes.{is, firstWhere, overlaid};
+ghost use Rattle.output.specs.Outcome.{leaves};
+ghost use Rattle.columns.specs.Fields.{zeroBarred, fieldSays, numbersFrom, numbersText, textOf, splits, textWritten, textWithin};
+ghost use Rattle.columns.specs.Reading.{fieldLen, behind, told};
+ghost use Rattle.columns.specs.Quick.{FrontDigits, endsAt, Quick, ReadAll};
+ghost use Rattle.columns.specs.Writing.{NumbersPut};
+
+// A field that is a number: its value, how many bytes it has, and whether it has no needless leading zero and no plus.
+pub struct Field {
+    pub value: u64,
+    pub length: usize,
+    pub plain: bool,
+}
+
+// A field read as a number, or why it is none.
+pub enum FieldRead {
+    Good(Field),
+    Refused(Refusal),
+}
+
+// All numbers are read, and none has a needless leading zero or a plus, or some have; or why they are not.
+pub enum NumbersRead {
+    All { plain: bool },
+    Refused(Refusal),
+}
+
+// The place of the first `b`; the length where there is none.
+fn first_byte(l: &[u8], b: u8) -> usize
+    ensures { λ r. ⌜ r ≡ firstWhere (is b) (now (l .entry)) ⌝ }
+{
+    let mut i = 0;
+    while i < l.len() {
+        if l[i] == b {
+            return i;
+        }
+        i += 1;
+    }
+    i
+}
+
+// How many bytes the first field of `l` has, where so many tabs cut.
+pub fn field_length(l: &[u8], tabs: usize) -> usize
+    ensures { λ r. ⌜ r ≡ fieldLen tabs (now (l .entry)) ⌝ }
+{
+    if tabs == 0 {
+        return l.len();
+    }
+    first_byte(l, b'\t')
+}
+
+// Is a value 0 where it may not be: in field 4 and in field 5.
+fn zero_barred(place: u64, value: u64) -> bool
+    ensures { λ r. ⌜ r ≡ zeroBarred place value ⌝ }
+{
+    if value != 0 {
+        return false;
+    }
+    if place == 4 {
+        return true;
+    }
+    place == 5
+}
+
+// Reads a field that is a number. Refusals tell the line and the field's place in it.
+fn whole_field(f: &[u8], line: u64, place: u64) -> FieldRead
+    ensures { λ r. ⌜ r ≡ fieldSays line place (now (f .entry)) ⌝ }
+{
+    match decimal::read_number(f) {
+        Number::Bad => FieldRead::Refused(Refusal::NotANumber { line, field: place }),
+        Number::Value(value) => {
+            if zero_barred(place, value) {
+                return FieldRead::Refused(Refusal::ZeroField { line, field: place });
+            }
+            let plain = decimal::plain_number(f);
+            FieldRead::Good(Field {
+                value,
+                length: f.len(),
+                plain,
+            })
+        }
+    }
+}
+
+// Reads the number at the front of `rest`, which is what stands behind a tab, and where so many more tabs cut.
+fn number_field(rest: &[u8], tabs: usize, line: u64, place: u64) -> FieldRead
+    ensures { λ r. ⌜ r ≡ fieldSays line place (take (fieldLen tabs (now (rest .entry))) (now (rest .entry))) ⌝ }
+{
+    let length = field_length(rest, tabs);
+    whole_field(&rest[..length], line, place)
+}
+
+// Reads as many numbers as the table has, one by one, and tells which is refused and why.
+fn read_each(content: &[u8], name: usize, line: u64, numbers: &mut [u64]) -> NumbersRead
+    ensures { λ r. ⌜ told r (now (numbers .exit)) ≡ numbersFrom line 2 (length (now (numbers .entry))) (behind (length (now (numbers .entry))) (drop name (now (content .entry)))) ⌝ }
+{
+    let mut tab = name;
+    let mut plain = true;
+    let mut place: u64 = 2;
+    let mut i = 0;
+    while i < numbers.len() {
+        if content.len() <= tab {
+            return NumbersRead::Refused(Refusal::FieldAbsent { line, field: place });
+        }
+        match number_field(&content[tab + 1..], numbers.len() - i - 1, line, place) {
+            FieldRead::Refused(r) => {
+                return NumbersRead::Refused(r);
+            }
+            FieldRead::Good(f) => {
+                numbers[i] = f.value;
+                plain = plain & f.plain;
+                tab = tab + 1 + f.length;
+            }
+        }
+        place += 1;
+        i += 1;
+    }
+    NumbersRead::All { plain }
+}
+
+// Some digits: their value, and how many they are.
+struct Digits {
+    value: u64,
+    count: usize,
+}
+
+// The digits at the front of `s`, up to those that are no more than the largest number whatever follows.
+fn front_digits(s: &[u8]) -> Digits
+    ensures { λ r. ⌜ FrontDigits (now (s .entry)) (r .value) (r .count) ⌝ }
+{
+    let mut value: u64 = 0;
+    let mut i = 0;
+    while i < s.len() {
+        let b = decimal::wide(s[i]);
+        if b < 48 {
+            return Digits { value, count: i };
+        }
+        if 57 < b {
+            return Digits { value, count: i };
+        }
+        if decimal::ROOMY <= value {
+            return Digits { value, count: i };
+        }
+        value = value * 10 + (b - 48);
+        i += 1;
+    }
+    Digits { value, count: i }
+}
+
+// Does a field end at a place: at a tab where more tabs cut, else at the end.
+fn field_ends(s: &[u8], at: usize, tabs: usize) -> bool
+    ensures { λ r. ⌜ r ≡ endsAt (now (s .entry)) at tabs ⌝ }
+{
+    if tabs == 0 {
+        return at == s.len();
+    }
+    if s.len() <= at {
+        return false;
+    }
+    s[at] == b'\t'
+}
+
+// A number at the front of `s`, as most are written: its first digit is 1 to 9. The length is 0 where there is none.
+fn quick_field(s: &[u8], tabs: usize) -> Field
+    ensures { λ r. ⌜ Quick (now (s .entry)) tabs r ⌝ }
+{
+    let d = front_digits(s);
+    if 0 < d.count {
+        if s[0] != b'0' {
+            if field_ends(s, d.count, tabs) {
+                return Field {
+                    value: d.value,
+                    length: d.count,
+                    plain: true,
+                };
+            }
+        }
+    }
+    Field {
+        value: 0,
+        length: 0,
+        plain: true,
+    }
+}
+
+// Reads as many numbers as the table has, if all are as most are written; else the table holds any numbers.
+fn read_quickly(content: &[u8], name: usize, numbers: &mut [u64]) -> bool
+    ensures { λ r. ⌜ (r ≡ true → ReadAll (now (content .entry)) name (now (numbers .exit))) ⌝ }
+{
+    let mut tab = name;
+    let mut i = 0;
+    while tab < content.len() {
+        if numbers.len() <= i {
+            return false;
+        }
+        let f = quick_field(&content[tab + 1..], numbers.len() - i - 1);
+        if f.length == 0 {
+            return false;
+        }
+        numbers[i] = f.value;
+        tab = tab + 1 + f.length;
+        i += 1;
+    }
+    i == numbers.len()
+}
+
+// Reads as many numbers as the table has, each behind a tab; the first tab stands behind a name of `name` bytes, or there is the end.
+pub fn read_numbers(content: &[u8], name: usize, line: u64, numbers: &mut [u64]) -> NumbersRead
+    ensures { λ r. ⌜ told r (now (numbers .exit)) ≡ numbersFrom line 2 (length (now (numbers .entry))) (behind (length (now (numbers .entry))) (drop name (now (content .entry)))) ⌝ }
+{
+    if read_quickly(content, name, numbers) {
+        return NumbersRead::All { plain: true };
+    }
+    read_each(content, name, line, numbers)
+}
+
+// The place of the first tab or LF of a name; the length where there is none.
+fn name_split(name: &[u8]) -> usize
+    ensures { λ r. ⌜ r ≡ firstWhere splits (now (name .entry)) ⌝ }
+{
+    let tab = first_byte(name, b'\t');
+    first_byte(&name[..tab], b'\n')
+}
+
+// How many bytes a name and numbers are written with.
+fn text_length(name: &[u8], numbers: &[u64]) -> usize
+    requires { ⌜ length (now name) + 21 * length (now numbers) + 1 < 2 ^ 64 ⌝ }
+    ensures { λ r. ⌜ r ≡ length (textOf (now (name .entry)) (now (numbers .entry))) ⌝ }
+{
+    let mut n = name.len() + 1;
+    let mut i = 0;
+    while i < numbers.len() {
+        n = n + 1 + decimal::digit_count(numbers[i]);
+        i += 1;
+    }
+    n
+}
+
+// Puts some bytes at the front of the output.
+fn put_front(s: &[u8], out: &mut [u8])
+    requires { ⌜ length (now s) ≤ length (now out) ⌝ }
+    ensures { λ _. ⌜ now (out .exit) ≡ overlaid (now (out .entry)) 0 (now (s .entry)) ⌝ }
+{
+    copying::copy_run(s, 0, s.len(), out, 0);
+}
+
+// Puts numbers, each with a tab before it, from place `at` on; tells the place behind them.
+fn put_numbers(numbers: &[u64], out: &mut [u8], at: usize) -> usize
+    requires { ⌜ at + length (numbersText (now numbers)) ≤ length (now out) ⌝ }
+    ensures { λ r. ⌜ NumbersPut (now (numbers .entry)) (now (out .entry)) at r (now (out .exit)) ⌝ }
+{
+    let mut place = at;
+    let mut i = 0;
+    while i < numbers.len() {
+        out[place] = b'\t';
+        place += 1;
+        place += decimal::write_number(numbers[i], out, place);
+        i += 1;
+    }
+    place
+}
+
+// Puts a name and numbers with tabs between, and an LF, at the front of the output.
+fn put_text(name: &[u8], numbers: &[u64], out: &mut [u8])
+    requires { ⌜ length (textOf (now name) (now numbers)) ≤ length (now out) ⌝ }
+    ensures { λ _. ⌜ now (out .exit) ≡ overlaid (now (out .entry)) 0 (textOf (now (name .entry)) (now (numbers .entry))) ⌝ }
+{
+    put_front(name, out);
+    let end = put_numbers(numbers, out, name.len());
+    out[end] = b'\n';
+}
+
+// The same, if the name has no tab and no LF, and if there is room.
+fn write_short(name: &[u8], numbers: &[u64], out: &mut [u8]) -> Written
+    requires { ⌜ length (now name) + 21 * length (now numbers) + 1 < 2 ^ 64 ⌝ }
+    ensures { λ r. ⌜ leaves r (now (out .exit)) ≡ textWritten (now (name .entry)) (now (numbers .entry)) (now (out .entry)) ⌝ }
+{
+    let place = name_split(name);
+    if place < name.len() {
+        return Written::Refused(Refusal::NameSplit {
+            place: place as u64,
+        });
+    }
+    let needed = text_length(name, numbers);
+    if out.len() < needed {
+        return Written::Refused(Refusal::NoRoom {
+            needed: needed as u64,
+        });
+    }
+    put_text(name, numbers, out);
+    Written::Bytes(needed)
+}
+
+// The same for any name and numbers: those over the size limit are refused (1).
+pub fn write_text(name: &[u8], numbers: &[u64], out: &mut [u8]) -> Written
+    ensures { λ r. ⌜ leaves r (now (out .exit)) ≡ textWithin (now (name .entry)) (now (numbers .entry)) (now (out .entry)) ⌝ }
+{
+    if refusal::over_limit(name.len()) {
+        return Written::Refused(Refusal::TooLong);
+    }
+    if refusal::over_limit(numbers.len()) {
+        return Written::Refused(Refusal::TooLong);
+    }
+    write_short(name, numbers, out)
+}

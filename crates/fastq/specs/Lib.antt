@@ -1,0 +1,7 @@
+pub mod Fastq
+pub mod Steps
+pub mod Laws
+pub mod RecordLaws
+pub mod Parts
+pub mod Leading
+pub mod Examples

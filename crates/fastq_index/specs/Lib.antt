@@ -1,0 +1,4 @@
+pub mod File
+pub mod FileLaws
+pub mod Text
+pub mod TextLaws

@@ -1,0 +1,3 @@
+pub mod SixColumns
+pub mod Laws
+pub mod RoundTrip
