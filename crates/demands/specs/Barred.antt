@@ -10,9 +10,9 @@ use Rattle.lines.specs.Same.{sameBytes}
 use Rattle.definition.specs.Definition.{isSpace, run, keep, refusalOf}
 use Rattle.definition.specs.Definition as definition
 use Rattle.record.specs.Place.{placeOf, placesFrom, offsetOf, hasPlace, addressOf}
-use Rattle.index_line.specs.Bytes.{firstWhere}
-use Rattle.index_line.specs.Decimal.{allDigits, valueFrom, numberFrom, digitsOf, numberOf, plainNumber, digits}
-use Rattle.index_line.specs.Fields.{cutAt, fieldSays, numbersFrom}
+use Rattle.columns.specs.Bytes.{firstWhere}
+use Rattle.columns.specs.Decimal.{allDigits, valueFrom, numberFrom, digitsOf, numberOf, plainNumber, digits}
+use Rattle.columns.specs.Fields.{cutAt, fieldSays, numbersFrom}
 use Rattle.index_line.specs.IndexLine.{fieldsOf, plainEnd, nameOf}
 use Rattle.index_line.specs.IndexLine as index
 use Rattle.walking.specs.Places.{firstElsewhere}
