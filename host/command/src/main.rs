@@ -425,7 +425,7 @@ struct Way<'w> {
 /// How a file is read: where regions of it are asked for, and its index is used as it is, no byte but theirs is needed.
 fn how_for_regions(words: &ArgMatches, file: &Path, asked: &AllAsked<'_>, common: Common) -> How {
     let has_index = read_index(words).is_some() || (!is_placeless(file) && index_of(file).exists());
-    let parts = words.get_flag("unchecked") && has_index && !asked.is_empty() && common.how == How::Auto;
+    let parts = said(words, "unchecked") && has_index && !asked.is_empty() && common.how == How::Auto;
     if parts { How::Parts } else { common.how }
 }
 
