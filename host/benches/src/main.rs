@@ -540,12 +540,12 @@ mod tests {
             look_ups(&QUICK, &mut report, &lines.records(50), 20);
             look_ups(&QUICK, &mut report, &lines.records(20), 50);
             map(&QUICK, &mut report, &lines.records(50), 20);
-            scores(&QUICK, &mut report, &lines.genome(4000));
+            scores(&QUICK, &mut report, &lines.genome(8000));
         }
-        assert_eq!((report.compared.len(), report.checked.len(), report.handed_out.len()), (30, 4, 2));
+        assert_eq!((report.compared.len(), report.checked.len(), report.handed_out.len()), (32, 4, 2));
         let told = report.to_string();
         assert!(told.contains("| index, records | ") && told.contains(" 50 records | 1 | "), "{told}");
-        assert_eq!(report.goals().len(), 30 + 4 + 2);
+        assert_eq!(report.goals().len(), 32 + 4 + 2 + 4);
         assert!(told.contains("| goals: ") && report.json().starts_with("{\"goals\":[{\"of\":\"index, a genome, "));
     }
 

@@ -86,6 +86,7 @@ pub struct Report {
     pub mapped: Vec<Mapped>,
     pub levelled: Vec<Levelled>,
     pub scored: Vec<Scored>,
+    pub sheeted: Vec<Sheeted>,
 }
 
 /// A goal, and what was found.
@@ -99,7 +100,6 @@ impl Goal {
     pub fn met(&self) -> bool {
         self.found >= self.goal
     }
-    pub sheeted: Vec<Sheeted>,
 }
 
 /// Regions read in one call, and by a call for each: all rows are known.
@@ -202,7 +202,17 @@ impl Report {
             goal: MAP_GOAL,
             found: m.walk / m.built,
         });
-        compared.chain(checked).chain(mapped).collect()
+        let sheeted = self.sheeted.iter().map(|s| Goal {
+            of: format!("a sheet of {} regions of {} bases: times a call for each", s.regions, s.bases),
+            goal: SHEET_GOAL,
+            found: s.singles / s.sheet,
+        });
+        let scored = self.scored.iter().map(|s| Goal {
+            of: format!("{}: part of the time that is allowed", s.work),
+            goal: 1.0,
+            found: SCORE_GOAL / s.ours,
+        });
+        compared.chain(checked).chain(mapped).chain(sheeted).chain(scored).collect()
     }
 
     /// The same for machines: each work's seconds, and each goal, as one JSON object.

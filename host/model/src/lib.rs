@@ -6,8 +6,8 @@
 mod checker;
 mod complete;
 mod course;
-mod fed;
 mod fastq;
+mod fed;
 mod lines;
 mod primers;
 mod reads;
