@@ -438,6 +438,22 @@ fn index_beside(words: &ArgMatches, file: &Path, fasta: &Input, common: Common) 
     }
 }
 
+/// The rows of a file: those of its index, once that is checked or said to be used as it is; made by a rule where there is no index.
+fn rows_of<'r>(
+    words: &ArgMatches,
+    fasta: &'r Input,
+    index: Option<&'r Input>,
+    rule: Rule,
+) -> Result<Table<'r>, Failure> {
+    let Some(index) = index else { return work::index(fasta, rule) };
+    if said(words, "unchecked") {
+        warn_of_unchecked(index, fasta);
+    } else {
+        work::check(fasta, index)?;
+    }
+    work::read_index(fasta, index)
+}
+
 fn warn_of_unchecked(index: &Input, fasta: &Input) {
     let (index, fasta) = (&index.shown, &fasta.shown);
     let told = format!("{index} was not checked with {fasta}: if it is wrong, so are the bases");
@@ -609,17 +625,7 @@ fn primer(words: &ArgMatches, common: Common) -> Result<(), Failure> {
     sheet::warn_of_strands(&asked);
     let fasta = common.open(file, how_for_regions(words, file, &asked, common))?;
     let index = index_beside(words, file, &fasta, common)?;
-    let rows = match &index {
-        None => work::index(&fasta, rule(words))?,
-        Some(index) if words.get_flag("unchecked") => {
-            warn_of_unchecked(index, &fasta);
-            work::read_index(&fasta, index)?
-        }
-        Some(index) => {
-            work::check(&fasta, index)?;
-            work::read_index(&fasta, index)?
-        }
-    };
+    let rows = rows_of(words, &fasta, index.as_ref(), rule(words))?;
     let asked = if asked.is_empty() { all_records(&rows) } else { asked };
     let source = Source { fasta: &fasta, rows: &rows, numbers: None };
     source.find(&source.regions(asked)?, &primer, form)
@@ -637,13 +643,7 @@ fn mend(words: &ArgMatches, common: Common) -> Result<(), Failure> {
     let mended = {
         let fasta = common.open(file, common.how)?;
         let index = index_beside(words, file, &fasta, common)?;
-        let rows = match &index {
-            None => work::index(&fasta, Rule::Complete)?,
-            Some(index) => {
-                work::check(&fasta, index)?;
-                work::read_index(&fasta, index)?
-            }
-        };
+        let rows = rows_of(words, &fasta, index.as_ref(), Rule::Complete)?;
         let source = Source { fasta: &fasta, rows: &rows, numbers: None };
         let regions = source.regions(vec![Ok(asked)])?;
         let mended = Mend::of(source, regions[0], new)?;
@@ -746,17 +746,7 @@ fn score(words: &ArgMatches, common: Common) -> Result<(), Failure> {
         None if is_placeless(file) || !index_of(file).exists() => None,
         None => Some(open_index(&index_of(file), &fasta, common)?),
     };
-    let rows = match &index {
-        None => work::index(&fasta, Rule::Complete)?,
-        Some(index) if words.get_flag("unchecked") => {
-            warn_of_unchecked(index, &fasta);
-            work::read_index(&fasta, index)?
-        }
-        Some(index) => {
-            work::check(&fasta, index)?;
-            work::read_index(&fasta, index)?
-        }
-    };
+    let rows = rows_of(words, &fasta, index.as_ref(), Rule::Complete)?;
     let drill = Drill { fasta: &fasta, rows: &rows, exercise: &exercise, asked };
     // all of them, or nothing
     let mut answer = if form == course::Form::Csv { course::COLUMNS.to_string() } else { String::new() };
