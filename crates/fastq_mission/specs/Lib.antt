@@ -1,0 +1,4 @@
+pub mod FirstFault
+pub mod Said
+pub mod AllSaid
+pub mod Exactly
