@@ -17,7 +17,8 @@ use Rattle.record.specs.declared.Record.{Record}
 use Rattle.indexer.specs.Rule.{good}
 use Rattle.indexer.specs.Index.{judge, rowOf, ported}
 use Rattle.indexer.specs.File.{fileAt}
-use Rattle.mission.specs.IndexedLaws.{name-spaceless, name-bytes, description-inside, sequence-within, FirstGroup, good-even, good-places, first-within, Along, along-file, along-map}
+use Rattle.mission.specs.NameLaws.{name-spaceless}
+use Rattle.mission.specs.IndexedLaws.{name-bytes, description-inside, sequence-within, FirstGroup, good-even, good-places, first-within, Along, along-file, along-map}
 use Rattle.mission.specs.Leading.{LeadsTo}
 use Rattle.mission.specs.Describes.{Describes}
 

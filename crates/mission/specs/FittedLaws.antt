@@ -32,7 +32,8 @@ use Rattle.fitting.specs.Sound.{numbers-sound}
 use Rattle.fitting.specs.FirstLine.{Terminated, terminated-here}
 use Rattle.fitting.specs.Even.{FirstLineFits, even-fits}
 use Rattle.checker.specs.Accepts.{bytesOf, recordAt, sequenceAt, Matches}
-use Rattle.mission.specs.IndexedLaws.{name-spaceless, name-bytes, description-inside, sequence-within, FirstGroup, first-group, good-even, Along, along-file}
+use Rattle.mission.specs.NameLaws.{name-spaceless}
+use Rattle.mission.specs.IndexedLaws.{name-bytes, description-inside, sequence-within, FirstGroup, first-group, good-even, Along, along-file}
 use Rattle.mission.specs.Leading.{LeadsTo}
 
 -- ---- the rows that it gives lead to every base

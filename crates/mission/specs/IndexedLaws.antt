@@ -1,8 +1,8 @@
--- Laws of an indexed file: the name in a definition line, a record's lines, and index lines one after another.
+-- Laws of an indexed file: a record's lines, and index lines one after another.
 use Prim.Native.Nat.{ℕ, zero, suc, _+_, _-_, _≤_, _<_}
 use mathlib.Core.Path.{_≡_, refl, ap, sym, _∙_}
 use mathlib.Core.List.{List, [], _∷_, _++_, append-assoc, append-nil}
-use mathlib.Core.Bool.{Bool, true, false, cond, not, _&&_, true≢false}
+use mathlib.Core.Bool.{Bool, true, false, cond, _&&_, true≢false}
 use lib.ListN.{length, getD, take, drop, length-drop, drop-of-length-le}
 use lib.Seq.{drop-drop, take-take, take-at, length-take-le}
 use lib.Dec.{eqb, leb, ltb}
@@ -12,16 +12,15 @@ use native.Mathlib.Nat.{zero-add}
 use Rattle.refusal.specs.declared.Refusal.{Refusal}
 use Rattle.refusal.specs.Numbers.{overLimit}
 use Rattle.refusal.specs.declared.Refusal.the-variants.{TooLong, TableFull, NoBases, LineBases, LineWidth}
-use Rattle.lines.specs.Lines.{lines, lineLen, contentOf, basesOf, seqOf, firstLine, none, sumBases, sumWidths, basesAt}
-use Rattle.lines.specs.Laws.{lines-cut, lineLen-le, part-slice, content-front}
+use Rattle.lines.specs.Lines.{lines, lineLen, basesOf, seqOf, firstLine, none, sumBases, sumWidths, basesAt}
+use Rattle.lines.specs.Laws.{lines-cut, lineLen-le, part-slice}
 use Rattle.lines.specs.Groups.{Group, groups}
 use Rattle.lines.specs.GroupLaws.{afterSeq, groups-cut, lines-next}
 use Rattle.lines.specs.declared.Line.{Line}
 use Rattle.lines.specs.declared.Span.{Span}
-use Rattle.definition.specs.Definition.{isSpace, spaced, run, keep, described, namedOf, contentSays, definitionSays}
-use Rattle.definition.specs.Laws.{run-le, name-within, description-within}
+use Rattle.definition.specs.Definition.{isSpace, definitionSays}
+use Rattle.definition.specs.Laws.{name-within, description-within}
 use Rattle.definition.specs.declared.Definition.{Definition}
-use Rattle.definition.specs.declared.Fault.the-variants.{NoPrefix}
 use Rattle.definition.specs.declared.Parsed.{Parsed}
 use Rattle.definition.specs.declared.Parsed.the-variants.{Named, Bad}
 use Rattle.record.specs.Place.{placeIn}
@@ -40,7 +39,7 @@ use Rattle.columns.specs.Bytes.{is, firstWhere}
 use Rattle.output.specs.Outcome.{gives, pours}
 use Rattle.columns.specs.Fields.{numbersText, textOf, splits, textWritten}
 use Rattle.output.specs.declared.Written.the-variants.{Bytes}
-use Rattle.columns.specs.Lacks.{Lacks, lacks-head, lacks-tail, lacks-cons, lacks-less, text-lacks}
+use Rattle.columns.specs.Lacks.{Lacks, lacks-head, lacks-tail, lacks-less, text-lacks}
 use Rattle.index_line.specs.IndexLine.{entryOf, columnsOf, nameOf, nameIn}
 use Rattle.index_line.specs.IndexLine as index
 use Rattle.columns.specs.Numbers.{both}
@@ -52,57 +51,7 @@ use Rattle.index.specs.Index.{indexAt, indexIn}
 use Rattle.checker.specs.Check.{spanOf}
 use Rattle.checker.specs.Accepts.{bytesOf, recordAt, sequenceAt, limit}
 use Rattle.lines.specs.Sums.{widths-seq, widths-lines}
-
--- ---- the name in a definition line
-
--- the bytes up to the first whitespace have none
-front-spaceless : (s : List ℕ) → Lacks isSpace (take (run (spaced false) s) s)
-unfolding run firstWhere
-front-spaceless [] = refl
-front-spaceless (b ∷ s) = go (isSpace b) refl (front-spaceless s)
-  where
-    go : (t : Bool) → isSpace b ≡ t → Lacks isSpace (take (run (spaced false) s) s) → Lacks isSpace (take (cond (not t) (suc (run (spaced false) s)) 0) (b ∷ s))
-    go true e h = refl
-    go false e h = lacks-cons isSpace b (take (run (spaced false) s) s) e h
-
--- bytes behind the first of some, by what is known of their front
-behind-first : (b n : ℕ) (s l : List ℕ) → n ≤ length s → take (suc (length s)) l ≡ b ∷ s → take n (drop 1 l) ≡ take n s
-behind-first b n s [] h e = let z : _≡_ {A = ℕ} 0 1 = cc in absurd (omega arith)
-behind-first b n s (c ∷ l) h e =
-    let q : take (length s) l ≡ s = cc in
-    sym (take-take n (length s) l h) ∙ ap (take n) q
-
--- a name holds no whitespace
-pub name-spaceless : (l : List ℕ) (d : Definition) → definitionSays l ≡ Named d → Lacks isSpace (spanOf l (d .name))
-unfolding definitionSays contentSays
-name-spaceless l d h = go (contentOf l) (content-front l) h
-  where
-    some : (b : ℕ) (s : List ℕ) (n : ℕ) → run (spaced false) s ≡ n → take (suc (length s)) l ≡ b ∷ s → namedOf s n ≡ Named d → Lacks isSpace (spanOf l (d .name))
-    some b s zero r c e = let z : _≡_ {A = ℕ} 0 1 = cc in absurd (omega arith)
-    some b s (suc n) r c e =
-        let k : ℕ = run (spaced true) (drop (suc n) s) in
-        let v : d ≡ record { name = record { start = 1; length = suc n }; description = described (suc (suc n) + k) (keep isSpace (drop k (drop (suc n) s))) } = cc in
-        let q : spanOf l (d .name) ≡ take (suc n) s = ap (λ (x : Definition). spanOf l (x .name)) v ∙ behind-first b (suc n) s l (omega (arith, r, run-le (spaced false) s)) c in
-        rw (q, ← r) (front-spaceless s)
-
-    go : (t : List ℕ) → take (length t) l ≡ t → contentSays t ≡ Named d → Lacks isSpace (spanOf l (d .name))
-    go [] c e = let z : _≡_ {A = ℕ} 0 1 = cc in absurd (omega arith)
-    go (b ∷ s) c e = prefixed (eqb b 62) e
-      where
-        prefixed : (t : Bool) → cond t (namedOf s (run (spaced false) s)) (Bad NoPrefix) ≡ Named d → Lacks isSpace (spanOf l (d .name))
-        prefixed true e = some b s (run (spaced false) s) refl c e
-        prefixed false e = let z : _≡_ {A = ℕ} 0 1 = cc in absurd (omega arith)
-
--- so it has none of the bytes that are whitespace
-not-space : (n b : ℕ) → isSpace n ≡ true → isSpace b ≡ false → is n b ≡ false
-not-space n b h e = go (eqb b n) refl
-  where
-    go : (t : Bool) → eqb b n ≡ t → t ≡ false
-    go true q = absurd (true≢false (sym (ap isSpace (eqb-true b n q) ∙ h) ∙ e))
-    go false q = refl
-
-pub spaceless-lacks : (n : ℕ) → isSpace n ≡ true → (l : List ℕ) → Lacks isSpace l → Lacks (is n) l
-spaceless-lacks n h l k = lacks-less isSpace (is n) (λ b e. not-space n b h e) l k
+use Rattle.mission.specs.NameLaws.{not-space}
 
 -- ---- the first line of some bytes
 
@@ -312,22 +261,31 @@ unfolding lines
 front-line [] s l ls h e = e
 front-line (b ∷ c) s l ls h e = rw (front-line c s l ls (lacks-tail (is 10) b c h) e, lacks-head (is 10) b c h)
 
-module _ (name : List ℕ) (x : Record) where
-  -- an index line in front of others is the first line
-  pub first-line : (r : List ℕ) → Lacks (is 10) name → lines (index.lineOf name x ++ r) ≡ index.lineOf name x ∷ lines r
-  unfolding index.lineOf textOf lines
-  first-line r h =
-      let t : List ℕ = numbersText (columnsOf x) in
+-- the line of a name and some numbers, in front of others, is the first line; its name is at its front
+module _ (name ns r : List ℕ) where
+  pub text-first : Lacks (is 10) name → lines (textOf name ns ++ r) ≡ textOf name ns ∷ lines r
+  unfolding textOf lines
+  text-first h =
+      let t : List ℕ = numbersText ns in
       rw (append-assoc name (t ++ (10 ∷ [])) r, append-assoc t (10 ∷ []) r)
       (front-line name (t ++ (10 ∷ r)) (t ++ (10 ∷ [])) (lines r) h
-      (front-line t (10 ∷ r) (10 ∷ []) (lines r) (text-lacks (is 10) (λ b k. ne-eqb b 10 (λ e. omega arith)) refl (columnsOf x)) refl))
+      (front-line t (10 ∷ r) (10 ∷ []) (lines r) (text-lacks (is 10) (λ b k. ne-eqb b 10 (λ e. omega arith)) refl ns) refl))
 
-  -- its name is at its front
-  pub line-name : (r : List ℕ) → take (length name) (index.lineOf name x ++ r) ≡ name
-  unfolding index.lineOf textOf
-  line-name r =
-      let t : List ℕ = numbersText (columnsOf x) ++ (10 ∷ []) in
+  pub text-name : take (length name) (textOf name ns ++ r) ≡ name
+  unfolding textOf
+  text-name =
+      let t : List ℕ = numbersText ns ++ (10 ∷ []) in
       rw (append-assoc name t r) (take-at name (t ++ r) (length name) refl)
+
+module _ (name : List ℕ) (x : Record) where
+  -- the same of an index line
+  pub first-line : (r : List ℕ) → Lacks (is 10) name → lines (index.lineOf name x ++ r) ≡ index.lineOf name x ∷ lines r
+  unfolding index.lineOf
+  first-line r h = text-first name (columnsOf x) r h
+
+  pub line-name : (r : List ℕ) → take (length name) (index.lineOf name x ++ r) ≡ name
+  unfolding index.lineOf
+  line-name r = text-name name (columnsOf x) r
 
   -- and is the name that is read
   pub name-read : Lacks (is 9) name → Lined x → nameOf (index.lineOf name x) ≡ name

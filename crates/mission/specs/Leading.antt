@@ -32,7 +32,8 @@ use Rattle.index_line.specs.RoundTrip.{written-reads}
 use Rattle.index.specs.Index.{linesSay, indexAt}
 use Rattle.checker.specs.Check.{spanOf}
 use Rattle.checker.specs.Accepts.{recordAt, sequenceAt, Matches, limit, Accepts}
-use Rattle.mission.specs.IndexedLaws.{spaceless-lacks, Along, at-end, refused, row, along-at, along-all, first-line, line-name, name-read, text-written, row-held}
+use Rattle.mission.specs.NameLaws.{spaceless-lacks}
+use Rattle.mission.specs.IndexedLaws.{Along, at-end, refused, row, along-at, along-all, first-line, line-name, name-read, text-written, row-held}
 
 -- ---- what is said
 

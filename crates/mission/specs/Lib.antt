@@ -1,3 +1,4 @@
+pub mod NameLaws
 pub mod IndexedLaws
 pub mod Leading
 pub mod Describes

@@ -95,13 +95,13 @@ first-bytes (b ∷ s) n l ls e m =
     let r : length l ≡ lineLen (b ∷ s) = ap length p ∙ length-take-le (lineLen (b ∷ s)) (b ∷ s) (lineLen-le (b ∷ s)) in
     sym (ap (take n) p ∙ take-take n (lineLen (b ∷ s)) (b ∷ s) (omega arith))
 
-line-bytes : (k n : ℕ) (s : List ℕ) (ls : List (List ℕ)) → lines s ≡ ls → k < length ls → n ≤ length (getD ls k []) → take n (drop (sumWidths (take k ls)) s) ≡ take n (getD ls k [])
+pub line-bytes : (k n : ℕ) (s : List ℕ) (ls : List (List ℕ)) → lines s ≡ ls → k < length ls → n ≤ length (getD ls k []) → take n (drop (sumWidths (take k ls)) s) ≡ take n (getD ls k [])
 unfolding sumWidths
 line-bytes k n s [] e h m = absurd (omega arith)
 line-bytes zero n s (l ∷ ls) e h m = first-bytes s n l ls e m
 line-bytes (suc k) n s (l ∷ ls) e h m = rw (← drop-drop (sumWidths (take k ls)) (length l) s) (line-bytes k n (drop (length l) s) ls (lines-behind s l ls e) (omega arith) m)
 
-line-inside : (ls : List (List ℕ)) (k : ℕ) → k < length ls → sumWidths (take k ls) + length (getD ls k []) ≤ sumWidths ls
+pub line-inside : (ls : List (List ℕ)) (k : ℕ) → k < length ls → sumWidths (take k ls) + length (getD ls k []) ≤ sumWidths ls
 unfolding sumWidths
 line-inside [] k h = absurd (omega arith)
 line-inside (l ∷ ls) zero h = omega arith
