@@ -2,3 +2,4 @@ pub mod FirstFault
 pub mod Said
 pub mod AllSaid
 pub mod Exactly
+pub mod Taken
