@@ -3,3 +3,4 @@ pub mod Said
 pub mod AllSaid
 pub mod Exactly
 pub mod Taken
+pub mod Front

@@ -56,7 +56,7 @@ use Rattle.mission.specs.NameLaws.{not-space}
 -- ---- the first line of some bytes
 
 -- it is their front
-line-front : (s l : List ℕ) (ls : List (List ℕ)) → lines s ≡ l ∷ ls → take (length l) s ≡ l
+pub line-front : (s l : List ℕ) (ls : List (List ℕ)) → lines s ≡ l ∷ ls → take (length l) s ≡ l
 unfolding lines
 line-front [] l ls h = let z : _≡_ {A = ℕ} 0 1 = cc in absurd (omega arith)
 line-front (b ∷ s) l ls h =
