@@ -4,3 +4,4 @@ pub mod AllSaid
 pub mod Exactly
 pub mod Taken
 pub mod Front
+pub mod Leads
