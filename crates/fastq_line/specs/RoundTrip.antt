@@ -70,13 +70,13 @@ written-reads line name x h p q =
 -- ---- read, then written
 
 -- a content that reads: a name, and five fields that are numbers
-record ContentRead (l : List ℕ) (e : Entry) : Type 0 where
-  name : List ℕ
-  fields : List (List ℕ)
-  numbers : List ℕ
-  cut : fieldsOf l ≡ name ∷ fields
-  reads : Reads 2 5 fields numbers (e .plain)
-  same : e .row ≡ rowOf (length name) numbers
+pub record ContentRead (l : List ℕ) (e : Entry) : Type 0 where
+  pub name : List ℕ
+  pub fields : List (List ℕ)
+  pub numbers : List ℕ
+  pub cut : fieldsOf l ≡ name ∷ fields
+  pub reads : Reads 2 5 fields numbers (e .plain)
+  pub same : e .row ≡ rowOf (length name) numbers
 
 content-known : (line : ℕ) (l : List ℕ) (e : Entry) → contentSays line l ≡ read.Row e → ContentRead l e
 unfolding contentSays
@@ -92,19 +92,19 @@ content-known line l e h = go (fieldsOf l) refl h
     go [] c k = let z : _≡_ {A = ℕ} 0 1 = cc in absurd (omega arith)
     go (name ∷ fs) c k = row name fs c (numbersFrom line 2 5 fs) refl k
 
-fields-cut : (l f : List ℕ) (fs : List (List ℕ)) → fieldsOf l ≡ f ∷ fs → cutAt 5 l ≡ f ∷ fs
+pub fields-cut : (l f : List ℕ) (fs : List (List ℕ)) → fieldsOf l ≡ f ∷ fs → cutAt 5 l ≡ f ∷ fs
 unfolding fieldsOf
 fields-cut [] f fs e = let z : _≡_ {A = ℕ} 0 1 = cc in absurd (omega arith)
 fields-cut (b ∷ l) f fs e = e
 
 -- a line that reads, by its content
-record LineIs (l : List ℕ) (e : Entry) : Type 0 where
-  content : Entry
-  known : ContentRead (contentOf l) content
-  same : e .row ≡ content .row
-  plain : e .plain ≡ (plainEnd l && content .plain)
+pub record LineIs (l : List ℕ) (e : Entry) : Type 0 where
+  pub content : Entry
+  pub known : ContentRead (contentOf l) content
+  pub same : e .row ≡ content .row
+  pub plain : e .plain ≡ (plainEnd l && content .plain)
 
-line-known : (line : ℕ) (l : List ℕ) (e : Entry) → sixLineSays line l ≡ read.Row e → LineIs l e
+pub line-known : (line : ℕ) (l : List ℕ) (e : Entry) → sixLineSays line l ≡ read.Row e → LineIs l e
 unfolding sixLineSays
 line-known line l e h = go (contentSays line (contentOf l)) refl h
   where

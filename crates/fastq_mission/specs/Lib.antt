@@ -5,3 +5,4 @@ pub mod Exactly
 pub mod Taken
 pub mod Front
 pub mod Leads
+pub mod LineLaws
