@@ -6,3 +6,5 @@ pub mod Taken
 pub mod Front
 pub mod Leads
 pub mod LineLaws
+pub mod TableRows
+pub mod Written
