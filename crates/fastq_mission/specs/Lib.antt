@@ -8,3 +8,4 @@ pub mod Leads
 pub mod LineLaws
 pub mod TableRows
 pub mod Written
+pub mod Indexed
