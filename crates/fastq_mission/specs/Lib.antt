@@ -9,3 +9,5 @@ pub mod LineLaws
 pub mod TableRows
 pub mod Written
 pub mod Indexed
+pub mod TableOf
+pub mod TableLaws

@@ -30,7 +30,7 @@ use Rattle.mission.specs.IndexedLaws.{Along, along-all, index-whole}
 use Rattle.mission.specs.Leading.{noRow, rowIn, LeadsTo, leading-at}
 use Rattle.mission.specs.TableOf.{recordCount, RowsAbout, Gives, Fits, RowOf, Holds, TableOf}
 
-suc-shift : (n k : ℕ) → suc n + k ≡ n + suc k
+pub suc-shift : (n k : ℕ) → suc n + k ≡ n + suc k
 suc-shift n k = omega arith
 
 -- ---- the rows of an index whose lines all read
@@ -58,7 +58,7 @@ pub record RowsOf (n at : ℕ) (ls : List (List ℕ)) (f : Found) : Type 0 where
 behind : (n : ℕ) (l : List ℕ) (ls : List (List ℕ)) → AllRead n (l ∷ ls) → AllRead (suc n) ls
 behind n l ls read k h = let r = read (suc k) (omega arith) in record { entry = r .entry; reads = rw (suc-shift n k) (r .reads) }
 
-start-behind : (at : ℕ) (l : List ℕ) (ls : List (List ℕ)) (k : ℕ) → lineStart (at + length l) ls k ≡ lineStart at (l ∷ ls) (suc k)
+pub start-behind : (at : ℕ) (l : List ℕ) (ls : List (List ℕ)) (k : ℕ) → lineStart (at + length l) ls k ≡ lineStart at (l ∷ ls) (suc k)
 unfolding sumWidths
 start-behind at l ls k = omega arith
 
