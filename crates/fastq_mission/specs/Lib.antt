@@ -11,3 +11,6 @@ pub mod Written
 pub mod Indexed
 pub mod TableOf
 pub mod TableLaws
+pub mod Tables
+pub mod Asked
+pub mod Reads
