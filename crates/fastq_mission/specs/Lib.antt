@@ -14,3 +14,4 @@ pub mod TableLaws
 pub mod Tables
 pub mod Asked
 pub mod Reads
+pub mod MendedLines
