@@ -52,7 +52,7 @@ pub record Leads (f : List ℕ) (x : QualityRow) : Type 0 where
   pub places : (p : Part) → AllInPlace f x x p
 
 -- the sequence lines are the front of some lines
-body-front : (ls : List (List ℕ)) → ls ≡ bodyOf ls ++ fromPlus ls
+pub body-front : (ls : List (List ℕ)) → ls ≡ bodyOf ls ++ fromPlus ls
 unfolding bodyOf fromPlus
 body-front [] = refl
 body-front (l ∷ ls) = go (plus l) (body-front ls)
@@ -71,15 +71,15 @@ module _ {s : List ℕ} {at : ℕ} {x : QualityRow} {next : ℕ} (t : Taken s at
   abbrev body : List (List ℕ)
   body = bodyOf (linesAt s (lineEnd s at))
 
-  start : at + length (defAt s at) ≡ lineEnd s at
+  pub start : at + length (defAt s at) ≡ lineEnd s at
   start = line-span s at (t .here)
 
   -- ---- where its lines are
 
-  position-is : x .«record» .position .0 ≡ lineEnd s at
+  pub position-is : x .«record» .position .0 ≡ lineEnd s at
   position-is = ap (λ (y : QualityRow). y .«record» .position .0) (t .good .row) ∙ start
 
-  qualities-at : x .qualities .0 ≡ lineEnd s at + sumWidths body + length (t .good .plusLine)
+  pub qualities-at : x .qualities .0 ≡ lineEnd s at + sumWidths body + length (t .good .plusLine)
   qualities-at = ap (λ (y : QualityRow). y .qualities .0) (t .good .row) ∙ omega (arith, start)
 
   plus-here : linesAt s (lineEnd s at + sumWidths body) ≡ t .good .plusLine ∷ t .good .behind
@@ -91,11 +91,11 @@ module _ {s : List ℕ} {at : ℕ} {x : QualityRow} {next : ℕ} (t : Taken s at
       let h = lines-behind (drop (lineEnd s at + sumWidths body) s) (t .good .plusLine) (t .good .behind) plus-here in
       rw (qualities-at, ← drop-drop (length (t .good .plusLine)) (lineEnd s at + sumWidths body) s) h
 
-  bases-are : partLines s x Bases ≡ body
+  pub bases-are : partLines s x Bases ≡ body
   unfolding partLines bodyAt
   bases-are = rw position-is
 
-  qualities-are : partLines s x Qualities ≡ take (length body) (t .good .behind)
+  pub qualities-are : partLines s x Qualities ≡ take (length body) (t .good .behind)
   unfolding partLines bodyAt
   qualities-are = rw (position-is, behind-here)
 
@@ -173,7 +173,7 @@ module _ {s : List ℕ} {at : ℕ} {x : QualityRow} {next : ℕ} (t : Taken s at
   abbrev name : Span
   name = t .said .name
 
-  name-within : name .start + name .length ≤ length (defAt s at)
+  pub name-within : name .start + name .length ≤ length (defAt s at)
   name-within = marked-within 64 (defAt s at) (t .said) (t .defined) .2
 
   name-is : nameIn s (x .«record») ≡ spanOf (defAt s at) (t .said .name)

@@ -15,3 +15,4 @@ pub mod Tables
 pub mod Asked
 pub mod Reads
 pub mod MendedLines
+pub mod Extents
