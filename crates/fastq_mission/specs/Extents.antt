@@ -103,7 +103,7 @@ pub data Along (f : List ℕ) : ℕ → List QualityRow → Type 0 where
   end : {at : ℕ} → Along f at []
   more : {at next : ℕ} {x : QualityRow} {xs : List QualityRow} → Taken f at x next → Along f next xs → Along f at (x ∷ xs)
 
-rows-along : (k : ℕ) (f : List ℕ) (at : ℕ) → Along f at (rowsOf k f at .rows)
+pub rows-along : (k : ℕ) (f : List ℕ) (at : ℕ) → Along f at (rowsOf k f at .rows)
 unfolding rowsOf
 rows-along zero f at = end
 rows-along (suc k) f at = go (fastq.recordAt f at .answer) refl (rows-along k f (fastq.recordAt f at .next))

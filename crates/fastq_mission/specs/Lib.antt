@@ -16,3 +16,4 @@ pub mod Asked
 pub mod Reads
 pub mod MendedLines
 pub mod Extents
+pub mod MendedRows
