@@ -17,3 +17,6 @@ pub mod Reads
 pub mod MendedLines
 pub mod Extents
 pub mod MendedRows
+pub mod Mend
+pub mod MendedLaws
+pub mod Mended
