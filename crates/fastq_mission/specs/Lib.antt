@@ -20,3 +20,4 @@ pub mod MendedRows
 pub mod Mend
 pub mod MendedLaws
 pub mod Mended
+pub mod Mending
