@@ -1,3 +1,4 @@
 pub mod Check
 pub mod Accepts
 pub mod Elsewhere
+pub mod Taken
