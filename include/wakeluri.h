@@ -228,7 +228,7 @@ struct wakeluri_answer wakeluri_fastq_write_line(const uint8_t *names, size_t na
 
 /* Exactly the bases from `start` to `end` of a row's record, or where `qualities` is not 0 exactly their qualities, never fewer; a bound is
  * absent where its flag is 0. Refuses 1, 16, 25, 17, 14, 18. */
-struct wakeluri_answer wakeluri_fastq_read(const uint8_t *file, size_t file_length, const uint8_t *table, size_t table_length, uint64_t in_use, uint64_t row, uint64_t qualities, uint64_t has_start, uint64_t start, uint64_t has_end, uint64_t end, uint8_t *out, size_t out_length);
+struct wakeluri_answer wakeluri_fastq_read(const uint8_t *file, size_t file_length, const uint8_t *table, size_t table_length, uint64_t in_use, uint64_t row, uint64_t has_start, uint64_t start, uint64_t has_end, uint64_t end, uint64_t qualities, uint8_t *out, size_t out_length);
 
 /* Uses the code for a level of x86-64 (1, 3 or 4), or for the best that the processor has where that is less; 0 asks for the best, which
  * is in use from the start. Returns the level in use. Every level gives the same answers: this is for tests and timings. */

@@ -138,11 +138,11 @@ pub extern "C" fn wakeluri_fastq_read(
     table: &[u8],
     in_use: u64,
     row: u64,
-    qualities: u64,
     has_start: u64,
     start: u64,
     has_end: u64,
     end: u64,
+    qualities: u64,
     out: &mut [u8],
 ) -> Answer
     ensures { λ a. ⌜ leaves a (now (out .exit)) ≡ writtenTold (partRead (partGiven qualities) (now (file .entry)) (numbersIn (now (table .entry))) «in_use» row (boundOf «has_start» start) (boundOf «has_end» end) (now (out .entry))) ⌝ }

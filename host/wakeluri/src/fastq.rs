@@ -318,7 +318,7 @@ impl<'n> Table<'n> {
         out: &mut [u8],
     ) -> Result<usize, Refusal> {
         let (in_use, row) = self.lent(row);
-        let read = entry::fastq_read(fastq, &self.bytes, in_use, row, part.number(), bounds.into(), out);
+        let read = entry::fastq_read(fastq, &self.bytes, in_use, row, bounds.into(), part.number(), out);
         counted(Call::ReadExact, read)
     }
 

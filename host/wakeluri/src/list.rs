@@ -158,7 +158,7 @@ macro_rules! entry_points {
             /// Exactly the bases from `start` to `end` of a row's record, or for every `qualities` but 0 exactly their qualities, never
             /// fewer. Refuses 1, 16, 25, 17, 14, 18.
             fn fastq_read(
-                file: bytes, table: bytes, in_use: number, row: number, qualities: number, bounds: bounds, out: output
+                file: bytes, table: bytes, in_use: number, row: number, bounds: bounds, qualities: number, out: output
             ) -> Answer;
         }
     };
