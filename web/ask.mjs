@@ -100,6 +100,7 @@ const FAMILIES = {
     fql: ["fastq_read_line", ["bytes"], ifOk((a) => `${index(a)},${a.quality_position}`)],
     fqw: ["fastq_write_line", ["bytes", "rows", "number", "number", "output"], counted],
     fqr: ["fastq_read", [...region.slice(0, -1), "number", "output"], counted],
+    fqc: ["fastq_check", ["bytes", "bytes"], ifOk(() => "")],
     chk: ["check", ["bytes", "bytes"], ifOk(() => "")],
     // calls that a module may have or not
     scr: ["score_exercise", ["bytes", "bytes", "bytes", "bytes", "rows", "number", "output"], always((a) => `${a.right} ${a.wrong} ${a.missing} ${a.surplus} ${a.score}`)],
