@@ -1,8 +1,9 @@
 //! What to do about a file or an index that was refused. Nothing is advised that was not tried: a command that is named would be answered.
 
 use crate::input::Input;
-use crate::place;
+use crate::work::{Rule, rows_until_refused};
 use crate::wrap::Wrapping;
+use crate::{fastq, fastq_faults, place};
 
 /// What to do about an index that isn't right for a file.
 pub fn new_index(fasta: &Input) -> String {
@@ -16,16 +17,24 @@ pub fn first_index(fasta: &Input) -> String {
 
 /// To index a file, if that can be done; else what is wrong with it.
 fn index_by(how: &str, fasta: &Input) -> String {
-    let (rows, refusal) = wakeluri::index_until_refused(fasta.bytes());
-    let Some(refusal) = refusal else { return format!("{how} `wakeluri index {}`", fasta.given()) };
-    let place = place::refused_definition(fasta.bytes(), &rows);
+    let (rows, refusal) = rows_until_refused(fasta, Rule::Complete);
+    let said = if fastq::is_said() { "--fastq " } else { "" };
+    let Some(refusal) = refusal else { return format!("{how} `wakeluri index {said}{}`", fasta.given()) };
+    let place = if fasta.is_fastq() {
+        fastq_faults::refused_record(fasta.bytes(), &rows).map(|lines| lines.definition)
+    } else {
+        place::refused_definition(fasta.bytes(), &rows)
+    };
     let line = place.map_or(String::new(), |line| format!(" (the record of line {})", place::commas(line.number)));
-    let how = anew(fasta).unwrap_or_else(|| format!("`wakeluri index {}` says more", fasta.given()));
+    let how = anew(fasta).unwrap_or_else(|| format!("`wakeluri index {said}{}` says more", fasta.given()));
     format!("no index can be made of {} as it is{line}: {}\n{how}", fasta.shown, refusal.words())
 }
 
 /// How to write a file anew so that an index fits it, if that can be done.
 pub fn anew(fasta: &Input) -> Option<String> {
+    if fasta.is_fastq() {
+        return None;
+    }
     let takes = |repair| Wrapping { fasta, width: 60, repair }.is_good();
     let repair = match (takes(false), takes(true)) {
         (true, _) => "",

@@ -145,7 +145,7 @@ With an index (ref.fa.fai, or --index) it is first checked with the whole file; 
 pub fn file() -> Arg {
     Arg::new("file")
         .value_name("FILE")
-        .help("the FASTA file; - is standard input")
+        .help("the FASTA or FASTQ file; - is standard input")
         .value_parser(value_parser!(PathBuf))
         .value_hint(ValueHint::FilePath)
 }
@@ -154,7 +154,7 @@ pub fn file() -> Arg {
 fn files() -> Arg {
     Arg::new("files")
         .value_name("FILE")
-        .help("the FASTA file, and its INDEX behind it; or several files and folders; - is standard input")
+        .help("the FASTA or FASTQ file, and its INDEX behind it; or several files and folders; - is standard input")
         .num_args(1..)
         .required(true)
         .value_parser(value_parser!(PathBuf))
@@ -190,6 +190,11 @@ fn index_option() -> Arg {
 
 pub fn flag(name: &'static str) -> Arg {
     Arg::new(name).long(name).action(ArgAction::SetTrue)
+}
+
+/// Said of files that their first byte does not tell of.
+fn fastq() -> Arg {
+    flag("fastq").help("the file is FASTQ; without it a file is if it begins with '@'")
 }
 
 fn strict() -> Arg {
@@ -236,6 +241,7 @@ fn searching(command: Command) -> Command {
         )
         .arg(index_option())
         .arg(flag("unchecked").help("use the index as it is, without checking it with the file"))
+        .arg(fastq())
         .arg(strict())
 }
 
@@ -268,7 +274,7 @@ pub fn command() -> Command {
     let version = env!("CARGO_PKG_VERSION");
     let proved: &'static str = Box::leak(format!("{version}\nproved with {}", wakeluri::PROVED_WITH).into_boxed_str());
     Command::new("wakeluri")
-        .about("Index, check and read FASTA files: exactly what was asked for, or a refusal that says why")
+        .about("Index, check and read FASTA and FASTQ files: exactly what was asked for, or a refusal that says why")
         .version(proved)
         .after_help(EXAMPLES)
         .subcommand_required(true)
@@ -290,6 +296,7 @@ pub fn command() -> Command {
                 .after_help(INDEX_EXAMPLES)
                 .arg(files())
                 .arg(each())
+                .arg(fastq())
                 .arg(index_option().help("where to, as --output"))
                 .arg(
                     output("INDEX", "where to, if not to FILE.fai; - is standard output")
@@ -311,6 +318,7 @@ pub fn command() -> Command {
                 .after_help(CHECK_EXAMPLES)
                 .arg(files())
                 .arg(each())
+                .arg(fastq())
                 .arg(index_option())
                 .arg(flag("strict").help("refuse bytes among the bases that are no letters")),
         ))
@@ -321,9 +329,11 @@ pub fn command() -> Command {
                 .arg(file().required(true))
                 .arg(regions())
                 .arg(full_header())
+                .arg(flag("qualities").help("of FASTQ: the qualities too, as FASTQ"))
                 .arg(output("OUT", "where to, if not to standard output")),
         ))
         .subcommand(crate::faidx::command())
+        .subcommand(crate::faidx::of_fastq())
         .subcommand(
             Command::new("list")
                 .about("List the records of a file: name, length and description")
@@ -335,6 +345,7 @@ pub fn command() -> Command {
                         .help("only records whose name or description holds this, letters of either case alike")
                         .value_parser(value_parser!(OsString)),
                 )
+                .arg(fastq())
                 .arg(strict()),
         )
         .subcommand(
@@ -488,7 +499,8 @@ pub fn command() -> Command {
                     flag("explain").help("key, typed and marks under each other, ten to a block").conflicts_with("csv"),
                 )
                 .arg(index_option())
-                .arg(flag("unchecked").help("use the index as it is, without checking it with the file")),
+                .arg(flag("unchecked").help("use the index as it is, without checking it with the file"))
+                .arg(fastq()),
         )
         .subcommand(Command::new("completions").hide(true).about("Write the completions of a shell").arg(
             Arg::new("shell").value_name("SHELL").required(true).value_parser(value_parser!(clap_complete::Shell)),

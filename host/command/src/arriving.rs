@@ -58,10 +58,14 @@ fn stop(refused: &mut Option<Refusal>, refusal: Refusal) -> io::Error {
 }
 
 fn refused_words(refusal: Refusal) -> Failure {
+    let next = match (refusal.number, refusal.first) {
+        (3, 0) => "nothing was saved: FASTQ is not indexed as it arrives; save the bytes first and index the file",
+        _ => "nothing was saved: save the bytes first and index the file, to see the line at fault",
+    };
     Failure::Refused(Box::new(Refused {
         words: format!("standard input: {}", refusal.words()),
         shown: String::new(),
-        next: "nothing was saved: save the bytes first and index the file, to see the line at fault".to_string(),
+        next: next.to_string(),
         refusal,
         file: "standard input".to_string(),
         place: None,

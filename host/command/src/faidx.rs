@@ -1,5 +1,5 @@
-//! `wakeluri faidx`: called as `samtools faidx` is, so that a script has to change one word. What would differ is refused, and the reason
-//! is told.
+//! `wakeluri faidx` and `wakeluri fqidx`: called as those of samtools are, so that a script has to change one word. What would differ is
+//! refused, and the reason is told.
 
 use crate::arguments::{file, flag, output, regions};
 use crate::failure::Failure;
@@ -7,7 +7,7 @@ use crate::header::{Header, Mark};
 use crate::input::is_placeless;
 use crate::output::Output;
 use crate::read::Turn;
-use crate::{Common, index_of, index_one, path, read_as, write};
+use crate::{Common, fastq, index_of, index_one, path, read_as, write};
 use clap::{Arg, ArgMatches, Command, ValueHint, value_parser};
 use std::path::{Path, PathBuf};
 
@@ -22,10 +22,31 @@ Other than samtools:
   one region that is not good: nothing is written, and -c is refused
   the index is checked with the file before it is used; where there is none it is made and written, as samtools does
   a byte without a complement is refused (24), and not copied
-  FASTQ (-f) and packed files (--gzi-idx) are not read";
+  packed files (--gzi-idx) are not read";
+
+const OF_FASTQ: &str = "\
+Examples:
+  wakeluri fqidx reads.fq                writes reads.fq.fai, of six columns, and says nothing
+  wakeluri fqidx reads.fq r1:11-20       bases and qualities, as FASTQ
+
+It is `wakeluri faidx -f`, whose help says what is other than samtools.";
+
+/// `fqidx`, which is `faidx -f`.
+pub fn of_fastq() -> Command {
+    of(Command::new("fqidx")
+        .about("Index a FASTQ file, or read regions of it, called as samtools fqidx is")
+        .after_help(OF_FASTQ))
+}
+
+/// `faidx`.
+pub fn command() -> Command {
+    let command = Command::new("faidx").about("Index a file, or read regions of it, called as samtools faidx is");
+    of(command.after_help(EXAMPLES))
+        .arg(flag("fastq").short('f').help("the file is FASTQ, and so is what is read: with qualities"))
+}
 
 /// The words, as samtools has them.
-pub fn command() -> Command {
+fn of(command: Command) -> Command {
     let place = |name: &'static str, long: &'static str, help: &'static str| {
         Arg::new(name)
             .long(long)
@@ -34,9 +55,7 @@ pub fn command() -> Command {
             .value_parser(value_parser!(PathBuf))
             .value_hint(ValueHint::FilePath)
     };
-    Command::new("faidx")
-        .about("Index a file, or read regions of it, called as samtools faidx is")
-        .after_help(EXAMPLES)
+    command
         .arg(file().required(true))
         .arg(regions())
         .arg(output("FILE", "write the bases to a file"))
@@ -60,7 +79,6 @@ pub fn command() -> Command {
         )
         .arg(place("index-option", "fai-idx", "the index, if it isn't FILE.fai"))
         .arg(flag("continue").short('c').help("refused: all regions are read, or none"))
-        .arg(flag("fastq").short('f').help("refused: only FASTA is read"))
         .arg(place("gzi-idx", "gzi-idx", "refused: packed files are not read"))
 }
 
@@ -69,9 +87,6 @@ fn other(words: &ArgMatches) -> Result<(), Failure> {
     let refused = |what: &str| Err(Failure::Usage(what.to_string()));
     if words.get_flag("continue") {
         return refused("-c is not taken: all regions are read, or none, so that no answer lacks one unseen");
-    }
-    if words.get_flag("fastq") {
-        return refused("-f is not taken: this reads FASTA alone; `samtools fqidx` reads FASTQ");
     }
     if path(words, "gzi-idx").is_some() {
         return refused(
@@ -112,5 +127,5 @@ pub fn faidx(words: &ArgMatches, common: Common<'_>) -> Result<(), Failure> {
         index_one(file, &Output::of(&place)?, false, common)?;
     }
     let turn = if words.get_flag("reverse-complement") { Turn::Reverse } else { Turn::AsIs };
-    read_as(words, turn, Header { mark: Some(mark), is_full: false }, common)
+    read_as(words, turn, Header { mark: Some(mark), is_full: false }, fastq::is_said(), common)
 }

@@ -2,13 +2,14 @@
 
 use crate::advice;
 use crate::failure::{Failure, Refused};
+use crate::fastq_faults;
 use crate::input::Input;
 use crate::place::{self, Line, commas, count, short};
 use crate::warning::Warning;
 use wakeluri::{Record, Refusal, Table};
 
 /// A refusal about a line of a file, or about all of it.
-fn refused(input: &Input, line: Option<Line>, what: &str, next: String, refusal: Refusal) -> Failure {
+pub fn refused(input: &Input, line: Option<Line>, what: &str, next: String, refusal: Refusal) -> Failure {
     let file = input.shown.clone();
     let place = line.map(|line| (line.number, line.start as u64));
     let words = match place {
@@ -20,9 +21,9 @@ fn refused(input: &Input, line: Option<Line>, what: &str, next: String, refusal:
 }
 
 /// A definition line that does not read: where, by the proved code's own offset, and the line with a caret there.
-fn refused_definition(input: &Input, line: Line, offset: u64, refusal: Refusal) -> Failure {
+pub fn refused_definition(input: &Input, line: Line, offset: u64, refusal: Refusal) -> Failure {
     let file = input.bytes();
-    let (what, next) = bad_definition(file, line, refusal.number);
+    let (what, next) = bad_definition(input, line, refusal.number);
     let next = advice::or_anew(&next, input);
     let words = format!("{}, line {} (byte {}): {what}", input.shown, commas(line.number), commas(offset));
     let shown = place::pointed(file, line, usize::try_from(offset).unwrap_or(line.start), columns());
@@ -42,6 +43,9 @@ fn columns() -> usize {
 
 /// A refusal of the indexer, in words.
 pub fn not_indexed(fasta: &Input, rows: &Table<'_>, refusal: Refusal) -> Failure {
+    if fasta.is_fastq() && refusal.number != 1 {
+        return fastq_faults::not_indexed(fasta, rows, refusal);
+    }
     let file = fasta.bytes();
     let definition = if refusal.number == 1 { None } else { place::refused_definition(file, rows) };
     let mut at = definition;
@@ -109,7 +113,7 @@ pub fn lines_of_cr<'f>(fasta: &'f Input, rows: &Table<'_>) -> Option<Warning<'f>
 }
 
 /// A line that is not like those before it.
-fn uneven(name: &str, refusal: Refusal) -> (String, &'static str) {
+pub fn uneven(name: &str, refusal: Refusal) -> (String, &'static str) {
     let (found, expected) = (refusal.first, refusal.second);
     match (refusal.number, found) {
         (6, 0) => (format!("this line of {name} is blank, and more of the record follows"), "take the blank line out"),
@@ -203,53 +207,67 @@ pub fn not_wrapped(fasta: &Input, line: Line, refusal: Refusal) -> Failure {
 }
 
 /// A file that some program has packed, and how to unpack it.
-fn packed(program: &str, unpack: &str) -> (String, String) {
+fn packed(program: &str, unpack: &str, form: &str) -> (String, String) {
     (
-        format!("this is a compressed file (of {program}), and FASTA text is needed"),
+        format!("this is a compressed file (of {program}), and {form} text is needed"),
         format!("unpack it first: `{unpack} FILE | wakeluri .. -`"),
     )
 }
 
 /// A line that should be a definition line.
-fn bad_definition(file: &[u8], line: Line, number: u64) -> (String, String) {
-    match (number, place::text(file, line)) {
+fn bad_definition(input: &Input, line: Line, number: u64) -> (String, String) {
+    let (form, mark) = if input.is_fastq() { ("FASTQ", '@') } else { ("FASTA", '>') };
+    match (number, place::text(input.bytes(), line)) {
         (3, [0x1f, 0x8b, ..]) => (
-            "this is a compressed file, and FASTA text is needed".to_string(),
+            format!("this is a compressed file, and {form} text is needed"),
             "unpack it first: `gzip -dc FILE | wakeluri .. -`".to_string(),
         ),
-        (3, [b'B', b'Z', b'h', ..]) => packed("bzip2", "bzip2 -dc"),
-        (3, [0xfd, b'7', b'z', b'X', b'Z', ..]) => packed("xz", "xz -dc"),
-        (3, [0x28, 0xb5, 0x2f, 0xfd, ..]) => packed("zstd", "zstd -dc"),
-        (3, [b'P', b'K', 3, 4, ..]) => packed("zip", "unzip -p"),
+        (3, [b'B', b'Z', b'h', ..]) => packed("bzip2", "bzip2 -dc", form),
+        (3, [0xfd, b'7', b'z', b'X', b'Z', ..]) => packed("xz", "xz -dc", form),
+        (3, [0x28, 0xb5, 0x2f, 0xfd, ..]) => packed("zstd", "zstd -dc", form),
+        (3, [b'P', b'K', 3, 4, ..]) => packed("zip", "unzip -p", form),
         (3, [0xef, 0xbb, 0xbf, ..]) => (
-            "three bytes that some editors put before a text (EF BB BF) stand before the first '>'".to_string(),
+            format!("three bytes that some editors put before a text (EF BB BF) stand before the first '{mark}'"),
             "save the file as UTF-8 without a byte order mark".to_string(),
         ),
         (3, [0xff, 0xfe, ..] | [0xfe, 0xff, ..]) => (
-            "this is text of two bytes to a letter (UTF-16), and FASTA has one".to_string(),
+            format!("this is text of two bytes to a letter (UTF-16), and {form} has one"),
             "save the file as plain text, or as UTF-8 without a byte order mark".to_string(),
         ),
+        (3, [b'>', ..]) if line.start == 0 => {
+            ("this is a FASTA file, and a FASTQ file begins with '@'".to_string(), "leave out --fastq".to_string())
+        }
         (3, text) => {
             let shown = text.get(..text.len().min(20)).unwrap_or_default().trim_ascii_end();
-            (
-                format!("a record begins with a line such as '>name', and here stands '{}'", short(shown)),
-                "is it a FASTA file?".to_string(),
-            )
+            let or = if input.is_fastq() { "" } else { " (in FASTQ '@name')" };
+            let next = match (form, line.start) {
+                ("FASTA", _) => "is it a FASTA file? or a FASTQ file?",
+                (_, 0) => "is it a FASTQ file?",
+                _ => "a record has as many lines of qualities as of bases: look at the one before",
+            };
+            let what =
+                format!("a record begins with a line such as '{mark}name'{or}, and here stands '{}'", short(shown));
+            (what, next.to_string())
         }
         (4, _) => (
-            "the definition line has no name right after its '>'".to_string(),
+            format!("the definition line has no name right after its '{mark}'"),
             "write the name there, without a space before it".to_string(),
         ),
         _ => (
-            "a record begins with a line such as '>name', and this line is empty".to_string(),
+            format!("a record begins with a line such as '{mark}name', and this line is empty"),
             "take it out".to_string(),
         ),
     }
 }
 
 /// A record's name for messages.
-fn name_of(file: &[u8], definition: Line) -> String {
-    match wakeluri::definition_line(place::text(file, definition)) {
+pub fn name_of(file: &[u8], definition: Line) -> String {
+    // FASTQ has '@' for '>', and else the same
+    let mut text = place::text(file, definition).to_vec();
+    if let Some(mark @ b'@') = text.first_mut() {
+        *mark = b'>';
+    }
+    match wakeluri::definition_line(&text) {
         Ok(definition) => short(definition.name),
         Err(_) => "the record".to_string(),
     }

@@ -7,6 +7,7 @@
 use crate::advice::word;
 use crate::apart::{Outputs, descriptor, opened};
 use crate::failure::Failure;
+use crate::fastq;
 use crate::place::quoted;
 use crate::progress::Progress;
 use memmap2::Mmap;
@@ -168,6 +169,11 @@ impl Input {
             Some(mapped) => Bytes::Mapped(mapped),
             None => Bytes::Held(part_of(file, 0..seen.0).unwrap_or_default()),
         }
+    }
+
+    /// Whether it is FASTQ, as it was said, or by its first byte.
+    pub fn is_fastq(&self) -> bool {
+        fastq::is_said() || self.length() > 0 && self.part(0..1).is_ok_and(|first| *first == *b"@")
     }
 
     /// How many bytes there are.

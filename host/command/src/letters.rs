@@ -38,6 +38,16 @@ fn is_plain(bytes: &[u8; CHUNK + 1]) -> bool {
     all
 }
 
+/// Whether some bytes are the most common letters, and nothing else.
+fn are_common(bytes: &[u8]) -> bool {
+    let mut all = true;
+    for byte in bytes {
+        let small = byte | 0x20;
+        all &= (small == b'a') | (small == b'c') | (small == b'g') | (small == b't') | (small == b'n');
+    }
+    all
+}
+
 /// How many bytes are no letters, and where the first lies.
 #[derive(Clone, Copy, Debug, Default, Eq, PartialEq)]
 pub struct Odd {
@@ -71,6 +81,29 @@ impl Odd {
                         at += 1;
                     }
                 }
+            }
+        }
+        found
+    }
+
+    /// Those among the bases of a FASTQ file, by its records, of which each tells position, length, line bases and line width.
+    pub fn of_reads(file: &[u8], records: impl Iterator<Item = [u64; 4]>) -> Self {
+        let table = odd();
+        let mut found = Self::default();
+        for [position, length, line_bases, line_width] in records {
+            let (mut at, mut left) = (position, length);
+            while left > 0 && line_bases > 0 {
+                let bases = left.min(line_bases);
+                let (from, to) =
+                    (usize::try_from(at).unwrap_or(file.len()), usize::try_from(at + bases).unwrap_or(file.len()));
+                let line = file.get(from..to).unwrap_or_default();
+                let mut chunks = line.chunks_exact(CHUNK);
+                let plain = chunks.by_ref().all(are_common) && are_common(chunks.remainder());
+                if !plain {
+                    let odd = line.iter().enumerate().filter(|(_, byte)| table[usize::from(**byte)] == 1);
+                    odd.for_each(|(place, _)| found.add(from + place));
+                }
+                (at, left) = (at.saturating_add(line_width), left - bases);
             }
         }
         found
@@ -177,6 +210,10 @@ mod tests {
             assert_eq!(Odd::of_file(&file), by_lines(&file), "{}", file.escape_ascii());
         }
         assert_eq!(Odd::of_file(b""), Odd::default());
+        let reads = b"@s x\nAC.T\r\nA T\r\n+ 1\r\n....\r\n...\r\n@t\nNNNN\n+\n1234\n@u\nA1\n+\n!!\n";
+        let rows = wakeluri::fastq::index(reads).unwrap();
+        let records = rows.records().map(|r| [r.position, r.length, r.line_bases, r.line_width]);
+        assert_eq!(Odd::of_reads(reads, records), Odd { bytes: 3, first: Some(7) });
         let letters: Vec<u8> = (0..=255).filter(|byte| odd()[usize::from(*byte)] == 0).collect();
         assert_eq!(letters, b"*-ABCDGHKMNRSTUVWYabcdghkmnrstuvwy");
     }

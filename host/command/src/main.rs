@@ -1,4 +1,4 @@
-//! `wakeluri`: index, check and read FASTA files. Every answer comes from the proved library; what is here opens files, reads
+//! `wakeluri`: index, check and read FASTA and FASTQ files. Every answer comes from the proved library; what is here opens files, reads
 //! regions as people write them, and says in words what was refused and where.
 
 mod advice;
@@ -9,8 +9,11 @@ mod colour;
 mod course;
 mod faidx;
 mod failure;
+mod fastq;
+mod fastq_faults;
 mod faults;
 mod header;
+mod index_text;
 mod input;
 mod json;
 mod letters;
@@ -23,6 +26,7 @@ mod output;
 mod place;
 mod primer;
 mod progress;
+mod qualities;
 mod read;
 mod sheet;
 mod shelf;
@@ -46,6 +50,7 @@ use narrow::Narrow;
 use output::{Answers, Output};
 use place::count;
 use primer::{Primer, counted};
+use qualities::Both;
 use read::{AllAsked, Asked, Form, Source, Turn};
 use sheet::Sheet;
 use shelf::{Item, Named, Shelf, Work};
@@ -54,8 +59,10 @@ use std::io::Write;
 use std::os::unix::ffi::OsStrExt;
 use std::path::{Path, PathBuf};
 use std::process::ExitCode;
+use std::thread;
 use unusual::Unusual;
-use wakeluri::{Edition, Table};
+use wakeluri::fastq::Part;
+use wakeluri::{Call, Edition, Refusal, Table};
 use warning::Warning;
 use work::Rule;
 use wrap::Wrapping;
@@ -92,11 +99,12 @@ fn main() -> ExitCode {
     };
     warning::be_quiet(matches.get_flag("quiet"));
     let common = Common { how, json: matches.get_flag("json"), outputs: Outputs::standard() };
+    fastq::say(matches.subcommand().is_some_and(|(command, words)| command == "fqidx" || said(words, "fastq")));
     let answered = match matches.subcommand() {
         Some(("index", words)) => index(words, common),
         Some(("check", words)) => check(words, common),
         Some(("read", words)) => read(words, common),
-        Some(("faidx", words)) => faidx::faidx(words, common),
+        Some(("faidx" | "fqidx", words)) => faidx::faidx(words, common),
         Some(("complement", words)) => complement(words, Turn::Complement, common),
         Some(("revcomp", words)) => complement(words, Turn::Reverse, common),
         Some(("list", words)) => list(words, common),
@@ -218,6 +226,10 @@ fn index(words: &ArgMatches, common: Common) -> Result<(), Failure> {
         if !is_standard(&item.file) {
             return Err(Failure::Usage("--save is for standard input: index - --save FILE".to_string()));
         }
+        if fastq::is_said() {
+            let what = "--save indexes FASTA alone as it arrives: save FASTQ first, and then index the file";
+            return Err(Failure::Usage(what.to_string()));
+        }
         return index_arriving(words, common, saved, path(words, "output").or(named.as_deref()));
     }
     let output = match path(words, "output").or(named) {
@@ -238,46 +250,112 @@ fn index_one(file: &Path, output: &Output, strict: bool, common: Common) -> Resu
     let outputs = || output.path().map_or(common.outputs, |place| common.outputs.and("the index", place));
     let fasta = Input::open(file, common.how, common.json, &outputs())?;
     output.free()?;
-    let rows = work::index(&fasta, if strict { Rule::Strict } else { Rule::Complete })?;
-    let text = rows.write_index().map_err(|refusal| {
-        let words = format!("{}: {}", fasta.shown, refusal.words());
-        Failure::Refused(Box::new(Refused {
-            words,
-            shown: String::new(),
-            next: String::new(),
-            refusal,
-            file: fasta.shown.clone(),
-            place: None,
-            region: None,
-            sheet: None,
-        }))
-    })?;
-    Odd::of_file(fasta.bytes()).tell(&fasta, strict)?;
-    twins::warn(&fasta, &rows);
-    let unusual = Unusual::of(fasta.bytes(), &rows);
+    let made = if fasta.is_fastq() { of_fastq(&fasta, strict)? } else { of_fasta(&fasta, strict)? };
     fasta.unchanged()?;
     // by now the name may lead elsewhere
     fasta.apart_from(&outputs())?;
-    output.write(&text)?;
+    output.write_parts(&made.text)?;
     let Some(place) = output.path() else { return Ok(String::new()) };
-    let (records, bases) = (rows.len() as u64, rows.records().map(|record| record.length).sum());
     let shown = place::quoted(place.as_os_str().as_bytes());
+    let Made { records, bases, unusual, .. } = made;
     if common.json {
         let mut object = Object::new();
         object.text("file", &fasta.shown).text("index", &shown).number("records", records).number("bases", bases);
-        object
-            .number("records_with_blank_lines", unusual.blank_lines)
-            .number("records_without_bases", unusual.no_bases);
+        match unusual {
+            None => object.text("format", "fastq"),
+            Some(unusual) => object
+                .number("records_with_blank_lines", unusual.blank_lines)
+                .number("records_without_bases", unusual.no_bases),
+        };
         return Ok(object.line());
     }
-    let records = format!("{}{}", count(records, "record"), unusual.told());
+    let records = format!("{}{}", count(records, "record"), unusual.unwrap_or_default().told());
     Ok(format!("{shown}: {records}, {}\n", count(bases, "base")))
+}
+
+/// An index that was made, in parts, and what is told of it; of FASTQ nothing is unusual.
+struct Made {
+    text: Vec<Vec<u8>>,
+    records: u64,
+    bases: u64,
+    unusual: Option<Unusual>,
+}
+
+/// The index of a FASTA file.
+fn of_fasta(fasta: &Input, strict: bool) -> Result<Made, Failure> {
+    let rows = work::index(fasta, if strict { Rule::Strict } else { Rule::Complete })?;
+    let text = rows.write_index().map_err(|refusal| not_written(fasta, refusal))?;
+    Odd::of_file(fasta.bytes()).tell(fasta, strict)?;
+    twins::warn(fasta, &twins::of(|| rows.records().map(|record| record.name)));
+    let unusual = Some(Unusual::of(fasta.bytes(), &rows));
+    let bases = rows.records().map(|record| record.length).sum();
+    Ok(Made { text: vec![text], records: rows.len() as u64, bases, unusual })
+}
+
+/// The index of a FASTQ file, of six columns.
+fn of_fastq(fastq: &Input, strict: bool) -> Result<Made, Failure> {
+    let rows = work::reads(fastq)?;
+    // a row that isn't there is refused with 25
+    let write = |number: usize, out: &mut [u8]| match rows.row(number) {
+        Some(row) => rows.write_line_into(row, out),
+        None => Err(Refusal::new(Call::WriteIndex, 25, number as u64, 0)),
+    };
+    let (text, told) = thread::scope(|scope| {
+        let told = scope.spawn(|| Told::of(fastq, &rows));
+        (index_text::written(rows.len(), &write), told.join())
+    });
+    let text = text.map_err(|refusal| not_written(fastq, refusal))?;
+    told.unwrap_or_else(|_| Told::of(fastq, &rows)).say(fastq, strict)?;
+    let bases = rows.records().map(|record| record.length).sum();
+    Ok(Made { text, records: rows.len() as u64, bases, unusual: None })
+}
+
+/// What is told of a FASTQ file though it is taken: bytes among its bases that are no letters, and names that several records have.
+struct Told<'f> {
+    odd: Odd,
+    twins: Vec<twins::Twins<'f>>,
+}
+
+impl<'f> Told<'f> {
+    fn of(fastq: &Input, rows: &wakeluri::fastq::Table<'f>) -> Self {
+        let records =
+            rows.records().map(|record| [record.position, record.length, record.line_bases, record.line_width]);
+        let odd = Odd::of_reads(fastq.bytes(), records);
+        Self { odd, twins: twins::of(|| rows.records().map(|record| record.name)) }
+    }
+
+    fn say(self, fastq: &Input, strict: bool) -> Result<(), Failure> {
+        self.odd.tell(fastq, strict)?;
+        twins::warn(fastq, &self.twins);
+        Ok(())
+    }
+}
+
+/// A row of which no line can be written.
+fn not_written(fasta: &Input, refusal: Refusal) -> Failure {
+    let words = format!("{}: {}", fasta.shown, refusal.words());
+    Failure::Refused(Box::new(Refused {
+        words,
+        shown: String::new(),
+        next: String::new(),
+        refusal,
+        file: fasta.shown.clone(),
+        place: None,
+        region: None,
+        sheet: None,
+    }))
+}
+
+/// Fails for a FASTQ file, where a command takes FASTA alone.
+fn fasta_alone(fasta: &Input, what: &str) -> Result<(), Failure> {
+    let words = || format!("{}: it begins with '@', as FASTQ does, and {what}", fasta.shown);
+    if fasta.is_fastq() { Err(Failure::Usage(words())) } else { Ok(()) }
 }
 
 fn list(words: &ArgMatches, common: Common) -> Result<(), Failure> {
     let file = path(words, "file").unwrap_or(Path::new("-"));
     let fasta = common.open(file, common.how)?;
-    let rows = work::index(&fasta, rule(words))?;
+    let rows = work::described(&fasta, rule(words))?;
     let pattern = words.get_one::<OsString>("pattern").map(|pattern| pattern.as_bytes());
     list::list(&fasta, &rows, list::Form { pattern, json: common.json })
 }
@@ -307,6 +385,7 @@ fn wrap(words: &ArgMatches, common: Common) -> Result<(), Failure> {
         index.as_ref().and_then(Output::path).map_or(outputs, |place| outputs.and("the index", place))
     };
     let fasta = Input::open(file, common.how, common.json, &outputs())?;
+    fasta_alone(&fasta, "`wrap` writes FASTA alone")?;
     output.free_for_fasta()?;
     index.as_ref().map_or(Ok(()), Output::free)?;
     let repair = words.get_flag("repair");
@@ -358,19 +437,27 @@ fn check_one(file: &Path, index: Option<&Path>, strict: bool, common: Common) ->
     let fasta = common.open(file, common.how)?;
     let index = open_index(&index, &fasta, common)?;
     work::check(&fasta, &index)?;
-    Odd::of_file(fasta.bytes()).tell(&fasta, strict)?;
-    fasta.unchanged()?;
     let rows = work::read_index(&fasta, &index)?;
-    twins::warn(&fasta, &rows);
+    if fasta.is_fastq() {
+        Told::of(&fasta, &work::read_reads(&fasta, &index)?).say(&fasta, strict)?;
+    } else {
+        Odd::of_file(fasta.bytes()).tell(&fasta, strict)?;
+        twins::warn(&fasta, &twins::of(|| rows.records().map(|record| record.name)));
+    }
+    fasta.unchanged()?;
     let (records, bases) = (rows.len() as u64, rows.records().map(|record| record.length).sum());
     if common.json {
         let mut object = Object::new();
         object.truth("accepted", true).text("file", &fasta.shown).text("index", &index.shown);
         object.number("records", records).number("bases", bases);
+        if fasta.is_fastq() {
+            object.text("format", "fastq");
+        }
         return Ok(object.line());
     }
     let (records, bases) = (count(records, "record"), count(bases, "base"));
-    Ok(format!("accepted: {} leads to every base of {} ({records}, {bases})\n", index.shown, fasta.shown))
+    let what = if fasta.is_fastq() { "every base and every quality" } else { "every base" };
+    Ok(format!("accepted: {} leads to {what} of {} ({records}, {bases})\n", index.shown, fasta.shown))
 }
 
 /// The index, read plainly; where there is none, the message says how to make one.
@@ -385,21 +472,21 @@ fn open_index(index: &Path, fasta: &Input, common: Common) -> Result<Input, Fail
 
 fn read(words: &ArgMatches, common: Common) -> Result<(), Failure> {
     let header = Header { mark: None, is_full: said(words, "full-header") };
-    read_as(words, Turn::AsIs, header, common)
+    read_as(words, Turn::AsIs, header, said(words, "qualities"), common)
 }
 
-/// Reads what is asked for, to where it is asked for.
-fn read_as(words: &ArgMatches, turn: Turn, header: Header<'_>, common: Common) -> Result<(), Failure> {
+/// Reads what is asked for, to where it is asked for; with qualities as FASTQ.
+fn read_as(words: &ArgMatches, turn: Turn, header: Header<'_>, qualities: bool, common: Common) -> Result<(), Failure> {
     let file = path(words, "file").unwrap_or(Path::new("-"));
     let output = output_of(words)?;
-    let common = to_output(common, &output)?;
+    let common = to_output(common, &output, qualities)?;
     let sheet = open_sheet(words, file, common)?;
     let asked = asked(words, sheet.as_ref())?;
     if turn != Turn::AsIs {
         sheet::no_strands(&asked)?;
     }
     let fasta = common.open(file, how_for_regions(words, file, &asked, common))?;
-    answer(words, file, &fasta, asked, Way { turn, header, to: &output }, common)
+    answer(words, file, &fasta, asked, Way { turn, header, qualities, to: &output }, common)
 }
 
 /// Where answers are to go.
@@ -408,9 +495,9 @@ fn output_of(words: &ArgMatches) -> Result<Output, Failure> {
 }
 
 /// What a command has that writes answers there, unless something is there that nobody means to be replaced.
-fn to_output<'o>(common: Common<'o>, output: &'o Output) -> Result<Common<'o>, Failure> {
+fn to_output<'o>(common: Common<'o>, output: &'o Output, qualities: bool) -> Result<Common<'o>, Failure> {
     let Some(place) = output.path() else { return Ok(common) };
-    output.free_for_answers(common.json)?;
+    output.free_for_answers(common.json, qualities)?;
     Ok(Common { outputs: common.outputs.and("the answer", place), ..common })
 }
 
@@ -419,6 +506,7 @@ fn to_output<'o>(common: Common<'o>, output: &'o Output) -> Result<Common<'o>, F
 struct Way<'w> {
     turn: Turn,
     header: Header<'w>,
+    qualities: bool,
     to: &'w Output,
 }
 
@@ -431,6 +519,10 @@ fn how_for_regions(words: &ArgMatches, file: &Path, asked: &AllAsked<'_>, common
 
 /// The index that is named, or the one beside the file, if there is one.
 fn index_beside(words: &ArgMatches, file: &Path, fasta: &Input, common: Common) -> Result<Option<Input>, Failure> {
+    // as long as an index of FASTQ is not checked, the rows are made of the file itself
+    if fasta.is_fastq() && !said(words, "unchecked") {
+        return Ok(None);
+    }
     match read_index(words) {
         Some(index) => open_index(index, fasta, common).map(Some),
         None if is_placeless(file) || !index_of(file).exists() => Ok(None),
@@ -472,7 +564,7 @@ fn answer(
     file: &Path,
     fasta: &Input,
     asked: AllAsked<'_>,
-    Way { turn, header, to }: Way<'_>,
+    Way { turn, header, qualities, to }: Way<'_>,
     common: Common,
 ) -> Result<(), Failure> {
     let index = index_beside(words, file, fasta, common)?;
@@ -484,7 +576,11 @@ fn answer(
         let what = "--full-header looks at every definition line of the file: leave out --unchecked";
         return Err(Failure::Usage(what.to_string()));
     }
+    if qualities {
+        return answer_with_qualities(words, fasta, index.as_ref(), asked, form);
+    }
     let rows = match &index {
+        None if header.is_full => work::described(fasta, rule(words))?,
         None => work::index(fasta, rule(words))?,
         Some(index) if is_unchecked => {
             warn_of_unchecked(index, fasta);
@@ -493,7 +589,7 @@ fn answer(
         // an index has no descriptions
         Some(index) if header.is_full => {
             work::check(fasta, index)?;
-            work::index(fasta, rule(words))?
+            work::described(fasta, rule(words))?
         }
         Some(index) => {
             work::check(fasta, index)?;
@@ -507,6 +603,36 @@ fn answer(
     let asked = if asked.is_empty() { all_records(&rows) } else { asked };
     let source = Source { fasta, rows: &rows, numbers: None };
     source.give(&source.regions(asked)?, form)
+}
+
+/// Reads regions of a FASTQ file with their qualities.
+fn answer_with_qualities(
+    words: &ArgMatches,
+    fastq: &Input,
+    index: Option<&Input>,
+    asked: AllAsked<'_>,
+    form: Form<'_>,
+) -> Result<(), Failure> {
+    if !fastq.is_fastq() {
+        return Err(Failure::Usage(format!("{}: it does not begin with '@', and FASTA has no qualities", fastq.shown)));
+    }
+    let reads = match index {
+        None => work::reads(fastq)?,
+        Some(index) => {
+            if said(words, "unchecked") {
+                warn_of_unchecked(index, fastq);
+            } else {
+                work::check(fastq, index)?;
+            }
+            work::read_reads(fastq, index)?
+        }
+    };
+    // an index has no descriptions
+    let bases = if form.header.is_full { work::described(fastq, Rule::Complete)? } else { reads.part(Part::Bases) };
+    let qualities = reads.part(Part::Qualities);
+    let asked = if asked.is_empty() { all_records(&bases) } else { asked };
+    let source = Source { fasta: fastq, rows: &bases, numbers: None };
+    Both { bases: source, qualities: &qualities }.give(&source.regions(asked)?, form)
 }
 
 /// The sheet of regions, if there is one.
@@ -548,15 +674,15 @@ fn asked<'a>(words: &'a ArgMatches, sheet: Option<&'a Sheet>) -> Result<AllAsked
 fn complement(words: &ArgMatches, turn: Turn, common: Common) -> Result<(), Failure> {
     let file = path(words, "file").unwrap_or(Path::new("-"));
     let output = output_of(words)?;
-    let common = to_output(common, &output)?;
+    let common = to_output(common, &output, false)?;
     let sheet = open_sheet(words, file, common)?;
     let asked = asked(words, sheet.as_ref())?;
     sheet::no_strands(&asked)?;
     let fasta = common.open(file, how_for_regions(words, file, &asked, common))?;
     let is_fasta = asked.is_empty() && matches!(fasta.bytes(), [b'>', ..] | [0xef, 0xbb, 0xbf, b'>', ..]);
-    if !asked.is_empty() || is_fasta {
+    if !asked.is_empty() || is_fasta || fasta.is_fastq() {
         let header = Header { mark: None, is_full: said(words, "full-header") };
-        return answer(words, file, &fasta, asked, Way { turn, header, to: &output }, common);
+        return answer(words, file, &fasta, asked, Way { turn, header, qualities: false, to: &output }, common);
     }
     // bases without a definition line
     let text = fasta.bytes();
@@ -642,6 +768,7 @@ fn mend(words: &ArgMatches, common: Common) -> Result<(), Failure> {
     let dry = words.get_flag("dry-run");
     let mended = {
         let fasta = common.open(file, common.how)?;
+        fasta_alone(&fasta, "`mend` takes FASTA alone")?;
         let index = index_beside(words, file, &fasta, common)?;
         let rows = rows_of(words, &fasta, index.as_ref(), Rule::Complete)?;
         let source = Source { fasta: &fasta, rows: &rows, numbers: None };

@@ -10,6 +10,7 @@ use crate::failure::Failure;
 use crate::input::Input;
 use crate::names::Sieve;
 use crate::read::{AllAsked, Form, Source};
+use crate::work::rows_of_text;
 
 /// An index is long from so many bytes on.
 const LONG: usize = 1 << 16;
@@ -54,7 +55,7 @@ impl Narrow {
 
     /// The answer to all regions; none where one can't be answered with these lines alone.
     pub fn answer(&self, fasta: &Input, asked: &AllAsked<'_>, form: Form<'_>) -> Option<Result<(), Failure>> {
-        let rows = wakeluri::read_index(&self.text).ok()?;
+        let rows = rows_of_text(fasta, &self.text).ok()?;
         let source = Source { fasta, rows: &rows, numbers: Some(&self.numbers) };
         let asked = asked.iter().flatten().copied().map(Ok).collect();
         let regions = source.regions(asked).ok()?;

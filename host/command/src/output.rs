@@ -159,18 +159,27 @@ impl Output {
         }
     }
 
-    /// Writes all of a file that is at hand.
+    /// Writes all of an index that is at hand.
     pub fn write(&self, text: &[u8]) -> Result<(), Failure> {
         self.fill("index", &mut |to| to.write_all(text))
     }
 
+    /// Writes all of an index that is at hand in parts.
+    pub fn write_parts(&self, parts: &[Vec<u8>]) -> Result<(), Failure> {
+        self.fill("index", &mut |to| parts.iter().try_for_each(|part| to.write_all(part)))
+    }
+
     /// Fails if something is there that nobody means to be replaced by answers.
-    pub fn free_for_answers(&self, json: bool) -> Result<(), Failure> {
+    pub fn free_for_answers(&self, json: bool, qualities: bool) -> Result<(), Failure> {
         let Self::File(path) = self else { return Ok(()) };
         let mut start = [0];
         let is_there = File::open(path).and_then(|mut file| file.read(&mut start)).is_ok_and(|read| read == 1);
-        if is_there && start != *(if json { b"{" } else { b">" }) {
-            let form = if json { "JSON" } else { "FASTA" };
+        let (form, first) = match (json, qualities) {
+            (true, _) => ("JSON", b"{"),
+            (false, true) => ("FASTQ", b"@"),
+            (false, false) => ("FASTA", b">"),
+        };
+        if is_there && start != *first {
             let what = format!("file that is not {form}, and the answer would take its place");
             return Err(no_place(path, &what, "move it away first, or name another file"));
         }
@@ -245,8 +254,8 @@ fn other_than_index(path: &Path) -> Option<&'static str> {
     let line = start.split_inclusive(|byte| *byte == b'\n').next().unwrap_or_default();
     match line {
         // names hold any bytes
-        _ if wakeluri::index_line(line).is_ok() => None,
-        [b'>', ..] => Some("file of sequences"),
+        _ if wakeluri::index_line(line).is_ok() || wakeluri::fastq::read_line(line).is_ok() => None,
+        [b'>' | b'@', ..] => Some("file of sequences"),
         _ if start.contains(&0) || line.starts_with(b"\x1f\x8b") => Some("packed file or a program"),
         _ => None,
     }

@@ -22,7 +22,7 @@ const PIECE: u64 = 64 << 20;
 const FAR: u64 = 1 << 20;
 
 /// What is read is kept up to so many bytes until it is written; what is more is read once more.
-const KEPT: u64 = 1 << 30;
+pub const KEPT: u64 = 1 << 30;
 
 /// What is done with the bases.
 #[derive(Clone, Copy, Debug, Eq, PartialEq)]
@@ -565,22 +565,7 @@ impl Source<'_> {
             for piece in pieces {
                 bases.extend_from_slice(piece?.as_ref());
             }
-            let record = self.rows.record(region.row);
-            let mut object = Object::new();
-            object.bytes("region", region.asked.text).bytes("name", record.map_or(&[], |record| record.name));
-            object.number("start", region.start).number("end", region.end);
-            object.number("length", record.map_or(0, |record| record.length));
-            if let Some(turned) = region.turn(form).said() {
-                object.bytes("turned", turned);
-            }
-            if let Some(label) = region.asked.label {
-                object.bytes("label", label);
-            }
-            if form.header.is_full {
-                object.bytes("description", record.and_then(|record| record.description()).unwrap_or_default());
-            }
-            object.bytes("bases", &bases);
-            return answers.write(object.line().as_bytes());
+            return answers.write(self.object(region, form, &bases).line().as_bytes());
         }
         let width = if form.width == 0 { region.bases().max(1) } else { form.width as u64 };
         let mut writer = Writer::new(answers.sink(), width);
@@ -594,6 +579,26 @@ impl Source<'_> {
             writer.push(piece?.as_ref()).map_err(said)?;
         }
         writer.end().map_err(said)
+    }
+
+    /// What is told of a region, with its bases.
+    pub fn object(self, region: Region<'_>, form: Form<'_>, bases: &[u8]) -> Object {
+        let record = self.rows.record(region.row);
+        let mut object = Object::new();
+        object.bytes("region", region.asked.text).bytes("name", record.map_or(&[], |record| record.name));
+        object.number("start", region.start).number("end", region.end);
+        object.number("length", record.map_or(0, |record| record.length));
+        if let Some(turned) = region.turn(form).said() {
+            object.bytes("turned", turned);
+        }
+        if let Some(label) = region.asked.label {
+            object.bytes("label", label);
+        }
+        if form.header.is_full {
+            object.bytes("description", record.and_then(|record| record.description()).unwrap_or_default());
+        }
+        object.bytes("bases", bases);
+        object
     }
 
     /// Bases of a region, and its text as a name, are judged before anything is written.
@@ -611,8 +616,13 @@ impl Source<'_> {
     }
 
     /// A refusal to write what was read.
-    fn not_written(self, region: Region<'_>, refusal: Refusal) -> Failure {
+    pub fn not_written(self, region: Region<'_>, refusal: Refusal) -> Failure {
         let what = match refusal.number {
+            30 if refusal.call == Call::FastqIndex => {
+                "it has a carriage return, or a '+' among its bases, at the end of a line or \
+                 the front of one, which would not read back from a FASTQ file"
+                    .to_string()
+            }
             30 => "it has a '>' or a carriage return among its bases, which would not read back from a FASTA file"
                 .to_string(),
             _ => refusal.words(),
@@ -643,7 +653,7 @@ fn meaning_of<'r>(region: &'r [u8], names: &Names<'_, '_>) -> Meaning<'r> {
 }
 
 /// Fails with all of some faults, if there is one.
-fn all_of(mut faults: Vec<Failure>) -> Result<(), Failure> {
+pub fn all_of(mut faults: Vec<Failure>) -> Result<(), Failure> {
     match faults.len() {
         0 => Ok(()),
         1 => faults.pop().map_or(Ok(()), Err),

@@ -12,7 +12,7 @@ use crate::input::{self, How, MAPPED_FROM};
 use crate::json::Object;
 use crate::output::{self, Answers};
 use crate::place::{commas, count, seen};
-use crate::{Common, colour, warning};
+use crate::{Common, colour, fastq, warning};
 use clap::ArgMatches;
 use std::collections::{BTreeMap, BTreeSet, HashSet};
 use std::fs::{self, File};
@@ -24,8 +24,8 @@ use std::sync::atomic::{AtomicBool, AtomicUsize, Ordering};
 use std::sync::mpsc;
 use std::thread;
 
-/// How the names of FASTA files end, in folders.
-const ENDINGS: [&str; 8] = ["fa", "fasta", "fna", "ffn", "faa", "frn", "fas", "fsa"];
+/// How the names of FASTA and FASTQ files end, in folders.
+const ENDINGS: [&str; 10] = ["fa", "fasta", "fna", "ffn", "faa", "frn", "fas", "fsa", "fq", "fastq"];
 
 /// So many times as many threads as there are cores wait for the disk.
 const WAITING: usize = 8;
@@ -94,11 +94,12 @@ fn is_index_by_name(path: &Path) -> bool {
     ending(path).is_some_and(|end| end == "fai")
 }
 
-/// Whether a file begins as FASTA does; nothing is read of what is no regular file.
+/// Whether a file begins as FASTA or FASTQ does; nothing is read of what is no regular file.
 fn is_fasta_inside(path: &Path) -> bool {
     let mut start = [0];
     let is_file = fs::metadata(path).is_ok_and(|meta| meta.is_file());
-    is_file && File::open(path).and_then(|mut file| file.read(&mut start)).is_ok_and(|read| read == 1 && start == *b">")
+    let mut read = || File::open(path).and_then(|mut file| file.read(&mut start));
+    is_file && read().is_ok_and(|read| read == 1) && matches!(start, [b'>' | b'@'])
 }
 
 /// The files and folders that are named. Behind one file the second word is its index, unless it is a folder, or FASTA by its name or its first
@@ -154,7 +155,7 @@ fn of_folder(folder: &Path, items: &mut Vec<Item>) -> u64 {
     walk(folder, &mut HashSet::new(), items, &mut passed_over);
     if items.len() == before {
         let ends = ENDINGS.map(|end| format!(".{end}")).join(", ");
-        let what = format!("there is no FASTA file in this folder, by its name ({ends})");
+        let what = format!("there is no FASTA or FASTQ file in this folder, by its name ({ends})");
         let next = "name the files themselves, whatever they are called";
         items.push(Item { file: folder.to_path_buf(), index: None, fault: Some((what, next)) });
     }
@@ -349,6 +350,7 @@ impl Shelf<'_> {
         command.arg(self.work.verb()).arg(arguments::ALONE);
         command.args(common.json.then_some("--json")).args(warning::is_quiet().then_some("--quiet"));
         command.args(self.strict.then_some("--strict")).args((common.how == How::Map).then_some("--input=map"));
+        command.args(fastq::is_said().then_some("--fastq"));
         command.arg("--").arg(&item.file).args(&item.index).stdin(Stdio::null());
         let ended = match command.output() {
             Ok(ended) => ended,

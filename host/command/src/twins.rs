@@ -3,14 +3,15 @@
 use crate::input::Input;
 use crate::place::{commas, count, short};
 use crate::warning::Warning;
-use wakeluri::Table;
 
 /// So many names are told one by one.
 const TOLD: usize = 10;
 
+/// The first two records of a name, counted from 0, and the name.
+pub type Twins<'n> = (usize, usize, &'n [u8]);
+
 /// Says which names several records have.
-pub fn warn(fasta: &Input, rows: &Table<'_>) {
-    let twins = of(rows);
+pub fn warn(fasta: &Input, twins: &[Twins<'_>]) {
     let file = &fasta.shown;
     for (first, second, name) in twins.iter().take(TOLD) {
         let (first, second, name) = (commas(*first as u64 + 1), commas(*second as u64 + 1), short(name));
@@ -24,10 +25,13 @@ pub fn warn(fasta: &Input, rows: &Table<'_>) {
     }
 }
 
-/// The first two records of each name that several have, counted from 0, in their order.
-fn of<'n>(rows: &Table<'n>) -> Vec<(usize, usize, &'n [u8])> {
+/// The first two records of each name that several have, in their order.
+pub fn of<'n, N: Iterator<Item = &'n [u8]>>(names: impl Fn() -> N) -> Vec<Twins<'n>> {
+    if !are_some_alike(names().map(mixed).collect()) {
+        return vec![];
+    }
     let mut names: Vec<(u64, usize, &[u8])> =
-        rows.records().enumerate().map(|(number, record)| (mixed(record.name), number, record.name)).collect();
+        names().enumerate().map(|(number, name)| (mixed(name), number, name)).collect();
     // alike names come together, and those of one name in their order
     names.sort_unstable_by(|one, two| (one.0, one.2, one.1).cmp(&(two.0, two.2, two.1)));
     let alike = names.chunk_by(|one, two| one.0 == two.0 && one.2 == two.2);
@@ -41,21 +45,53 @@ fn of<'n>(rows: &Table<'n>) -> Vec<(usize, usize, &'n [u8])> {
     twins
 }
 
+/// Whether two of some numbers are alike: each is put in a free place from one on that it tells itself.
+fn are_some_alike(numbers: Vec<u64>) -> bool {
+    let bits = (2 * numbers.len() + 1).next_power_of_two().trailing_zeros();
+    let mut places = vec![0_u64; 1 << bits];
+    numbers.into_iter().map(|number| number.max(1)).any(|number| {
+        let mut place = (number >> (64 - bits)) as usize;
+        while places[place] != 0 {
+            if places[place] == number {
+                return true;
+            }
+            place = (place + 1) & ((1 << bits) - 1);
+        }
+        places[place] = number;
+        false
+    })
+}
+
 /// A number for a name, so that most names are told apart by one comparison.
 fn mixed(name: &[u8]) -> u64 {
-    name.chunks(8).fold(name.len() as u64, |mixed, part| {
-        let part = part.iter().fold(0, |number, byte| number << 8 | u64::from(*byte));
-        (mixed ^ part).wrapping_mul(0x9e37_79b9_7f4a_7c15).rotate_left(29)
-    })
+    let parts = name.chunks_exact(8);
+    let rest = parts.remainder().iter().fold(0, |number, byte| number << 8 | u64::from(*byte));
+    let whole = parts.map(|part| part.first_chunk().map_or(0, |part| u64::from_le_bytes(*part)));
+    whole
+        .chain([rest])
+        .fold(name.len() as u64, |mixed, part| (mixed ^ part).wrapping_mul(0x9e37_79b9_7f4a_7c15).rotate_left(29))
 }
 
 #[cfg(test)]
 mod tests {
-    use super::of;
+    use super::{are_some_alike, of};
 
     #[test]
     fn first_and_second_of_each_name() {
         let rows = wakeluri::index(b">b\nA\n>a\nA\n>b\nA\n>c\nA\n>a\nA\n>b\nA\n").unwrap();
-        assert_eq!(of(&rows), [(0, 2, &b"b"[..]), (1, 4, b"a")]);
+        assert_eq!(of(|| rows.records().map(|record| record.name)), [(0, 2, &b"b"[..]), (1, 4, b"a")]);
+        let none = wakeluri::index(b"").unwrap();
+        assert_eq!(of(|| none.records().map(|record| record.name)), []);
+    }
+
+    #[test]
+    fn alike_or_not() {
+        let numbers: Vec<u64> = (0..5000).map(|n: u64| n.wrapping_mul(0x1234_5678_9abc_def1)).collect();
+        assert!(!are_some_alike(numbers.clone()));
+        for twin in [0, 1, 4999] {
+            assert!(are_some_alike([&numbers[..], &[numbers[twin]]].concat()));
+        }
+        // all tell one place, the last
+        assert!(!are_some_alike((0..100).map(|n| u64::MAX - n).collect()));
     }
 }

@@ -1,11 +1,13 @@
 //! What the commands share: an index made of a file, an index that is checked, one that is used as it is.
 
 use crate::failure::Failure;
+use crate::fastq;
 use crate::faults;
 use crate::input::Input;
 use crate::progress::Progress;
 use crate::warning::Warning;
-use wakeluri::Table;
+use wakeluri::fastq::{Part, Table as Reads};
+use wakeluri::{Refusal, Table};
 
 /// By which rule a file is indexed.
 #[derive(Clone, Copy, Debug, Eq, PartialEq)]
@@ -16,15 +18,43 @@ pub enum Rule {
     Strict,
 }
 
+/// The rows of a file up to the first record that is refused, and that refusal. Of FASTQ, which has one rule, they lead to the bases.
+pub fn rows_until_refused(fasta: &Input, rule: Rule) -> (Table<'_>, Option<Refusal>) {
+    match rule {
+        _ if fasta.is_fastq() => fastq::rows_until_refused(fasta.bytes()),
+        Rule::Complete => wakeluri::index_until_refused(fasta.bytes()),
+        Rule::Strict => wakeluri::index_strict_until_refused(fasta.bytes()),
+    }
+}
+
+/// The rows of a FASTQ file, or why there are none, and where.
+pub fn reads(fastq: &Input) -> Result<Reads<'_>, Failure> {
+    let file = fastq.bytes();
+    warn_of_nothing(fastq);
+    let progress = Progress::working("indexing", &fastq.shown, file.len() as u64, fastq.is_mapped());
+    let (reads, refusal) = wakeluri::fastq::index_until_refused(file);
+    drop(progress);
+    match refusal {
+        None => Ok(reads),
+        Some(refusal) => Err(faults::not_indexed(fastq, &reads.part(Part::Bases), refusal)),
+    }
+}
+
+/// As [`index`], with the descriptions of records.
+pub fn described(fasta: &Input, rule: Rule) -> Result<Table<'_>, Failure> {
+    // rows of FASTA have them
+    if fasta.is_fastq() { Ok(fastq::described(fasta, &reads(fasta)?)) } else { index(fasta, rule) }
+}
+
 /// The rows of a file, or why there are none, and where.
 pub fn index(fasta: &Input, rule: Rule) -> Result<Table<'_>, Failure> {
+    if fasta.is_fastq() {
+        return Ok(reads(fasta)?.part(Part::Bases));
+    }
     let file = fasta.bytes();
     warn_of_nothing(fasta);
     let progress = Progress::working("indexing", &fasta.shown, file.len() as u64, fasta.is_mapped());
-    let (rows, refusal) = match rule {
-        Rule::Complete => wakeluri::index_until_refused(file),
-        Rule::Strict => wakeluri::index_strict_until_refused(file),
-    };
+    let (rows, refusal) = rows_until_refused(fasta, rule);
     drop(progress);
     match refusal {
         None => {
@@ -46,6 +76,10 @@ pub fn warn_of_nothing(fasta: &Input) {
 
 /// Whether an index is right for a file; if not, the first fault in words.
 pub fn check(fasta: &Input, index: &Input) -> Result<(), Failure> {
+    if fasta.is_fastq() {
+        let words = format!("{}: an index of FASTQ is not checked yet", fasta.shown);
+        return Err(Failure::Usage(words));
+    }
     let file = fasta.bytes();
     warn_of_nothing(fasta);
     let progress = Progress::working("checking", &fasta.shown, file.len() as u64, fasta.is_mapped());
@@ -54,7 +88,17 @@ pub fn check(fasta: &Input, index: &Input) -> Result<(), Failure> {
     answer.map_err(|refusal| faults::not_accepted(fasta, index, refusal))
 }
 
+/// The rows of an index text of a FASTQ file, or why it can't be read.
+pub fn read_reads<'i>(fastq: &Input, index: &'i Input) -> Result<Reads<'i>, Failure> {
+    wakeluri::fastq::read_index(index.bytes()).map_err(|refusal| faults::not_read(fastq, index, refusal))
+}
+
+/// The rows of an index text of a file, or why it can't be read.
+pub fn rows_of_text<'i>(fasta: &Input, text: &'i [u8]) -> Result<Table<'i>, Refusal> {
+    if fasta.is_fastq() { fastq::read_index(text) } else { wakeluri::read_index(text) }
+}
+
 /// An index text that is used unchecked, or why it can't be read.
 pub fn read_index<'i>(fasta: &Input, index: &'i Input) -> Result<Table<'i>, Failure> {
-    wakeluri::read_index(index.bytes()).map_err(|refusal| faults::not_read(fasta, index, refusal))
+    rows_of_text(fasta, index.bytes()).map_err(|refusal| faults::not_read(fasta, index, refusal))
 }
