@@ -4,6 +4,7 @@
 // `memory.buffer` is another object after the memory grew: no view of it is kept between calls.
 
 const PAGE = 65536;
+const MOST = 2 ** 32; // bytes of a memory with 32-bit addresses
 const ANSWER = 32 * 8;
 
 // A row of a table, as include/wakeluri.h has it: eight numbers.
@@ -61,12 +62,13 @@ export class Wakeluri {
         takes.forEach((kind, k) => {
             const one = given[k];
             if (kind === "number") {
-                if (typeof one !== "bigint" || BigInt.asUintN(64, one) !== one) throw new RangeError(`${name}: no number of 64 bits`);
+                if (!isNumber(one)) throw new RangeError(`${name}: no number of 64 bits`);
                 words.push(one);
                 return;
             }
             if (kind === "state") {
                 const view = new DataView(this.memory.buffer, this.state, 8 * tells.length);
+                if (!tells.every((field) => isNumber(one?.[field]))) throw new RangeError(`${name}: no answer to hand back`);
                 tells.forEach((field, j) => view.setBigUint64(8 * j, one[field], true));
                 words.push(BigInt(this.state));
                 return;
@@ -91,11 +93,24 @@ export class Wakeluri {
 
     // A room of so many bytes behind all others, on a place that 16 divides.
     room(length) {
+        if (length > MOST) throw new NoRoom();
         if (!(Number.isSafeInteger(length) && length >= 0)) throw new RangeError("no length of a room");
         const start = Math.ceil(this.free / 16) * 16;
         this.grow(start + length);
         this.free = start + length;
         return new Room(start, length);
+    }
+
+    // The last room with another length, at the same place: what it has stays.
+    resized(room, length) {
+        if (!this.isMade(room) || room.start + room.length !== this.free) throw new RangeError("not the last room");
+        this.free = room.start;
+        try {
+            return this.room(length);
+        } catch (e) {
+            this.free = room.start + room.length;
+            throw e;
+        }
     }
 
     // The memory has at least so many bytes afterwards.
@@ -167,6 +182,13 @@ export class Wakeluri {
         };
     }
 
+    // Puts the name and the description of a row at other places: for rows whose file is not at hand, and whose names are kept apart.
+    rename(table, row, name, description) {
+        const view = new DataView(this.memory.buffer, table.start, table.length);
+        view.setBigUint64(ROW * row, BigInt(name), true);
+        view.setBigUint64(ROW * row + 48, BigInt(description), true);
+    }
+
     // Asks with no room for an output to hear how many bytes are needed (refusal 14), and again with as many. The answer has `out`, the
     // bytes that were written, as a room: inside `using` alone.
     output(ask) {
@@ -177,6 +199,10 @@ export class Wakeluri {
         const again = ask(out);
         return { ...again, out: out.part(0, Number(again.count)) };
     }
+}
+
+function isNumber(one) {
+    return typeof one === "bigint" && BigInt.asUintN(64, one) === one;
 }
 
 // A bound of a region as the calls take it: absent where it is undefined.

@@ -166,12 +166,31 @@ def changed_or_too_large():
     os.utime(path, (time.time() + 100, time.time() + 100))
     browser.run("document.body.dataset.round = '0'; document.getElementById('strict').click()")
     person.expect("a file that changed since it was chosen", person.judged(), "The file changed while it was read", never=["record"])
+    # a file in parts is read again for each region
+    path = write("parts.fa", b">c\n" + b"ACGT\n" * 10)
+    person.memory = "parts"
+    person.fresh()
+    at("fasta").send_keys(path)
+    person.expect("a file in parts", person.judged(), "1 record")
+    person.expect("which is read", person.read("39", "40"), "GT")
+    write("parts.fa", b">c\n" + b"AACC\n" * 10)
+    os.utime(path, (time.time() + 100, time.time() + 100))
+    person.expect("a file in parts that changed since", person.read("39", "40"), "The file changed while it was read", never=["CC"])
+    person.memory = "auto"
     huge = os.path.join(room, "huge.fa")
     with open(huge, "wb") as file:
+        file.write(b">huge\n")
         file.truncate(5 << 30)
+    person.memory = "whole"
     person.fresh()
     at("fasta").send_keys(huge)
     person.expect("a file that the memory does not hold", person.judged(), "not enough memory", "Nothing was judged")
+    person.memory = "auto"
+    with open(huge, "r+b") as file:
+        file.write(b">a\nAC\n>\nAC\n")
+    person.fresh()
+    at("fasta").send_keys(huge)
+    person.expect("in parts it is read until it is refused", person.judged(), "No index can be made", "at byte 7", "line 3", "after 1 record")
     os.remove(huge)
     for what in ("a small one after it", "and another"):
         browser.run("document.body.dataset.round = '0'")
@@ -200,7 +219,7 @@ def by_keyboard():
     check("and round", focused() == "tab-read")
     # Tab goes through all that can be used, in the order in which it stands, and shows where it is
     person.open(b">a one\nACGT\n")
-    wanted = ["fasta", "fai", "strict", "make", "search", "records", "tab-read", "first", "last", "strand", "read"]
+    wanted = ["fasta", "fai", "strict", "memory", "make", "search", "records", "tab-read", "first", "last", "strand", "read"]
     browser.run("document.activeElement.blur(); window.getSelection().removeAllRanges(); document.querySelector('.skip').focus()")
     met, hidden = [], []
     for _ in wanted:

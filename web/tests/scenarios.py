@@ -132,7 +132,7 @@ def sheets(p, samples):
     p.expect("its keys, saved", repr(p.save("save-keys")), repr(">sq0:2-3 one\nCG\n>sq1:9-\nNN\n>{sq0}:-1\nA\n>sq0\nACGT\n"))
     p.fill(regions="sq0:2-5\nnobody:1-2\nsq1 5 9\nsq0:3-2\nsq0:x-y\nsq0:1-2\n")
     p.expect("all faults at once", p.press("answer", "sheet-told"), "5 of 6 regions", "No key")
-    p.expect("which", str(p.cells("keys")), "refused 17 (length 4)", "refused 15", "apart from the name", "refused 16", "'5'", never=["'AC'"])
+    p.expect("which", str(p.cells("keys")), "refused 17 (length 4)", "refused 15", "write it without blanks", "refused 16", "'5'", never=["'AC'"])
     p.drop(("a.bed", "sq0\t0\t2\tfirst\nsq1\t8\t10\n"), on="#regions")
     p.engine.wait_for("return document.getElementById('sheet-told').textContent.startsWith('2 keys') ? 1 : null", what="a dropped sheet")
     p.expect("BED, dropped", str(p.cells("keys")), "sq0:1-2", "first", "AC", "sq1:9-10", "NN")
@@ -205,4 +205,37 @@ def primers(p, samples):
     p.expect("across two pieces", told + str(p.cells("places")), "2 places", "1,048,575", "1,048,578")
 
 
+def files_in_parts(p, samples):
+    """A file of which nothing is held: its index is made while it passes by, and held against the one that is given."""
+    p.expect("M1, in parts", p.open(M1), "2 records", "read in parts", "not kept in memory")
+    p.expect("M1, in parts, its index", repr(p.save("make")), repr("sq0\t4\t5\t4\t5\nsq1\t10\t15\t4\t5\n"))
+    p.expect("M9, in parts, with its index", p.open(M9, b"s\t6\t3\t4\t5\n"), "Accepted", "read in parts", "same names and numbers")
+    p.expect("M9, 4 to 5", p.read("4", "5"), "2 bases", "TA")
+    p.expect("M9, 5 to 7", p.read("5", "7"), "Refused", "refused 17 (length 6)")
+    p.expect("numbers written in another way", p.open(M9, b"s\t+6\t03\t4\t5\r\n"), "Accepted")
+    p.expect("M10, in parts", p.open(M9, b"s\t6\t3\t4\t6\n"), "Not accepted: line 1 of a.fa.fai", "keep the whole file in memory", "s→6→3→4→6", "s→6→3→4→5", never=["Refused", "leads to"])
+    p.expect("M10, read by the index that was made", p.read("4", "6"), "3 bases", "TAC")
+    # numbers that lead to every base as well are not judged in parts, and accepted of the whole file
+    p.expect("M11, in parts", p.open(b">s\nACGT\n", b"s\t4\t3\t60\t61\n"), "Not accepted: line 1", "Other numbers can lead to every base too")
+    p.engine.run("document.body.dataset.round = '0'")
+    p.fill(memory="whole")
+    p.expect("M11, then whole", p.judged(), "Accepted", never=["parts"])
+    p.expect("a line missing", p.open(M1, b"sq0\t4\t5\t4\t5\n"), "Not accepted: line 2", "has no line 2", "sq1→10→15→4→5")
+    p.expect("a line too many", p.open(M9, b"s\t6\t3\t4\t5\nt\t6\t3\t4\t5\n"), "Not accepted: line 2", "gives no line 2", "t→6→3→4→5")
+    p.expect("another name", p.open(M9, b"t\t6\t3\t4\t5\n"), "Not accepted: line 1")
+    p.expect("a bad index line", p.open(M9, b"s\t6\tx\t4\t5\n"), "Refused", "field 3, the offset of the first base", "a.fa.fai, line 1")
+    p.expect("nothing is read by it", str(p.engine.run("return document.getElementById('reading').disabled")), "True")
+    p.save("make")
+    p.expect("a new one is made, and gone by", p.says("made") + p.read("1", "2"), "Reads go by it now", "AC")
+    p.expect("no FASTA", p.open(b"hello\n"), "No index can be made", "refused 3 (offset 0)", "line 1", "hello")
+    p.expect("no name", p.open(b">s\nACGT\n>\nAC\n"), "at byte 9", "a.fa, line 3", "after 1 record")
+    p.expect("no index fits", p.open(b">s\nACGT\nAC\nACGT\n"), "refused 42", "line 4")
+    p.expect("M3, in parts", p.open(b">s\nACGT\n\n\n", strict=True), "refused 6 (found 0, expected 4)", "line 3")
+    p.expect("M4, in parts", p.open(b">s\nACGT\nACGT\r\n", strict=True), "refused 7 (found 6, expected 5)", "line 3")
+    p.expect("an empty pair", p.open(b"", b""), "Accepted", "0 records")
+    for test in (pain_of_the_clipped_read, pain_of_the_buffer, records, sheets, exercises, primers):
+        test(p, samples)
+
+
 ALL = [marked_examples, pain_of_the_clipped_read, pain_of_the_stale_index, pain_of_the_buffer, bad_files, records, sheets, exercises, primers]
+IN_PARTS = [files_in_parts]
