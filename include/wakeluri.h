@@ -83,6 +83,14 @@ struct wakeluri_part {
     uint64_t from, to;
 };
 
+/* The row of an index line of six columns, as a FASTQ file has them: `plain` is 1 for a line that wakeluri_fastq_write_line would write with
+ * the same bytes. */
+struct wakeluri_fastq {
+    uint64_t refusal, first, second;
+    uint64_t plain;
+    uint64_t name_start, name_length, length, position, line_bases, line_width, quality_position;
+};
+
 /* What a definition line says, given with its end. Refuses 1 to 4; the line begins at 0, so `first` is the place in it. */
 struct wakeluri_definition wakeluri_definition_line(const uint8_t *line, size_t line_length);
 
@@ -200,6 +208,27 @@ struct wakeluri_score wakeluri_score_exercise(const uint8_t *exercise, size_t ex
 
 /* Accepts a FASTA file and an index of any program exactly if the index leads to every base. Refuses 1, 2 to 4, 19, 9 to 12, 21 to 23, 20. */
 struct wakeluri_answer wakeluri_check(const uint8_t *fasta, size_t fasta_length, const uint8_t *index, size_t index_length);
+
+/* FASTQ. A row of its tables is seven numbers (name start, name length, length, position, line bases, line width, quality position), 56 bytes;
+ * a line of its index has six columns. A definition line begins with '@'. */
+
+/* A row for each record of a FASTQ file, from the table's first on; tells how many. Each line of bases but a record's last has the first one's
+ * bases and width, the last no more, and none is blank; there are as many lines of qualities behind the '+' line, each with the bases of its
+ * partner and its width. Refuses 1, then record by record 2 to 7, 38, 39, 8. */
+struct wakeluri_answer wakeluri_fastq_index(const uint8_t *file, size_t file_length, uint8_t *table, size_t table_length);
+
+/* A row for each line of an index of six columns, from the table's first on; names are spans of the index. Refuses 1, 9 to 12, 8. */
+struct wakeluri_answer wakeluri_fastq_read_index(const uint8_t *index, size_t index_length, uint8_t *table, size_t table_length);
+
+/* What an index line of six columns says, given with its end; its name starts at 0. Refuses 1, 9 to 12. */
+struct wakeluri_fastq wakeluri_fastq_read_line(const uint8_t *line, size_t line_length);
+
+/* The index line of a row, of six columns and with its LF, at the front of `out`; tells how many bytes. Refuses 1, 25, 13, 14. */
+struct wakeluri_answer wakeluri_fastq_write_line(const uint8_t *names, size_t names_length, const uint8_t *table, size_t table_length, uint64_t in_use, uint64_t row, uint8_t *out, size_t out_length);
+
+/* Exactly the bases from `start` to `end` of a row's record, or where `qualities` is not 0 exactly their qualities, never fewer; a bound is
+ * absent where its flag is 0. Refuses 1, 16, 25, 17, 14, 18. */
+struct wakeluri_answer wakeluri_fastq_read(const uint8_t *file, size_t file_length, const uint8_t *table, size_t table_length, uint64_t in_use, uint64_t row, uint64_t qualities, uint64_t has_start, uint64_t start, uint64_t has_end, uint64_t end, uint8_t *out, size_t out_length);
 
 /* Uses the code for a level of x86-64 (1, 3 or 4), or for the best that the processor has where that is less; 0 asks for the best, which
  * is in use from the start. Returns the level in use. Every level gives the same answers: this is for tests and timings. */

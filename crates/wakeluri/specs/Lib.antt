@@ -9,3 +9,4 @@ pub mod PlainAgainLaws
 pub mod PlainAgain
 pub mod Course
 pub mod Feeding
+pub mod Qualities

@@ -91,7 +91,7 @@ pub(crate) fn no_span() -> Span
 }
 
 // No record.
-fn no_record() -> Record
+pub(crate) fn no_record() -> Record
     ensures { λ r. ⌜ r ≡ noRecord ⌝ }
 {
     Record::unnamed(0, Offset(0), 0, 0)

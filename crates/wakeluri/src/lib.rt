@@ -7,6 +7,7 @@ pub mod course;
 pub mod feeding;
 pub mod files;
 pub mod primers;
+pub mod qualities;
 pub mod rows;
 pub mod scan;
 pub mod sheets;

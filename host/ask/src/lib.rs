@@ -4,13 +4,14 @@ use questions::form::Value::{
     self, Bounds, Bytes, MaybeBytes, MaybeNumber, Number, Numbers, Output, Regions, Rows, Stepped, Steps, Table,
 };
 use questions::form::{self, Answer, Speaker, Tell};
-use questions::row::{OF_A_LINE, WORDS};
+use questions::row::{FASTQ_WORDS, OF_A_LINE, WORDS};
 use std::io::Write;
 use std::path::{Path, PathBuf};
 use std::process::{Command, Stdio};
 use wakeluri::entry;
 
 const _: () = assert!(WORDS == entry::ROW_WORDS, "a row has as many numbers in questions as in answers");
+const _: () = assert!(FASTQ_WORDS == entry::FASTQ_ROW_WORDS, "and so has one of a FASTQ file");
 
 /// The library, and where its program is, if it is to be run.
 pub struct Library {
@@ -186,6 +187,19 @@ impl Speaker for Library {
                 let table = bytes(&rows.numbers);
                 let score = entry::score_exercise(exercise, typed, file, names, &table, rows.in_use, key);
                 told(score.no(), score.numbers())
+            }
+            ("fqi", [Bytes(file), Table(table)]) => filled(table, |table| entry::fastq_index(file, table)),
+            ("fqt", [Bytes(index), Table(table)]) => filled(table, |table| entry::fastq_read_index(index, table)),
+            ("fql", [Bytes(line)]) => {
+                let line = entry::fastq_read_line(line);
+                told(line.no(), vec![Numbers(line.row().to_vec())])
+            }
+            ("fqw", [Bytes(names), Rows(rows), Number(row), Output(out)]) => {
+                counted(entry::fastq_write_line(names, &bytes(&rows.numbers), rows.in_use, *row, out))
+            }
+            ("fqr", [Bytes(file), Rows(rows), Number(row), Bounds(bounds), Number(which), Output(out)]) => {
+                let (table, bounds) = (bytes(&rows.numbers), (*bounds).into());
+                counted(entry::fastq_read(file, &table, rows.in_use, *row, *which, bounds, out))
             }
             ("chk", [Bytes(fasta), Bytes(index)]) => told(entry::check(fasta, index).no(), ()),
             ("prg", [Bytes(input)]) => told(None, vec![Bytes(output(self.program.as_ref()?, input)?)]),

@@ -2,7 +2,7 @@
 //!
 //! These add nothing to what the static library does but that slices make them safe to call. Every call takes any bytes and any
 //! numbers: the proved code reads and writes only inside the slices that it is lent. A table is bytes, eight to a number, low
-//! byte first, [`ROW_WORDS`] numbers to a row. The crate's own functions and [`Table`](crate::Table) are more comfortable.
+//! byte first, [`ROW_WORDS`] numbers to a row, or of a FASTQ file [`FASTQ_ROW_WORDS`]. The crate's own functions and [`Table`](crate::Table) are more comfortable.
 
 use crate::Bounds;
 
@@ -44,6 +44,17 @@ pub const ROW_WORDS: usize = (size_of::<Row>() - core::mem::offset_of!(Row, name
 /// The bytes of a row of a table.
 pub const ROW_BYTES: usize = ROW_WORDS * size_of::<u64>();
 
+/// The numbers of a row of a table of a FASTQ file: those of a [`Fastq`] from `name_start` on.
+pub const FASTQ_ROW_WORDS: usize = (size_of::<Fastq>() - core::mem::offset_of!(Fastq, name_start)) / size_of::<u64>();
+
+impl Fastq {
+    /// The numbers of the row, as a table has them.
+    pub fn row(&self) -> [u64; FASTQ_ROW_WORDS] {
+        let numbers = self.numbers();
+        core::array::from_fn(|word| numbers[Self::NUMBERS - FASTQ_ROW_WORDS + word])
+    }
+}
+
 impl Row {
     /// The numbers of the row, as a table has them.
     pub fn row(&self) -> [u64; ROW_WORDS] {
@@ -59,6 +70,7 @@ macro_rules! lent {
     (maybe) => { Option<&[u8]> };
     (output) => { &mut [u8] };
     (table) => { &mut [u8] };
+    (fastq_table) => { &mut [u8] };
     (numbers) => { &mut [u64] };
     (number) => { u64 };
     (state) => { Feed };
@@ -90,6 +102,9 @@ macro_rules! call {
         call!($name $answer [$($type,)* *mut u8, usize,] [$($value,)* $out.as_mut_ptr(), $out.len(),] $($rest)*)
     };
     ($name:ident $answer:ident [$($type:ty,)*] [$($value:expr,)*] $table:ident table $($rest:ident)*) => {
+        call!($name $answer [$($type,)*] [$($value,)*] $table output $($rest)*)
+    };
+    ($name:ident $answer:ident [$($type:ty,)*] [$($value:expr,)*] $table:ident fastq_table $($rest:ident)*) => {
         call!($name $answer [$($type,)*] [$($value,)*] $table output $($rest)*)
     };
     ($name:ident $answer:ident [$($type:ty,)*] [$($value:expr,)*] $numbers:ident numbers $($rest:ident)*) => {

@@ -39,6 +39,7 @@
 //! | have an index of bytes in memory, or of another's text | [`index`], [`read_index`], [`check`], [`Table`] |
 //! | read regions as people write them | [`Fasta::read`], [`region`] |
 //! | write FASTA | [`Writer`], [`write_record`] |
+//! | index FASTQ, and read its bases and qualities | [`fastq`] |
 //! | know why there is no answer | [`Refusal`], and [`Reason`] for a `match` |
 //! | come from noodles-fasta | [`noodles`] |
 //!
@@ -57,6 +58,7 @@ mod bounds;
 mod course;
 #[allow(unsafe_code)]
 pub mod entry;
+pub mod fastq;
 mod feeder;
 #[allow(unsafe_code)]
 mod level;

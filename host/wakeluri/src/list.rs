@@ -11,6 +11,7 @@
 /// | maybe | `Option<&[u8]>` | `uint64_t has_p, const uint8_t *p, size_t p_length` |
 /// | output | `&mut [u8]` | `uint8_t *p, size_t p_length` |
 /// | table | `&mut [u8]` | the same: rows are put in it |
+/// | fastq_table | `&mut [u8]` | the same: rows of a FASTQ file are put in it |
 /// | numbers | `&mut [u64]` | `uint64_t *p, size_t p_length` |
 /// | number | `u64` | `uint64_t p` |
 /// | state | `Feed` | `struct wakeluri_feed p`: what an earlier call left |
@@ -140,6 +141,25 @@ macro_rules! entry_points {
             /// Accepts a FASTA file and an index of any program exactly if the index leads to every base. Refuses 1, 2 to 4, 19, 9
             /// to 12, 21 to 23, 20.
             fn check(fasta: bytes, index: bytes) -> Answer;
+
+            /// A row for each record of a FASTQ file, from the table's first on, seven numbers to a row; tells how many. Refuses 1, then record
+            /// by record 2 to 7, 38, 39, 8.
+            fn fastq_index(file: bytes, table: fastq_table) -> Answer;
+
+            /// A row for each line of an index of six columns, from the table's first on; names are spans of the index. Refuses 1, 9 to 12, 8.
+            fn fastq_read_index(index: bytes, table: fastq_table) -> Answer;
+
+            /// What an index line of six columns says, given with its end; its name starts at 0. Refuses 1, 9 to 12.
+            fn fastq_read_line(line: bytes) -> Fastq;
+
+            /// The index line of a row, of six columns and with its LF, at the front of `out`; tells how many bytes. Refuses 1, 25, 13, 14.
+            fn fastq_write_line(names: bytes, table: bytes, in_use: number, row: number, out: output) -> Answer;
+
+            /// Exactly the bases from `start` to `end` of a row's record, or for every `qualities` but 0 exactly their qualities, never
+            /// fewer. Refuses 1, 16, 25, 17, 14, 18.
+            fn fastq_read(
+                file: bytes, table: bytes, in_use: number, row: number, qualities: number, bounds: bounds, out: output
+            ) -> Answer;
         }
     };
 }
@@ -184,6 +204,11 @@ macro_rules! answers {
 
             /// A part of a file: the offset of its first byte, and the offset behind its last.
             struct Part { from, to }
+
+            /// The row of an index line of six columns, the numbers from `name_start` on; `plain` is 1 for a plain line.
+            struct Fastq {
+                plain, name_start, name_length, length, position, line_bases, line_width, quality_position
+            }
         }
     };
 }

@@ -39,6 +39,10 @@ pub enum Call {
     Score,
     /// Counting a primer's sequences, or finding it.
     Primer,
+    /// Indexing a FASTQ file.
+    FastqIndex,
+    /// Holding an index of six columns against its FASTQ file.
+    FastqCheck,
 }
 
 /// Why a call gave no answer: the refusal's number and its two numbers, 0 where none is named.
@@ -68,13 +72,14 @@ pub struct Refusal {
     pub call: Call,
 }
 
-/// The five columns of an index line, by their field's number.
+/// The columns of an index line, by their field's number.
 fn column(field: u64) -> &'static str {
     match field {
         2 => "the length",
         3 => "the offset of the first base",
         4 => "the bases in a line",
         5 => "the bytes in a line",
+        6 => "the offset of the first quality",
         _ => "the name",
     }
 }
@@ -101,7 +106,7 @@ impl Refusal {
         if number == 0 { Ok(()) } else { Err(Self { number, first, second, call }) }
     }
 
-    /// The offset in the FASTA file, from 0, that it tells: of a definition line that does not read (2 to 4), of the byte at which
+    /// The offset in the file, from 0, that it tells: of a definition line that does not read (2 to 4), of the byte at which
     /// reading it failed; of 5, of the byte behind the record's first line; of 42, of the base that no index leads to.
     ///
     /// ```
@@ -113,6 +118,7 @@ impl Refusal {
         match (self.number, self.call) {
             (2..=4, Call::Check) => Some(self.second),
             (2..=5 | 42, Call::Index) => Some(self.first),
+            (2..=5, Call::FastqIndex | Call::FastqCheck) => Some(self.first),
             _ => None,
         }
     }
@@ -125,10 +131,15 @@ impl Refusal {
     /// ```
     pub fn words(&self) -> String {
         let (first, second) = (self.first, self.second);
-        let checking = self.call == Call::Check;
+        let fastq = matches!(self.call, Call::FastqIndex | Call::FastqCheck);
+        let checking = matches!(self.call, Call::Check | Call::FastqCheck);
         let line = if checking { format!("the index line of record {first}") } else { format!("line {first}") };
-        let definition =
-            if checking { format!("the definition line of record {first}") } else { "a definition line".to_string() };
+        // the checker of FASTQ judges the whole file first, and counts no records then
+        let definition = match self.call {
+            Call::Check => format!("the definition line of record {first}"),
+            _ => "a definition line".to_string(),
+        };
+        let mark = if fastq { '@' } else { '>' };
         let there = match self.offset() {
             Some(offset) => format!("byte {offset}"),
             None => format!("place {first} of the line"),
@@ -136,8 +147,8 @@ impl Refusal {
         match self.number {
             1 => "an input has more than 1,099,511,627,776 bytes".to_string(),
             2 => format!("{definition} is empty, at {there}"),
-            3 => format!("{definition} does not begin with '>', at {there}"),
-            4 => format!("{definition} has no name after its '>', at {there}"),
+            3 => format!("{definition} does not begin with '{mark}', at {there}"),
+            4 => format!("{definition} has no name after its '{mark}', at {there}"),
             5 => format!("a record has no bases in its first line, which ends at offset {first}"),
             6 => format!("a line has {first} bases, and its record's lines have {second}"),
             7 => format!("a line has {first} bytes with its end, and its record's lines have {second}"),
@@ -156,6 +167,7 @@ impl Refusal {
             20 => format!("the index goes on after the lines of all {first} records"),
             21 => format!("record {first} and its index line have different names"),
             22 => format!("record {first} has another number of bases than its index line says"),
+            23 if fastq => format!("base {second} of record {first}, or its quality, is not where its index line says"),
             23 => format!("base {second} of record {first} is not where its index line says"),
             24 => format!("the byte {} at place {first} has no complement", shown(second)),
             25 => format!("row {first} is not in the table, its name is not in the bytes, or its lines have no bases"),
@@ -196,10 +208,10 @@ impl Refusal {
     /// ```
     pub fn code(&self) -> String {
         let (number, first, second) = (self.number, self.first, self.second);
-        let checking = self.call == Call::Check;
+        let checking = matches!(self.call, Call::Check | Call::FastqCheck);
         let line = if checking { "record" } else { "line" };
         match number {
-            2..=4 if checking => format!("refused {number} (record {first}, offset {second})"),
+            2..=4 if self.call == Call::Check => format!("refused {number} (record {first}, offset {second})"),
             2..=4 if self.call == Call::Definition => format!("refused {number} (place {first})"),
             2..=5 => format!("refused {number} (offset {first})"),
             1 | 15 | 16 | 26..=30 | 35 | 36 | 38 | 40 | 41 => format!("refused {number}"),

@@ -197,7 +197,8 @@ fn filled(
         let in_use = answer.count as usize;
         if answer.refusal == 8 && rows < most {
             let table = Table::from_bytes(text, bytes, in_use);
-            rows = table.rows_for_all().clamp(rows + 1, most);
+            let last_name = in_use.checked_sub(1).and_then(|row| table.numbers(row)).map_or(0, |[start, ..]| start);
+            rows = rows_for_all(in_use, last_name, text.len()).clamp(rows + 1, most);
             continue;
         }
         bytes.truncate(in_use.saturating_mul(ROW_BYTES));
@@ -230,7 +231,12 @@ impl<'n> Table<'n> {
     /// A table from bytes as they are: [`ROW_WORDS`] numbers of eight bytes to a row, low byte first. Nothing is judged here; a row
     /// that can't be used is refused with 25 when it is.
     pub fn from_bytes(names: &'n [u8], bytes: Vec<u8>, in_use: usize) -> Self {
-        Self { names, bytes, in_use, identity: Identity::fresh() }
+        Self::with_identity(names, bytes, in_use, Identity::fresh())
+    }
+
+    /// The same, whose rows are those of another table.
+    pub(crate) fn with_identity(names: &'n [u8], bytes: Vec<u8>, in_use: usize, identity: Identity) -> Self {
+        Self { names, bytes, in_use, identity }
     }
 
     /// A table of one row: a name, and the numbers of its index line.
@@ -334,15 +340,6 @@ impl<'n> Table<'n> {
         (0..self.in_use).map_while(|row| self.numbered_record(row))
     }
 
-    /// About how many rows all the bytes have, where this table has the first of them: as many for a byte as up to its last name,
-    /// and an eighth more; at least twice as many as it has.
-    fn rows_for_all(&self) -> usize {
-        let last_name = self.in_use.checked_sub(1).and_then(|row| self.numbers(row)).map_or(0, |[start, ..]| start);
-        let likely = self.in_use as u128 * self.names.len() as u128 / u128::from(last_name.max(1));
-        let likely = usize::try_from(likely).unwrap_or(usize::MAX);
-        likely.saturating_add(likely / 8).max(self.in_use.saturating_mul(2))
-    }
-
     /// The first row that has a name. Refuses 1, 25, 15.
     ///
     /// It walks over the names from the first on; [`Names`](crate::Names) is for many look-ups.
@@ -436,16 +433,7 @@ impl<'n> Table<'n> {
 
     /// Adds the index line of a row to a text. Refuses 1, 25, 13, and then adds nothing.
     pub fn write_index_line(&self, row: Row, text: &mut Vec<u8>) -> Result<(), Refusal> {
-        let before = text.len();
-        // room for most lines; a longer one says how much it needs
-        text.resize(before + 128, 0);
-        let mut written = self.write_index_line_into(row, text.get_mut(before..).unwrap_or_default());
-        if let Err(Refusal { number: 14, first, .. }) = written {
-            text.resize(before + first as usize, 0);
-            written = self.write_index_line_into(row, text.get_mut(before..).unwrap_or_default());
-        }
-        text.truncate(before + written.unwrap_or(0));
-        written.map(|_| ())
+        write_line_behind(text, |out| self.write_index_line_into(row, out))
     }
 
     /// The index line of a row, at the front of a room that is lent; tells how many bytes. Refuses 1, 25, 13, 14.
@@ -453,6 +441,31 @@ impl<'n> Table<'n> {
         let (in_use, row) = self.lent(row);
         counted(Call::WriteIndex, entry::write_index_line(self.names, &self.bytes, in_use, row, out))
     }
+}
+
+/// About how many rows some bytes have, where the first `rows` of them reach to this last name: as many for a byte as up to there, and an
+/// eighth more; at least twice as many.
+pub(crate) fn rows_for_all(rows: usize, last_name: u64, bytes: usize) -> usize {
+    let likely = rows as u128 * bytes as u128 / u128::from(last_name.max(1));
+    let likely = usize::try_from(likely).unwrap_or(usize::MAX);
+    likely.saturating_add(likely / 8).max(rows.saturating_mul(2))
+}
+
+/// Adds a line to a text, which is written to the front of a room that is lent; adds nothing where it is refused.
+pub(crate) fn write_line_behind(
+    text: &mut Vec<u8>,
+    write: impl Fn(&mut [u8]) -> Result<usize, Refusal>,
+) -> Result<(), Refusal> {
+    let before = text.len();
+    // room for most lines; a longer one says how much it needs
+    text.resize(before + 128, 0);
+    let mut written = write(text.get_mut(before..).unwrap_or_default());
+    if let Err(Refusal { number: 14, first, .. }) = written {
+        text.resize(before + first as usize, 0);
+        written = write(text.get_mut(before..).unwrap_or_default());
+    }
+    text.truncate(before + written.unwrap_or(0));
+    written.map(|_| ())
 }
 
 /// The count of an answer, or its refusal.

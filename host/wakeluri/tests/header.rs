@@ -98,7 +98,7 @@ fn in_rust(name: &str, parameters: &[(&str, &str)], answer: &str) -> String {
     let in_c = |(name, kind): &(&str, &str)| match *kind {
         "bytes" => format!("{name}: *const u8, {name}_length: usize"),
         "maybe" => format!("has_{name}: u64, {name}: *const u8, {name}_length: usize"),
-        "output" | "table" => format!("{name}: *mut u8, {name}_length: usize"),
+        "output" | "table" | "fastq_table" => format!("{name}: *mut u8, {name}_length: usize"),
         "numbers" => format!("{name}: *mut u64, {name}_length: usize"),
         "number" => format!("{name}: u64"),
         "state" => format!("{name}: Feed"),

@@ -5,6 +5,7 @@
 
 use questions::generate::Chance;
 use wakeluri::entry::{self, ROW_BYTES, ROW_WORDS};
+use wakeluri::fastq::{self, Part};
 use wakeluri::{Bounds, Call, Edition, Names, ReadError, Refusal, Row, Table, Window};
 
 const NUMBERS: [u64; 16] = [
@@ -53,10 +54,28 @@ fn fasta(chance: &mut Chance) -> Box<[u8]> {
     text.into_boxed_slice()
 }
 
+/// A FASTQ file, whose parts may not fit.
+fn reads(chance: &mut Chance) -> Box<[u8]> {
+    let records = chance.below(4);
+    let mut text = vec![];
+    for _ in 0..records {
+        let bases = bytes(chance, b"ACGT\nACGT\n");
+        let qualities: Vec<u8> = bases.iter().map(|b| if *b == b'\n' { *b } else { chance.one_of(b"@+I!") }).collect();
+        text.extend([b"@s\n", &bases[..], b"\n+\n", &qualities, b"\n"].concat());
+    }
+    if chance.once_in(3) && !text.is_empty() {
+        let at = chance.below(text.len());
+        text[at] = chance.one_of(b"@+\n\rA");
+    }
+    text.into_boxed_slice()
+}
+
+/// An index of five or six columns.
 fn index(chance: &mut Chance) -> Box<[u8]> {
     let lines = chance.below(4);
+    let columns = 4 + chance.below(2);
     let text: String = (0..lines)
-        .map(|_| format!("s\t{}\t{}\t{}\t{}\n", number(chance), number(chance), number(chance), number(chance)))
+        .map(|_| (0..columns).fold("s".to_string(), |line, _| format!("{line}\t{}", number(chance))) + "\n")
         .collect();
     let mut text = text.into_bytes();
     if chance.once_in(3) && !text.is_empty() {
@@ -116,6 +135,7 @@ impl Hostile {
         let chance = &mut self.chance;
         match parameter {
             "line" | "content" if chance.once_in(2) => index(chance),
+            "file" if chance.once_in(4) => reads(chance),
             "file" | "fasta" | "piece" | "names" | "line" | "content" => fasta(chance),
             "index" => index(chance),
             "bases" | "key" | "typed" => bytes(chance, b"ACGTN"),
@@ -215,6 +235,12 @@ impl Judged for entry::Row {
     }
 }
 
+impl Judged for entry::Fastq {
+    fn told(&self) -> (u64, usize, u64) {
+        (self.refusal, 0, end(self.name_start, self.name_length))
+    }
+}
+
 impl Judged for entry::Exercise {
     fn told(&self) -> (u64, usize, u64) {
         (self.refusal, 0, end(self.name_start, self.name_length))
@@ -272,6 +298,7 @@ macro_rules! made {
     };
     (output $parameter:ident $hostile:ident) => { room(&mut $hostile.chance, 60) };
     (table $parameter:ident $hostile:ident) => { room(&mut $hostile.chance, 3 * ROW_BYTES + 6) };
+    (fastq_table $parameter:ident $hostile:ident) => { room(&mut $hostile.chance, 3 * fastq::ROW_BYTES + 6) };
     (numbers $parameter:ident $hostile:ident) => { vec![STARTS; $hostile.chance.below(6)].into_boxed_slice() };
     (number $parameter:ident $hostile:ident) => { $hostile.number(stringify!($parameter)) };
     (state $parameter:ident $hostile:ident) => { state(&mut $hostile.chance) };
@@ -285,6 +312,7 @@ macro_rules! lent {
     (maybe $argument:ident) => { $argument.as_deref() };
     (output $argument:ident) => { &mut $argument };
     (table $argument:ident) => { &mut $argument };
+    (fastq_table $argument:ident) => { &mut $argument };
     (numbers $argument:ident) => { &mut $argument };
     (number $argument:ident) => { $argument };
     (state $argument:ident) => { $argument };
@@ -305,6 +333,7 @@ macro_rules! judged {
             stayed($count * ROW_BYTES, &$argument);
         }
     };
+    (fastq_table $argument:ident $refusal:ident $count:ident $end:ident) => { stayed($count * fastq::ROW_BYTES, &$argument) };
     (numbers $argument:ident $refusal:ident $count:ident $end:ident) => {
         // each start that was told is not before the one before it, nor behind what was written
         let told: Vec<u64> = $argument.iter().copied().take_while(|start| *start != STARTS).collect();
@@ -338,7 +367,21 @@ fn comfortable_call(chance: &mut Chance) {
     let table = Table::from_bytes(&file, bytes.into_vec(), in_use as usize);
     let bounds = bounds(chance);
     let row = Row::of_any_table(row as usize);
-    let _ = match chance.below(10) {
+    let _ = match chance.below(12) {
+        10 => {
+            let table = fastq::Table::from_bytes(&file, table.into_bytes(), in_use as usize);
+            let part = chance.one_of(&[Part::Bases, Part::Qualities]);
+            let read = table.read(&file, row, part, bounds);
+            // the read of a part is the exact read of the table of that part
+            assert_eq!(read, table.part(part).read_exact(&file, row, bounds));
+            let _ = table.find(b"s").and_then(|row| table.write_line(row, &mut vec![]));
+            read.map(|bytes| bytes.len() + table.records().zip(table.rows()).count())
+        }
+        11 => fastq::index(&reads(chance)).and_then(|table| table.write_index()).map(|text| {
+            let again = fastq::read_index(&text).and_then(|table| table.write_index());
+            assert_eq!(again.as_deref(), Ok(&text[..]));
+            text.len()
+        }),
         8 => {
             let whole = Window { bytes: &file, from: 0, file_length: file.len() as u64 };
             let read = table.read_window(whole, row, bounds);

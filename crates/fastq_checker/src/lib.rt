@@ -1,0 +1,2 @@
+// Checks an index of six columns against its FASTQ file.
+use checker::Verdict;

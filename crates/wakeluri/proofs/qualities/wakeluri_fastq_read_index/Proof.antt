@@ -1,0 +1,22 @@
+-- `wakeluri::qualities::wakeluri_fastq_read_index` meets its contract: what the call answers is told, and what it leaves is left.
+-- Assumes nothing.
+use Rattle.wakeluri.specs.Qualities.{rows-told}
+use borrow.Author.Needs.{needs}
+use Rattle.wakeluri.proofs.qualities.wakeluri_fastq_read_index.Statement.{statement}
+use Rattle.wakeluri.proofs.qualities.wakeluri_fastq_read_index.Tie as tie
+
+read-index-requires : tie.Need-read-index-requires
+read-index-requires c κs = search needs
+
+filled-answer-requires : tie.Need-filled-answer-requires
+filled-answer-requires c κs = search needs
+
+same-length : tie.Need-same-length
+same-length c = search needs
+
+returns : tie.Need-returns
+returns c = rows-told _ _ _ _ _ (c .before .before .before .read-index .ensures) (c .filled-answer .ensures)
+
+pub wakeluri-fastq-read-index-spec : {M : Type 1} → statement M
+wakeluri-fastq-read-index-spec =
+    tie.close (tie.spec read-index-requires filled-answer-requires same-length returns)
