@@ -42,6 +42,16 @@ export function linesNear(told, file) {
     return [{ file: "fasta", ...said, line: said.line + lineEnds, byte: byte + at }];
 }
 
+// Of a refusal of the indexer of FASTQ: the line at an offset, or the definition line of the record behind the last good row.
+export function fastqLines(told, fastq, last) {
+    const [number, first] = [Number(told.refusal), Number(told.first)];
+    if (number >= 2 && number <= 5) return ofFasta(fastq, lineAt(fastq, number === 5 ? Math.max(0, first - 1) : first), number === 5 ? Math.max(0, first - 1) : first);
+    if (![6, 7, 38, 39].includes(number)) return [];
+    const end = last ? Number(last.qualityPosition + ((last.length - 1n) / last.lineBases) * last.lineWidth + ((last.length - 1n) % last.lineBases)) : -1;
+    const line = last ? lineAt(fastq, lineAt(fastq, end).next) : lineAt(fastq, 0);
+    return ofFasta(fastq, line);
+}
+
 // The line of an index that has no good number, by the reader of indexes.
 export function lineRead(told, index) {
     const number = Number(told.refusal);

@@ -1,7 +1,7 @@
 // A file that is open, in one of two ways. Whole, it lies in the module's memory. In parts, none of it is kept: the proved feeder (K1) makes the
 // rows while the parts pass by, and a read wants the bytes of its region alone (K7), which the page hands over. Both answer alike; what is
-// asked of them is asked inside `using`, where it gives rooms.
-import { ROW, bounds } from "./wakeluri.js";
+// asked of them is asked inside `using`, where it gives rooms. A FASTQ file is whole: for it there is no feeder.
+import { FASTQ_ROW, ROW, bounds } from "./wakeluri.js";
 
 const FED = 1 << 20; // bytes that are fed at a time: so much room for rows is made before
 const LARGEST = 2n ** 64n - 1n;
@@ -91,6 +91,19 @@ export class Whole {
             told = ask(room);
         }
         return told.refusal === 0n ? { ...told, key: room.part(0, Number(told.right + told.wrong + told.missing)) } : told;
+    }
+}
+
+export class Fastq extends Whole {
+    rows() {
+        const told = this.proved.table("fastq_index", this.room, FASTQ_ROW);
+        return [told, { names: this.room, table: told.table, count: Number(told.count), size: FASTQ_ROW }];
+    }
+
+    // Exactly the bases of a region, or their qualities.
+    exact({ table, count }, row, first, last, qualities = false) {
+        const wanted = qualities ? 1n : 0n;
+        return this.proved.output((out) => this.proved.call("fastq_read", this.room, table, BigInt(count), BigInt(row), wanted, ...bounds(first, last), out));
     }
 }
 

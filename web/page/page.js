@@ -198,8 +198,9 @@ let round = 0;
 let row; // the record that is chosen
 
 const PARTS = ["choosing", "reading", "sheeting", "making", "searching"];
-function enable(open) {
-    for (const id of PARTS) byId(id).disabled = !open;
+const FASTQ_PARTS = ["choosing", "reading"];
+function enable(open, fastq) {
+    for (const id of PARTS) byId(id).disabled = !open || (fastq && !FASTQ_PARTS.includes(id));
 }
 function clearResults() {
     for (const id of ["count", "made", "matches", "sheet-told", "scored", "primer-told", "copied", "copied-keys", "exercise-made"]) show(byId(id), "");
@@ -230,15 +231,22 @@ function isInParts(file) {
     return { parts: true, whole: false }[byId("memory").value] ?? file.size > HELD;
 }
 
+// Whether a file is FASTQ, by its first byte: each of its records begins with '@', and each of FASTA with '>'.
+async function isFastq(file) {
+    return file.size > 0 && new Uint8Array(await bytesOf(file, 0, 1))[0] === 0x40;
+}
+
 // Hands both files to the worker: in parts where the file is large, or where there is no memory for the whole; false as above.
 async function load(mine, progress) {
     const { fasta, fai } = held;
-    const begin = (inParts) => ask("begin", { round: mine, fasta: fasta.size, index: fai?.size, inParts, strict: byId("strict").checked });
-    const inParts = isInParts(fasta);
+    const fastq = await isFastq(fasta);
+    if (mine !== round) return false;
+    const begin = (inParts) => ask("begin", { round: mine, fasta: fasta.size, index: fai?.size, fastq, inParts, strict: byId("strict").checked });
+    const inParts = !fastq && isInParts(fasta);
     try {
         await begin(inParts);
     } catch (e) {
-        if (inParts || byId("memory").value !== "auto" || !(e instanceof NoMemory)) throw e;
+        if (inParts || fastq || byId("memory").value !== "auto" || !(e instanceof NoMemory)) throw e;
         await begin(true);
     }
     return await hand(mine, "fasta", fasta, progress) && (!fai || await hand(mine, "index", fai, () => {}));
@@ -266,7 +274,7 @@ async function open() {
         if (mine !== round) return;
         document.body.dataset.times = JSON.stringify({ loading, checking: told.checking, indexing: told.indexing });
         judged(told);
-        if (told.records !== undefined) await opened();
+        if (told.records !== undefined) await opened(told.fastq);
     });
     if (mine === round) byId("working").hidden = true;
     document.body.dataset.round = String(mine);
@@ -290,16 +298,17 @@ function judged(told) {
         return;
     }
     const records = many("record", told.records);
+    const how = told.fastq ? "fastq" : told.inParts ? "parts" : "whole";
     if (told.other) {
         show(byId("verdict"), t("files.other", { index, fasta, line: told.other.line, records }), "bad");
-        show(byId("detail"), t("files.other.detail"));
+        show(byId("detail"), t(`files.other.${how}`));
         showOther(told.other);
     } else if (told.accepted) {
-        show(byId("verdict"), t(told.inParts ? "files.accepted.parts" : "files.accepted", { index, fasta, records }), "good");
-        if (told.inParts) show(byId("detail"), t("files.accepted.parts.detail"));
+        show(byId("verdict"), t(told.fastq ? "files.accepted.both" : "files.accepted", { index, fasta, records }), "good");
+        if (how !== "whole") show(byId("detail"), t(`files.accepted.${how}`));
     } else {
         show(byId("verdict"), t("files.indexed", { fasta, records }));
-        show(byId("detail"), t(told.inParts ? "files.indexed.parts" : "files.indexed.detail"));
+        show(byId("detail"), t(`files.indexed.${how}`));
     }
 }
 
@@ -333,8 +342,8 @@ function showOther({ line, given, made: text }) {
 }
 
 // A file that can be read: its records are listed.
-async function opened() {
-    enable(true);
+async function opened(fastq) {
+    enable(true, fastq);
     await list();
 }
 
@@ -400,8 +409,8 @@ byId("make").addEventListener("click", () => working(byId("made"), async () => {
     const file = `${chosen.fasta.name}.fai`;
     const instead = byId("verdict").classList.contains("bad");
     if (instead) {
-        await askFile("anew");
-        await opened();
+        const { fastq } = await askFile("anew");
+        await opened(fastq);
     }
     save(file, told.parts, byId("saved"));
     show(byId("made"), t(instead ? "index.made.instead" : "index.made", { file, records: many("record", told.records) }), "good");
@@ -412,8 +421,15 @@ byId("make").addEventListener("click", () => working(byId("made"), async () => {
 let searches = 0;
 async function list() {
     const mine = ++searches;
-    const told = await askFile("list", { search: byId("search").value.trim(), most: LISTED });
-    if (mine !== searches) return;
+    const told = { rows: [], matches: 0 };
+    for (let at = 0; at !== undefined;) {
+        const some = await askFile("list", { search: byId("search").value.trim(), most: LISTED - told.rows.length, at });
+        if (mine !== searches) return;
+        told.rows.push(...some.rows);
+        told.matches += some.matches;
+        told.records = some.records;
+        at = some.next;
+    }
     const options = told.rows.map((record) => {
         const bases = many("base", record.length);
         const text = t(record.description ? "records.option.described" : "records.option", { ...record, bases });
@@ -458,7 +474,12 @@ byId("read-form").addEventListener("submit", (e) => {
             const label = t(other ? "read.other" : "read.bases");
             byId("bases").append(made("p", label, { class: "quiet" }), made("pre", text, { tabindex: "0", role: "region", "aria-label": label, class: "bases" }));
         }
-        lastRead = { ...wanted, name: told.name, text: told.strands.map(({ text }) => text).join("\n") };
+        if (told.qualities !== undefined) {
+            const label = t(wanted.strand === "other" ? "read.qualities.turned" : "read.qualities");
+            byId("bases").append(made("p", label, { class: "quiet" }), made("pre", told.qualities, { tabindex: "0", role: "region", "aria-label": label, class: "bases" }));
+        }
+        const lines = [...told.strands.map(({ text }) => text), ...(told.qualities === undefined ? [] : [told.qualities])];
+        lastRead = { ...wanted, name: told.name, text: lines.join("\n") };
         byId("read-more").hidden = false;
     });
 });
@@ -667,6 +688,8 @@ tabs.forEach((tab, k) => {
 for (const button of document.querySelectorAll("button.print")) button.addEventListener("click", () => window.print());
 
 // --- begin
+
+byId("memory").options[0].textContent = t("memory.auto", { size: HELD >> 20 });
 
 if (typeof WebAssembly !== "object" || typeof BigInt64Array !== "function" || typeof Worker !== "function") {
     show(byId("verdict"), t("old"), "bad");

@@ -1,7 +1,7 @@
 // What is asked of a file that is open: reads, sheets, exercises, primers. Part of the worker. A file in parts may want bytes for any of these
 // (held.js): then nothing was done, and it is asked again.
-import { bounds } from "./wakeluri.js";
-import { Wanted } from "./held.js";
+import { ROW } from "./wakeluri.js";
+import { Fastq, Wanted } from "./held.js";
 import { shown } from "./places.js";
 import { likeBounds, readings, sheetLines, typedBytes, written } from "./regions.js";
 
@@ -19,8 +19,11 @@ const latin1 = new TextDecoder("latin1");
 export function span({ names }, [start, length]) {
     return now.proved.bytes(names.part(start, length));
 }
-const nameOf = (rows, row) => span(rows, now.proved.row(rows.table, row).name);
-const lengthOf = (rows, row) => now.proved.row(rows.table, row).length;
+export function rowOf({ table, size }, row) {
+    return now.proved.row(table, row, size);
+}
+const nameOf = (rows, row) => span(rows, rowOf(rows, row).name);
+const lengthOf = (rows, row) => rowOf(rows, row).length;
 const textOf = (room) => latin1.decode(now.proved.bytes(room));
 
 // A refusal as it goes to the page.
@@ -50,30 +53,84 @@ function strands({ row, first, last, strand }) {
     return { refusal: 0n, found };
 }
 
+// The qualities of a region of FASTQ, in the order of the bases that are shown, or of the first of them; or the refusal.
+function qualitiesOf({ row, first, last, strand }) {
+    const read = now.file.exact(now.kept, row, first, last, true);
+    if (read.refusal !== 0n || strand !== "other") return read;
+    now.proved.bytes(read.out).reverse();
+    return read;
+}
+
 // What a name in a sheet or an exercise means: a row, or the refusal.
 function found(name) {
     const { proved, kept } = now;
     return proved.using(() => proved.call("find", kept.names, kept.table, BigInt(kept.count), proved.lend(utf8.encode(name))));
 }
 
+// The first row of each of some names, as a function, by one walk over the table: it saves the proved look-up's own walk for each. As with `Names` of
+// the Rust library a row is given once the proved look-up has found the name in it, asked about that row alone.
+function firstRows(texts) {
+    const { proved, kept } = now;
+    const keyOf = (text) => latin1.decode(utf8.encode(text));
+    // a glance at its bytes tells of most names that they are not wanted
+    const glance = (bytes, start, end) => {
+        let sum = 0;
+        for (let at = start; at < end; at++) sum = (Math.imul(sum, 31) + bytes[at]) | 0;
+        return sum;
+    };
+    const glances = new Set(texts.map((text) => { const bytes = utf8.encode(text); return glance(bytes, 0, bytes.length); }));
+    const wanted = new Set(texts.map(keyOf));
+    const rows = new Map();
+    const [names, spans] = [proved.bytes(kept.names), proved.spans(kept.table)];
+    for (let row = 0; row < kept.count; row++) {
+        const [start, length] = spans(row);
+        if (!glances.has(glance(names, start, start + length))) continue;
+        const key = latin1.decode(names.subarray(start, start + length));
+        if (wanted.has(key) && !rows.has(key)) rows.set(key, row);
+    }
+    return (text) => {
+        const row = rows.get(keyOf(text));
+        if (row === undefined) return undefined;
+        const told = proved.using(() => proved.call("find", kept.names, kept.table.part(ROW * row, ROW), 1n, proved.lend(utf8.encode(text))));
+        if (told.refusal !== 0n) throw new Error("two look-ups of a name differ");
+        return row;
+    };
+}
+
+// That a name is not there, as the proved look-up says it.
+function notFound(name) {
+    const told = found(name);
+    if (told.refusal === 0n) throw new Error("two look-ups of a name differ");
+    return { refused: told };
+}
+
+// What stands behind a region and may be a name.
+const secondOf = ({ label }) => label?.split(/\s+/)[0];
+
+// The names that a line of a sheet may mean.
+function namesIn(asked) {
+    if (asked.fault) return [];
+    if (asked.named) return [asked.named.name];
+    return [asked.text, secondOf(asked) ?? ""].flatMap(readings).map(({ name }) => name);
+}
+
 // A line of a sheet as a row and bounds, or what is wrong with it.
-function meant(asked) {
+function meant(asked, rowBy) {
     if (asked.fault) return { fault: asked.fault };
     if (asked.named) {
-        const told = found(asked.named.name);
-        if (told.refusal !== 0n) return { refused: told };
-        return { row: Number(told.count), first: asked.named.first, last: asked.named.last };
+        const row = rowBy(asked.named.name);
+        return row === undefined ? notFound(asked.named.name) : { row, first: asked.named.first, last: asked.named.last };
     }
-    const ways = readings(asked.text).map((way) => ({ ...way, told: found(way.name) }));
-    const known = ways.filter(({ told }) => told.refusal === 0n);
+    const ways = readings(asked.text).map((way) => ({ ...way, row: rowBy(way.name) }));
+    const known = ways.filter(({ row }) => row !== undefined);
     const sensible = known.filter((way) => likeBounds(way.bounds));
-    if (known.length === 0) return { refused: ways[0].told };
+    if (known.length === 0) return notFound(ways[0].name);
     if (sensible.length === 0) return { fault: "fault.bounds" };
-    if (new Set(sensible.map((way) => `${way.told.count} ${way.bounds}`)).size > 1) return { fault: "fault.ways" };
-    const second = asked.label?.split(/\s+/)[0];
-    if (second && readings(second).some((way) => likeBounds(way.bounds) && found(way.name).refusal === 0n)) return { fault: "fault.two" };
+    if (new Set(sensible.map((way) => `${way.row} ${way.bounds}`)).size > 1) return { fault: "fault.ways" };
+    const second = secondOf(asked);
+    if (second && readings(second).some((way) => likeBounds(way.bounds) && rowBy(way.name) !== undefined)) return { fault: "fault.two" };
     const { fault, first, last } = written(sensible[0].bounds);
-    return fault ? { fault } : { row: Number(sensible[0].told.count), first, last };
+    return fault ? { fault } : { row: sensible[0].row, first, last };
 }
 
 // A FASTA record as the proved writer writes it, or its refusal: bytes that outlive `using`.
@@ -162,13 +219,17 @@ function exerciseIn(exercise) {
 export const READS = {
     // Exactly the bases that are asked for, of a row; a bound that is absent is undefined. The first so many are shown.
     read({ row, first, last, strand, most }) {
+        const { proved } = now;
         if (!now.kept) return NOT_OPEN;
-        return now.proved.using(() => {
+        return proved.using(() => {
             const told = strands({ row, first, last, strand });
             if (told.refusal !== 0n) return refused(told);
             const text = (bases) => textOf(bases.part(0, Math.min(most, bases.length)));
             const count = told.found[0].bases.length;
-            return { count, strands: told.found.map(({ other, bases }) => ({ other, text: text(bases) })), name: shown(nameOf(now.kept, row)) };
+            const answer = { count, strands: told.found.map(({ other, bases }) => ({ other, text: text(bases) })), name: shown(nameOf(now.kept, row)) };
+            if (!(now.file instanceof Fastq)) return answer;
+            const qualities = qualitiesOf({ row, first, last, strand });
+            return qualities.refusal === 0n ? { ...answer, qualities: shown(proved.bytes(qualities.out.part(0, Math.min(most, count)))) } : refused(qualities);
         });
     },
 
@@ -182,7 +243,7 @@ export const READS = {
             const whole = first === undefined && last === undefined;
             const region = whole ? "" : `:${first ?? 1n}-${last ?? lengthOf(kept, row)}`;
             const name = new Uint8Array([...nameOf(own, row), ...utf8.encode(region)]);
-            const said = span(own, proved.row(own.table, row).description).slice();
+            const said = span(own, rowOf(own, row).description).slice();
             const parts = [];
             for (const { other, bases } of told.found) {
                 const description = other ? utf8.encode("reverse complement") : whole && said.length > 0 ? said : undefined;
@@ -197,7 +258,9 @@ export const READS = {
     // A sheet: all keys, or all faults and no key.
     sheet({ text, bed, width }) {
         if (!now.kept) return NOT_OPEN;
-        const regions = sheetLines(text, bed).map((line) => ({ ...line, ...meant(line) }));
+        const asked = sheetLines(text, bed);
+        const rowBy = firstRows(asked.flatMap(namesIn));
+        const regions = asked.map((line) => ({ ...line, ...meant(line, rowBy) }));
         const good = bySheets(regions.filter(({ row }) => row !== undefined));
         good.forEach(markRefused);
         const faults = regions.filter((region) => region.fault || region.refused);

@@ -7,8 +7,9 @@ const PAGE = 65536;
 const MOST = 2 ** 32; // bytes of a memory with 32-bit addresses
 const ANSWER = 32 * 8;
 
-// A row of a table, as include/wakeluri.h has it: eight numbers.
+// A row of a table, as include/wakeluri.h has it: eight numbers, and of FASTQ seven.
 export const ROW = 64;
+export const FASTQ_ROW = 56;
 
 // No room: the browser gives no more memory. This is the host's limit, and no refusal of the proved code.
 export class NoRoom extends Error {}
@@ -155,12 +156,12 @@ export class Wakeluri {
 
     // A table with a row for each record or line: `name` is a call that fills one from some bytes. It is the last room, and made anew
     // while it has too few rows (refusal 8).
-    table(name, text) {
+    table(name, text, size = ROW) {
         for (let rows = 1024; ; rows *= 8) {
-            const table = this.room(rows * ROW);
+            const table = this.room(rows * size);
             const told = this.call(name, text, table);
             if (told.refusal !== 8n) {
-                const used = table.part(0, Number(told.count) * ROW);
+                const used = table.part(0, Number(told.count) * size);
                 this.free = used.start + used.length;
                 return { ...told, table: used };
             }
@@ -168,18 +169,27 @@ export class Wakeluri {
         }
     }
 
-    // One row of a table, by the header's names.
-    row(table, row) {
+    // One row of a table, by the header's names: of FASTQ there is no description, and the place of the qualities.
+    row(table, row, size = ROW) {
         const view = new DataView(this.memory.buffer, table.start, table.length);
-        const number = (k) => view.getBigUint64(ROW * row + 8 * k, true);
+        const number = (k) => view.getBigUint64(size * row + 8 * k, true);
+        const more = size === ROW ? { description: [Number(number(6)), Number(number(7))] } : { description: [0, 0], qualityPosition: number(6) };
         return {
             name: [Number(number(0)), Number(number(1))],
             length: number(2),
             position: number(3),
             lineBases: number(4),
             lineWidth: number(5),
-            description: [Number(number(6)), Number(number(7))],
+            ...more,
         };
+    }
+
+    // For a walk over many rows: a function that tells where the name and the description of a row lie, as four numbers. Their places are in a room,
+    // so that the low half of each number says it. Until the memory grows.
+    spans(table, size = ROW) {
+        const view = new DataView(this.memory.buffer, table.start, table.length);
+        const half = (row, k) => view.getUint32(size * row + 8 * k, true);
+        return (row) => [half(row, 0), half(row, 1), ...(size === ROW ? [half(row, 6), half(row, 7)] : [0, 0])];
     }
 
     // Puts the name and the description of a row at other places: for rows whose file is not at hand, and whose names are kept apart.

@@ -4,37 +4,43 @@
 // A message is { id, ask, .. }, its answer { id, .. }. Files come as bytes, part by part: the page reads them, since WebKit lets no worker
 // read a file of a page that was itself opened as a file. For the same reason no Blob is made here. Of a file in parts an answer may be
 // { id, wanted }: then the page asks again with these bytes as `windows`.
-import { NoRoom, Wakeluri } from "./wakeluri.js";
-import { Parts, Wanted, Whole } from "./held.js";
-import { lineRead, linesNear, linesOf, recordName } from "./faults.js";
+import { FASTQ_ROW, NoRoom, Wakeluri } from "./wakeluri.js";
+import { Fastq, Parts, Wanted, Whole } from "./held.js";
+import { fastqLines, lineRead, linesNear, linesOf, recordName } from "./faults.js";
 import { about, kindOf, lineOf, shown } from "./places.js";
-import { NOT_OPEN, READS, now, refused, span } from "./reads.js";
+import { NOT_OPEN, READS, now, refused, rowOf, span } from "./reads.js";
 
 // The rows that an index tells.
 function rowsIn(index) {
-    const told = now.proved.table("read_index", index);
-    return [told, { names: index, table: told.table, count: Number(told.count) }];
+    const [call, size] = isFastq() ? ["fastq_read_index", FASTQ_ROW] : ["read_index", undefined];
+    const told = now.proved.table(call, index, size);
+    return [told, { names: index, table: told.table, count: Number(told.count), size }];
 }
+const isFastq = () => now.file instanceof Fastq;
 
 // The rows of the file by a rule, or why it has none.
 function rowsOf(strict) {
     const [told, rows] = now.file.rows(strict);
     if (told.refusal === 0n) return { rows };
-    const lines = now.file instanceof Parts ? linesNear(told, now.file) : linesOf(told, now.proved.bytes(now.file.room));
-    return refused(told, { about: "index", before: rows.count, lines });
+    return refused(told, { about: "index", before: rows.count, lines: linesAt(told, rows) });
+}
+function linesAt(told, rows) {
+    if (now.file instanceof Parts) return linesNear(told, now.file);
+    const bytes = now.proved.bytes(now.file.room);
+    return isFastq() ? fastqLines(told, bytes, rows.count > 0 ? rowOf(rows, rows.count - 1) : undefined) : linesOf(told, bytes);
 }
 
 // The line of an index of a row, as bytes, in a room that is lent for it.
 function indexLine({ names, table, count }, row, room) {
-    return now.proved.call("write_index_line", names, table, BigInt(count), BigInt(row), room);
+    return now.proved.call(isFastq() ? "fastq_write_line" : "write_index_line", names, table, BigInt(count), BigInt(row), room);
 }
 
 // The first row, from 0, whose name or numbers are not those of the other rows; undefined where all are.
 function firstOther(rows, others) {
-    const told = ({ length, position, lineBases, lineWidth }) => `${length} ${position} ${lineBases} ${lineWidth}`;
+    const told = ({ length, position, lineBases, lineWidth, qualityPosition }) => `${length} ${position} ${lineBases} ${lineWidth} ${qualityPosition}`;
     for (let row = 0; row < Math.max(rows.count, others.count); row++) {
         if (row >= rows.count || row >= others.count) return row;
-        const [one, other] = [now.proved.row(rows.table, row), now.proved.row(others.table, row)];
+        const [one, other] = [rowOf(rows, row), rowOf(others, row)];
         if (told(one) !== told(other) || !sameBytes(span(rows, one.name), span(others, other.name))) return row;
     }
     return undefined;
@@ -43,8 +49,8 @@ function sameBytes(some, others) {
     return some.length === others.length && some.every((byte, k) => byte === others[k]);
 }
 
-// An index beside the rows that were made of a file in parts: a refusal of the index's own lines, the first line that says something else, or
-// neither. Where all say the same the checker would accept, since the rows lead to every base (docs/DECISIONS.md).
+// An index beside the rows that were made of a file in parts, or of FASTQ: a refusal of the index's own lines, the first line that says something
+// else, or neither. Where all say the same the index leads to every base, since these rows do (docs/DECISIONS.md).
 function compared() {
     const { proved, index, own } = now;
     return proved.using(() => {
@@ -65,6 +71,23 @@ function compared() {
     });
 }
 
+// A test of whether a part of some bytes, as it is shown, has a text in either case. Plain letters are looked for byte by byte: there may be
+// a million names.
+function textTest(text) {
+    const wanted = text.toLowerCase();
+    if (!/^[ -~]*$/.test(wanted)) return (bytes, from, to) => shown(bytes.subarray(from, to)).toLowerCase().includes(wanted);
+    const plain = Uint8Array.from(wanted, (letter) => letter.charCodeAt(0));
+    const small = (byte) => (byte >= 65 && byte <= 90 ? byte + 32 : byte);
+    return (bytes, from, to) => {
+        for (let at = from; at + plain.length <= to; at++) {
+            let k = 0;
+            while (k < plain.length && small(bytes[at + k]) === plain[k]) k++;
+            if (k === plain.length) return true;
+        }
+        return false;
+    };
+}
+
 const FILES = {
     // Of two modules the first that this browser takes: the same proved code, with SIMD and without.
     start({ modules, calls }) {
@@ -76,12 +99,13 @@ const FILES = {
     },
 
     // Room for a FASTA file, whole or in parts, and, if there is one, its index. The memory is used again, and grows where it must.
-    begin({ round, fasta, index, inParts, strict }) {
+    begin({ round, fasta, index, fastq, inParts, strict }) {
         const { proved, bottom } = now;
         Object.assign(now, { own: undefined, kept: undefined, file: undefined, index: undefined, round });
         proved.giveBack(bottom);
         if (index !== undefined) now.index = proved.room(index);
-        now.file = inParts ? new Parts(proved, fasta, strict && index === undefined) : new Whole(proved, fasta);
+        if (fastq) now.file = new Fastq(proved, fasta);
+        else now.file = inParts ? new Parts(proved, fasta, strict && index === undefined) : new Whole(proved, fasta);
         return {};
     },
 
@@ -99,8 +123,9 @@ const FILES = {
     judge({ strict }) {
         const { proved, index, file } = now;
         const from = performance.now();
-        const answer = { kind: file.length > 0 ? now.kind : undefined, inParts: file instanceof Parts };
-        if (index && !answer.inParts) {
+        const answer = { kind: file.length > 0 ? now.kind : undefined, inParts: file instanceof Parts, fastq: isFastq() };
+        const isCompared = answer.inParts || answer.fastq;
+        if (index && !isCompared) {
             const told = proved.call("check", file.room, index);
             answer.checking = performance.now() - from;
             if (told.refusal !== 0n) {
@@ -117,7 +142,7 @@ const FILES = {
             return { ...answer, ...made };
         }
         now.own = made.rows;
-        if (index && answer.inParts) {
+        if (index && isCompared) {
             const beside = compared();
             if (beside.refused) return { ...answer, ...beside };
             now.kept = now.own;
@@ -127,25 +152,26 @@ const FILES = {
         return { ...answer, accepted: index !== undefined, records: now.own.count };
     },
 
-    // The records whose name or description has some text, the first of them: by row.
-    list({ search, most }) {
-        const { own, proved } = now;
+    // The records whose name or description has some text: how many of some rows, the first of them, and the row to go on from. The page asks
+    // again, so that another search need not wait for this one.
+    list({ search, most, at }) {
+        const { own } = now;
         if (!now.kept) return NOT_OPEN;
-        const wanted = search.toLowerCase();
+        const has = textTest(search);
+        const [names, spans] = [now.proved.bytes(own.names), now.proved.spans(own.table, own.size)];
+        const until = performance.now() + 100;
         const rows = [];
-        let matches = 0;
-        for (let row = 0; row < own.count; row++) {
-            if (wanted === "" && matches >= most) {
-                matches = own.count;
-                break;
-            }
-            const { name, length, description } = proved.row(own.table, row);
-            const said = { row, name: shown(span(own, name)), length, description: shown(span(own, description)) };
-            if (wanted !== "" && !said.name.toLowerCase().includes(wanted) && !said.description.toLowerCase().includes(wanted)) continue;
+        let [matches, row] = [0, at];
+        for (; row < own.count && (row % 1000 > 0 || performance.now() < until); row++) {
+            if (search === "" && rows.length >= most) return { rows, matches: own.count, records: own.count };
+            const [name, nameLength, text, textLength] = spans(row);
+            if (!has(names, name, name + nameLength) && !has(names, text, text + textLength)) continue;
             matches++;
-            if (rows.length < most) rows.push(said);
+            if (rows.length >= most) continue;
+            const { length, description, name: named } = rowOf(own, row);
+            rows.push({ row, name: shown(span(own, named)), length, description: shown(span(own, description)) });
         }
-        return { rows, matches, records: own.count };
+        return { rows, matches, records: own.count, next: row < own.count ? row : undefined };
     },
 
     // The index of the file, as a list of bytes.
@@ -180,7 +206,7 @@ const FILES = {
         const made = rowsOf(false);
         if (made.refused) return made;
         now.own = now.kept = made.rows;
-        return { records: made.rows.count };
+        return { records: made.rows.count, fastq: isFastq() };
     },
 };
 

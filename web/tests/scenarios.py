@@ -86,7 +86,6 @@ def bad_files(p, samples):
     p.expect("a compressed file", p.open(b"\x1f\x8b\x08\x00abc"), "compressed")
     p.expect("a mark before the text", p.open(b"\xef\xbb\xbf>s\nAC\n"), "byte order mark")
     p.expect("UTF-16", p.open(b"\xff\xfe>\x00s\x00\n\x00"), "UTF-16")
-    p.expect("FASTQ", p.open(b"@r\nAC\n+\nII\n"), "FASTQ")
     p.expect("no name", p.open(b">s\nACGT\n>\nAC\n"), "has no name after its '>', at byte 9", "a.fa, line 3", "after 1 record")
     p.expect("no index fits", p.open(b">s\nACGT\nAC\nACGT\n"), "No index can be made", "refused 42", "line 4")
     p.expect("an empty file", p.open(b""), "0 records")
@@ -102,6 +101,24 @@ def bad_files(p, samples):
     p.expect("a bound of 64 bits", p.read("1", "18446744073709551615"), "refused 17 (length 6)")
     p.expect("a bound over 64 bits", p.read("1", "18446744073709551616"), "Refused", "whole number")
     p.expect("a bound that is none", p.read("1", "x"), "Refused", "whole number")
+
+
+def fastq(p, samples):
+    file = b"@r1 first\nACGTN\n+r1\n!\"#$%\n@r2\nGGCC\nAA\n+\n@@II\n~~\n"
+    index = b"r1\t5\t10\t5\t6\t20\nr2\t6\t30\t4\t5\t40\n"
+    p.expect("FASTQ", p.open(file), "2 records", "FASTQ")
+    p.expect("its index", repr(p.save("make")), repr(index.decode()))
+    p.expect("bases and qualities", p.read("3", "6", row=1), "4 bases", "BasesCCAA", "QualitiesII~~")
+    p.expect("the other strand", p.read("3", "6", "other", row=1), "TTGG", "last one first~~II")
+    p.expect("past its end", p.read("3", "7", row=1), "refused 17 (length 6)", never=["Qualities"])
+    p.expect("saved as FASTA", repr(p.save("save-fasta") if p.read("", "", row=0) else ""), repr(">r1\nACGTN\n"))
+    p.expect("no sheets of it", str(p.engine.run("return document.getElementById('sheeting').disabled")), "True")
+    p.expect("with its index", p.open(file, index), "Accepted", "every base and every quality")
+    p.expect("with another", p.open(file, index.replace(b"\t40", b"\t41")), "r2→6→30→4→5→41", "line 2", never=["leads to every"])
+    p.expect("with five columns", p.open(file, b"r1\t5\t10\t5\t6\n"), "Refused", "the offset of the first quality")
+    p.expect("no '+' line", p.open(b"@r\nAC\nII\n"), "No index can be made", "no '+' line", "refused 38", "line 1")
+    p.expect("too few qualities", p.open(b"@q\nAC\n+\nII\n@r\nACGT\n+\nII\n"), "refused 39 (found 2, expected 4)", "line 5", "after 1 record")
+    p.expect("FASTA behind it", p.open(b"@q\nAC\n+\nII\n>s\nAC\n"), "does not begin with '@', at byte 11", "line 5")
 
 
 def records(p, samples):
@@ -237,5 +254,5 @@ def files_in_parts(p, samples):
         test(p, samples)
 
 
-ALL = [marked_examples, pain_of_the_clipped_read, pain_of_the_stale_index, pain_of_the_buffer, bad_files, records, sheets, exercises, primers]
+ALL = [marked_examples, pain_of_the_clipped_read, pain_of_the_stale_index, pain_of_the_buffer, bad_files, fastq, records, sheets, exercises, primers]
 IN_PARTS = [files_in_parts]
