@@ -228,7 +228,12 @@ struct wakeluri_answer wakeluri_fastq_write_line(const uint8_t *names, size_t na
 
 /* Exactly the bases from `start` to `end` of a row's record, or where `qualities` is not 0 exactly their qualities, never fewer; a bound is
  * absent where its flag is 0. Refuses 1, 16, 25, 17, 14, 18. */
-struct wakeluri_answer wakeluri_fastq_read(const uint8_t *file, size_t file_length, const uint8_t *table, size_t table_length, uint64_t in_use, uint64_t row, uint64_t qualities, uint64_t has_start, uint64_t start, uint64_t has_end, uint64_t end, uint8_t *out, size_t out_length);
+struct wakeluri_answer wakeluri_fastq_read(const uint8_t *file, size_t file_length, const uint8_t *table, size_t table_length, uint64_t in_use, uint64_t row, uint64_t has_start, uint64_t start, uint64_t has_end, uint64_t end, uint64_t qualities, uint8_t *out, size_t out_length);
+
+/* Accepts a FASTQ file and an index of six columns, of any program, exactly if wakeluri_fastq_index takes the file and the index leads to every base
+ * and to every quality. Refuses 1; then what wakeluri_fastq_index refuses of the file, with its numbers, but for 8; then record by record 19, 9 to
+ * 12, 21, 22, and 23 for a base or else a quality; last 20. */
+struct wakeluri_answer wakeluri_fastq_check(const uint8_t *fastq, size_t fastq_length, const uint8_t *index, size_t index_length);
 
 /* Uses the code for a level of x86-64 (1, 3 or 4), or for the best that the processor has where that is less; 0 asks for the best, which
  * is in use from the start. Returns the level in use. Every level gives the same answers: this is for tests and timings. */

@@ -95,6 +95,12 @@ const FAMILIES = {
     exw: ["write_exercise", ["bytes", "number", "number", "number", "output"], counted],
     exd: ["read_exercise", ["bytes"], ifOk((a, [bytes]) => `${hex(bytes.part(Number(a.name_start), Number(a.name_length)))} ${a.start} ${a.end} ${a.edition}`)],
     sco: ["score_typed", ["bytes", "bytes", "number"], bare((a) => `${a.right} ${a.wrong} ${a.missing} ${a.surplus} ${a.score}`)],
+    fqi: ["fastq_index", ["bytes", "table"], counted],
+    fqt: ["fastq_read_index", ["bytes", "table"], counted],
+    fql: ["fastq_read_line", ["bytes"], ifOk((a) => `${index(a)},${a.quality_position}`)],
+    fqw: ["fastq_write_line", ["bytes", "rows", "number", "number", "output"], counted],
+    fqr: ["fastq_read", [...region.slice(0, -1), "number", "output"], counted],
+    fqc: ["fastq_check", ["bytes", "bytes"], ifOk(() => "")],
     chk: ["check", ["bytes", "bytes"], ifOk(() => "")],
     // calls that a module may have or not
     scr: ["score_exercise", ["bytes", "bytes", "bytes", "bytes", "rows", "number", "output"], always((a) => `${a.right} ${a.wrong} ${a.missing} ${a.surplus} ${a.score}`)],

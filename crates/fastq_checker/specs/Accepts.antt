@@ -1,5 +1,5 @@
 -- What it means that an index of six columns is accepted for a FASTQ file, over the file's records and the index's lines, and without the checker's walk.
-use Prim.Native.Nat.{ℕ, suc, _≤_, _<_}
+use Prim.Native.Nat.{ℕ, suc, _<_}
 use mathlib.Core.Path.{_≡_}
 use mathlib.Core.List.{List, []}
 use lib.ListN.{length, getD}
@@ -14,7 +14,6 @@ use Rattle.fastq.specs.declared.QualityRow.{QualityRow}
 use Rattle.fastq_line.specs.SixColumns.{sixLineSays, nameOf}
 use Rattle.fastq_line.specs.declared.Entry.{Entry}
 use Rattle.fastq_line.specs.declared.LineRead.the-variants.{Row}
-use Rattle.fastq_table.specs.Fill.{nothing}
 use Rattle.fastq_index.specs.File.{rowsAt}
 use Rattle.fastq_checker.specs.Check.{offsetsOf}
 
@@ -25,7 +24,7 @@ recordsOf f = rowsAt f 0 .rows
 -- record k of some; beyond them, one of zeros
 abbrev pub recordAt : List QualityRow → ℕ → QualityRow
 recordAt xs k = getD xs k (record {
-  «record» = record { «name_start» = 0; «name_length» = 0; length = 0; position = record { 0 = 0 }; «line_bases» = 0; «line_width» = 0; «description_start» = 0; «description_length» = 0; };
+  «record» = record { «name_start» = 0; «name_length» = 0; length = 0; position = record { 0 = 0 }; «line_bases» = 0; «line_width» = 0; «description_start» = 0; «description_length» = 0 };
   qualities = record { 0 = 0 };
 })
 

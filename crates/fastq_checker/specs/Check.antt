@@ -10,11 +10,11 @@ use Rattle.refusal.specs.declared.Refusal.the-variants as refusal
 use Rattle.lines.specs.Lines.{lines, tailOf, basesAt}
 use Rattle.lines.specs.Same.{sameBytes}
 use Rattle.record.specs.Place.{placeIn}
-use Rattle.record.specs.declared.Record.{Record}
 use Rattle.index_line.specs.IndexLine.{nameIn}
 use Rattle.walking.specs.Places.{firstElsewhere}
 use Rattle.walking.specs.declared.Placed.{Placed}
 use Rattle.walking.specs.declared.Placed.the-variants.{There, Elsewhere}
+use Rattle.table.specs.declared.Stop.{Stop}
 use Rattle.table.specs.declared.Stop.the-variants as stop
 use Rattle.fastq.specs.Fastq.{linesAt, bodyAt}
 use Rattle.fastq.specs.Parts.{partOf}
@@ -24,7 +24,6 @@ use Rattle.fastq.specs.declared.QualityRow.{QualityRow}
 use Rattle.fastq_line.specs.SixColumns.{sixLineSays, nameOf}
 use Rattle.fastq_line.specs.declared.LineRead.{LineRead}
 use Rattle.fastq_line.specs.declared.LineRead.the-variants as read
-use Rattle.fastq_table.specs.Fill.{Found}
 use Rattle.fastq_index.specs.File.{rowsAt}
 use Rattle.checker.specs.declared.Verdict.{Verdict}
 use Rattle.checker.specs.declared.Verdict.the-variants.{Accepted, Refused}
@@ -57,8 +56,8 @@ unfoldable pub entrySays : ℕ → List ℕ → QualityRow → List ℕ → Qual
 entrySays n f x named y =
     cond (sameBytes (nameIn f (x .«record»)) named)
     (cond (eqb (x .«record» .length) (y .«record» .length))
-      (partSays n f x y Bases (partSays n f x y Qualities Accepted))
-      (Refused (refusal.LengthDiffers n)))
+    (partSays n f x y Bases (partSays n f x y Qualities Accepted))
+    (Refused (refusal.LengthDiffers n)))
     (Refused (refusal.NameDiffers n))
 
 -- 9 to 12: against what its line says
@@ -79,11 +78,13 @@ recordsSay k f [] [] = Accepted
 recordsSay k f [] (l ∷ ls) = Refused (refusal.BytesLeft k)
 recordsSay k f (x ∷ xs) ls = andThen (recordSays (suc k) f x ls) (recordsSay (suc k) f xs (tailOf ls))
 
--- what the indexer finds in the file: what it refuses; else every record
-abbrev pub fileSays : List ℕ → List (List ℕ) → Found → Verdict
-fileSays f ls (record { rows = xs; stop = stop.Refused y }) = Refused y
-fileSays f ls (record { rows = xs; stop = stop.Ended }) = recordsSay 0 f xs ls
+-- what the indexer finds in the file, its records and where they stop: what it refuses; else every record
+abbrev pub fileSays : List ℕ → List (List ℕ) → List QualityRow → Stop → Verdict
+fileSays f ls xs (stop.Refused y) = Refused y
+fileSays f ls xs stop.Ended = recordsSay 0 f xs ls
 
 -- the call: the size limit first
 unfoldable pub checkOf : List ℕ → List ℕ → Verdict
-checkOf f i = cond (overLimit (length f)) (Refused refusal.TooLong) (cond (overLimit (length i)) (Refused refusal.TooLong) (fileSays f (lines i) (rowsAt f 0)))
+checkOf f i =
+    cond (overLimit (length f)) (Refused refusal.TooLong)
+    (cond (overLimit (length i)) (Refused refusal.TooLong) (fileSays f (lines i) (rowsAt f 0 .rows) (rowsAt f 0 .stop)))

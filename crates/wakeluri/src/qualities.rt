@@ -1,5 +1,5 @@
-// Entry points on FASTQ: a file indexed, an index of six columns read whole, a line of it read and written, and bases or qualities read by
-// row. A table is bytes, as it is elsewhere, with seven numbers to a row: the quality position is last.
+// Entry points on FASTQ: a file indexed, an index of six columns read whole and checked against its file, a line of it read and written, and
+// bases or qualities read by row. A table is bytes, as it is elsewhere, with seven numbers to a row: the quality position is last.
 use crate::answer;
 use crate::answer::Answer;
 use crate::rows;
@@ -15,7 +15,8 @@ ghost use Rattle.fastq_table.specs.Rows.{rowCount};
 ghost use Rattle.fastq_line.specs.SixColumns.{readLine};
 ghost use Rattle.fastq_index.specs.File.{fileIn};
 ghost use Rattle.fastq_index.specs.Text.{indexIn};
-ghost use Rattle.wakeluri.specs.Answer.{boundOf};
+ghost use Rattle.fastq_checker.specs.Check.{checkOf};
+ghost use Rattle.wakeluri.specs.Answer.{boundOf, verdictAnswer};
 ghost use Rattle.wakeluri.specs.Told.{writtenTold};
 ghost use Rattle.wakeluri.specs.Qualities.{partGiven, noRow, fastqTold, fastqAnswer, rowsTold, lineFrom, partRead};
 
@@ -138,11 +139,11 @@ pub extern "C" fn wakeluri_fastq_read(
     table: &[u8],
     in_use: u64,
     row: u64,
-    qualities: u64,
     has_start: u64,
     start: u64,
     has_end: u64,
     end: u64,
+    qualities: u64,
     out: &mut [u8],
 ) -> Answer
     ensures { λ a. ⌜ leaves a (now (out .exit)) ≡ writtenTold (partRead (partGiven qualities) (now (file .entry)) (numbersIn (now (table .entry))) «in_use» row (boundOf «has_start» start) (boundOf «has_end» end) (now (out .entry))) ⌝ }
@@ -152,4 +153,12 @@ pub extern "C" fn wakeluri_fastq_read(
     let used = fastq_table::row(table, in_use as usize, row as usize, part(qualities));
     let read = region::read_exact(file, used, a, e, out);
     answer::written_answer(read)
+}
+
+// Whether an index of six columns, of any program, leads to every base and to every quality of a FASTQ file.
+#[no_mangle]
+pub extern "C" fn wakeluri_fastq_check(fastq: &[u8], index: &[u8]) -> Answer
+    ensures { λ a. ⌜ a ≡ verdictAnswer (checkOf (now (fastq .entry)) (now (index .entry))) ⌝ }
+{
+    answer::verdict_answer(fastq_checker::check(fastq, index))
 }

@@ -199,8 +199,9 @@ impl Speaker for Library {
             }
             ("fqr", [Bytes(file), Rows(rows), Number(row), Bounds(bounds), Number(which), Output(out)]) => {
                 let (table, bounds) = (bytes(&rows.numbers), (*bounds).into());
-                counted(entry::fastq_read(file, &table, rows.in_use, *row, *which, bounds, out))
+                counted(entry::fastq_read(file, &table, rows.in_use, *row, bounds, *which, out))
             }
+            ("fqc", [Bytes(fastq), Bytes(index)]) => told(entry::fastq_check(fastq, index).no(), ()),
             ("chk", [Bytes(fasta), Bytes(index)]) => told(entry::check(fasta, index).no(), ()),
             ("prg", [Bytes(input)]) => told(None, vec![Bytes(output(self.program.as_ref()?, input)?)]),
             _ => return None,

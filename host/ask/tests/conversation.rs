@@ -1,7 +1,7 @@
 //! The library answers the examples as they stand, and as the model does.
 
 use ask::Library;
-use questions::family::{EXAMPLES, not_yet};
+use questions::family::EXAMPLES;
 use questions::form::answered;
 use questions::generate::Questions;
 
@@ -20,7 +20,7 @@ def x41 x41 => skip";
 #[test]
 fn the_examples() {
     // without its program, the library has no answer for one family
-    let asked = EXAMPLES.lines().filter(|line| !line.starts_with("prg ") && !not_yet(line));
+    let asked = EXAMPLES.lines().filter(|line| !line.starts_with("prg "));
     for line in asked.chain(SKIPPED.lines()) {
         assert_eq!(answered(&LIBRARY, line).as_deref(), Some(line));
     }
@@ -34,7 +34,7 @@ fn lines_that_ask_nothing() {
 
 #[test]
 fn the_model_says_the_same() {
-    let asked = Questions::new(42).filter(|question| !question.starts_with("prg ") && !not_yet(question));
+    let asked = Questions::new(42).filter(|question| !question.starts_with("prg "));
     for question in asked.take(200_000) {
         let told = answered(&LIBRARY, &question);
         assert_eq!(told, answered(&model::Model, &question));

@@ -148,14 +148,6 @@ pub const FAMILIES: &[Family] = &[
     asks("prg", &[Bytes], Bare(&[Bytes]), &[], Refusals),
 ];
 
-/// Families that the library does not answer yet: FASTQ's checker. The model does.
-pub const NOT_YET: &[&str] = &["fqc"];
-
-/// Whether a line asks something of a family that the library does not answer yet.
-pub fn not_yet(line: &str) -> bool {
-    line.split(' ').next().is_some_and(|name| NOT_YET.contains(&name))
-}
-
 /// Questions and their answers, by hand: some of each family, with what must be told after a refusal.
 pub const EXAMPLES: &str = "\
 def x3e73206f6e650d0a => ok 1 1 3 3

@@ -3,7 +3,7 @@
 //! Against the model they must be equal. Against the original there are listed differences, and each of them is held to what
 //! the list says: an answer that merely looks like one is a difference.
 
-use crate::family::{Original, family, not_yet};
+use crate::family::{Original, family};
 use crate::form;
 use crate::row::WORDS;
 
@@ -23,7 +23,7 @@ pub enum Kind {
     Added,
     /// The original has no answer, or neither the model nor ours has one.
     Skipped,
-    /// Ours wasn't asked: there is no program to run, or the library has no such call yet.
+    /// Ours wasn't asked: there is no program to run.
     NotAsked,
     /// Listed: the program ends at its limits of bytes and rows.
     ProgramLimit,
@@ -65,7 +65,7 @@ impl Rules {
     /// Holds our answer against the first speaker's.
     pub fn judge(self, question: &str, first: &str, ours: &str) -> Kind {
         if ours == "skip" && first != "skip" {
-            return if question.starts_with("prg ") || not_yet(question) { Kind::NotAsked } else { Kind::Different };
+            return if question.starts_with("prg ") { Kind::NotAsked } else { Kind::Different };
         }
         match self {
             Self::Exact if first == ours && ours == "skip" => Kind::Skipped,

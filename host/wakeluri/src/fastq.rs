@@ -9,6 +9,9 @@
 //! let text = table.write_index()?;
 //! assert_eq!(text, b"r1\t6\t16\t4\t5\t26\nr2\t2\t38\t2\t3\t43\n");
 //!
+//! // or take one that another program wrote: accepted only if it leads to every base and to every quality
+//! fastq::check(reads, &text)?;
+//!
 //! // look a name up once, and read bases or qualities as often as you like: here 3 to 5, counted from 1
 //! let row = table.find(b"r1")?;
 //! assert_eq!(table.read(reads, row, Part::Bases, 3..=5)?, b"GTA");
@@ -203,6 +206,28 @@ fn filled(
     }
 }
 
+/// Accepts a FASTQ file and an index of six columns, of any program, exactly if [`index`] takes the file and the index leads to every base
+/// and to every quality of every record.
+///
+/// Refuses 1; then what [`index`] refuses, wherever in the file it is; then at the first fault, record by record, 19, 9 to 12, 21 to 23, and
+/// last 20.
+///
+/// ```
+/// use wakeluri::fastq;
+/// let reads = b"@s\nACGT\nAC\n+\n!!!!\n!!\n";
+/// assert_eq!(fastq::check(reads, b"s\t6\t3\t4\t5\t13\n"), Ok(()));
+///
+/// let refusal = fastq::check(reads, b"s\t6\t3\t4\t5\t12\n").unwrap_err();
+/// assert_eq!(
+///     refusal.to_string(),
+///     "base 1 of record 1, or its quality, is not where its index line says: refused 23 (record 1, base 1)"
+/// );
+/// ```
+pub fn check(fastq: &[u8], index: &[u8]) -> Result<(), Refusal> {
+    let answer = entry::fastq_check(fastq, index);
+    Refusal::of(Call::FastqCheck, answer.refusal, answer.first, answer.second)
+}
+
 impl<'n> Table<'n> {
     /// A table from bytes as they are: [`ROW_WORDS`] numbers of eight bytes to a row, low byte first. Nothing is judged here; a row
     /// that can't be used is refused with 25 when it is.
@@ -318,7 +343,7 @@ impl<'n> Table<'n> {
         out: &mut [u8],
     ) -> Result<usize, Refusal> {
         let (in_use, row) = self.lent(row);
-        let read = entry::fastq_read(fastq, &self.bytes, in_use, row, part.number(), bounds.into(), out);
+        let read = entry::fastq_read(fastq, &self.bytes, in_use, row, bounds.into(), part.number(), out);
         counted(Call::ReadExact, read)
     }
 

@@ -158,8 +158,12 @@ macro_rules! entry_points {
             /// Exactly the bases from `start` to `end` of a row's record, or for every `qualities` but 0 exactly their qualities, never
             /// fewer. Refuses 1, 16, 25, 17, 14, 18.
             fn fastq_read(
-                file: bytes, table: bytes, in_use: number, row: number, qualities: number, bounds: bounds, out: output
+                file: bytes, table: bytes, in_use: number, row: number, bounds: bounds, qualities: number, out: output
             ) -> Answer;
+
+            /// Accepts a FASTQ file and an index of six columns, of any program, exactly if the index leads to every base and to every quality.
+            /// Refuses 1, what `fastq_index` refuses but for 8, 19, 9 to 12, 21 to 23, 20.
+            fn fastq_check(fastq: bytes, index: bytes) -> Answer;
         }
     };
 }

@@ -182,6 +182,42 @@ static void ordinary_calls(void) {
     MUST(a.refusal == 23 && a.first == 1 && a.second == 5);
 }
 
+/* FASTQ: rows of seven numbers, index lines of six columns. */
+#define FASTQ_ROW_BYTES 56
+
+static void fastq_calls(void) {
+    static const char reads[] = "@s one\nACGT\nAC\n+\n@III\n+!\n@t\nG\n+\n!";
+    uint8_t table[3 * FASTQ_ROW_BYTES], out[32];
+    memset(table, 7, sizeof table);
+    struct wakeluri_answer a = wakeluri_fastq_index(BYTES(reads), table, sizeof table);
+    MUST(a.refusal == 0 && a.count == 2 && table[0] == 1 && table[48] == 17 && table[2 * FASTQ_ROW_BYTES] == 7);
+    memset(out, '.', sizeof out);
+    a = wakeluri_fastq_write_line(BYTES(reads), table, sizeof table, 2, 0, out, sizeof out);
+    MUST(a.refusal == 0 && a.count == 13 && memcmp(out, "s\t6\t7\t4\t5\t17\n..", 15) == 0);
+    a = wakeluri_fastq_check(BYTES(reads), out, 13);
+    MUST(a.refusal == WAKELURI_LINE_ABSENT && a.first == 2);
+    a = wakeluri_fastq_check(BYTES(reads), BYTES("s\t6\t7\t4\t5\t17\nt\t1\t28\t1\t2\t32\n"));
+    MUST(a.refusal == 0);
+    a = wakeluri_fastq_check(BYTES(reads), BYTES("s\t6\t7\t4\t5\t16\nt\t1\t28\t1\t2\t32\n"));
+    MUST(a.refusal == WAKELURI_BASE_ELSEWHERE && a.first == 1 && a.second == 1);
+    struct wakeluri_fastq line = wakeluri_fastq_read_line(BYTES("s\t6\t7\t4\t5\t17\n"));
+    MUST(line.refusal == 0 && line.plain == 1 && line.name_length == 1 && line.line_bases == 4 && line.line_width == 5 && line.quality_position == 17);
+    line = wakeluri_fastq_read_line(BYTES("s\t6\t7\t4\t5\n"));
+    MUST(line.refusal == WAKELURI_FIELD_ABSENT && line.first == 1 && line.second == 6);
+    memset(table, 7, sizeof table);
+    a = wakeluri_fastq_read_index(BYTES("s\t6\t7\t4\t5\t17\n"), table, sizeof table);
+    MUST(a.refusal == 0 && a.count == 1 && table[0] == 0 && table[48] == 17 && table[FASTQ_ROW_BYTES] == 7);
+    memset(out, '.', sizeof out);
+    a = wakeluri_fastq_read(BYTES(reads), table, sizeof table, 1, 0, 1, 4, 1, 5, 0, out, sizeof out);
+    MUST(a.refusal == 0 && a.count == 2 && memcmp(out, "TA.", 3) == 0);
+    a = wakeluri_fastq_read(BYTES(reads), table, sizeof table, 1, 0, 1, 4, 1, 5, 1, out, sizeof out);
+    MUST(a.refusal == 0 && a.count == 2 && memcmp(out, "I+.", 3) == 0);
+    a = wakeluri_fastq_read(BYTES(reads), table, sizeof table, 1, 0, 0, 0, 0, 0, UINT64_MAX, out, sizeof out);
+    MUST(a.refusal == 0 && a.count == 6 && memcmp(out, "@III+!.", 7) == 0);
+    a = wakeluri_fastq_read(BYTES(reads), table, sizeof table, 1, 0, 1, 5, 1, 7, 1, out, sizeof out);
+    MUST(a.refusal == WAKELURI_PAST_LENGTH && a.first == 6);
+}
+
 /* Refusal 1: an input one byte over the limit, which is never looked at. Passed over where so much room for addresses isn't to
  * be had. */
 static void beyond_the_limit(void) {
@@ -232,6 +268,13 @@ static void beyond_the_limit(void) {
     REFUSED(wakeluri_find_primer(out, 0, big, n, 0));
     REFUSED(wakeluri_check(big, n, out, 0));
     REFUSED(wakeluri_check(out, 0, big, n));
+    REFUSED(wakeluri_fastq_index(big, n, table, 0));
+    REFUSED(wakeluri_fastq_read_index(big, n, table, 0));
+    REFUSED(wakeluri_fastq_read_line(big, n));
+    REFUSED(wakeluri_fastq_write_line(big, n, table, 0, 9, 9, out, 0));
+    REFUSED(wakeluri_fastq_read(big, n, table, 0, 9, 9, 1, 0, 1, 0, 1, out, 0));
+    REFUSED(wakeluri_fastq_check(big, n, out, 0));
+    REFUSED(wakeluri_fastq_check(out, 0, big, n));
     /* at the limit itself it is taken: bases 1 and 1 of a row at offset 0 are read from the first byte alone */
     struct wakeluri_answer a = wakeluri_read_exact(big, limit, table, sizeof table, 1, 0, 0, 0, 0, 0, out, sizeof out);
     MUST(a.refusal == 0 && a.count == 1 && out[0] == 0 && out[1] == '.');
@@ -316,6 +359,13 @@ static void nothing_at_null(void) {
     GIVES(wakeluri_score_typed(NULL, 0, NULL, 0, 1), WAKELURI_FINE);
     GIVES(wakeluri_check(NULL, 0, NULL, 0), WAKELURI_FINE);
     GIVES(wakeluri_check(BYTES(fasta), NULL, 0), WAKELURI_LINE_ABSENT);
+    GIVES(wakeluri_fastq_index(NULL, 0, NULL, 0), WAKELURI_FINE);
+    GIVES(wakeluri_fastq_index(BYTES("@s\nA\n+\n!"), NULL, 0), WAKELURI_TABLE_FULL);
+    GIVES(wakeluri_fastq_read_index(NULL, 0, NULL, 0), WAKELURI_FINE);
+    GIVES(wakeluri_fastq_read_line(NULL, 0), WAKELURI_EMPTY_INDEX_LINE);
+    GIVES(wakeluri_fastq_write_line(NULL, 0, NULL, 0, 0, 0, NULL, 0), WAKELURI_BAD_ROW);
+    GIVES(wakeluri_fastq_read(NULL, 0, NULL, 0, 0, 0, 0, 0, 0, 0, 0, NULL, 0), WAKELURI_BAD_ROW);
+    GIVES(wakeluri_fastq_check(NULL, 0, NULL, 0), WAKELURI_FINE);
 }
 
 /* What wakeluri_host.h has: rows, regions, words and the version. */
@@ -363,6 +413,7 @@ int main(int count, char **words) {
         return 0;
     }
     ordinary_calls();
+    fastq_calls();
     levels();
     nothing_at_null();
     around_the_calls();

@@ -136,6 +136,7 @@ impl Hostile {
         match parameter {
             "line" | "content" if chance.once_in(2) => index(chance),
             "file" if chance.once_in(4) => reads(chance),
+            "fastq" => reads(chance),
             "file" | "fasta" | "piece" | "names" | "line" | "content" => fasta(chance),
             "index" => index(chance),
             "bases" | "key" | "typed" => bytes(chance, b"ACGTN"),
@@ -377,11 +378,15 @@ fn comfortable_call(chance: &mut Chance) {
             let _ = table.find(b"s").and_then(|row| table.write_line(row, &mut vec![]));
             read.map(|bytes| bytes.len() + table.records().zip(table.rows()).count())
         }
-        11 => fastq::index(&reads(chance)).and_then(|table| table.write_index()).map(|text| {
-            let again = fastq::read_index(&text).and_then(|table| table.write_index());
-            assert_eq!(again.as_deref(), Ok(&text[..]));
-            text.len()
-        }),
+        11 => {
+            let file = reads(chance);
+            fastq::index(&file).and_then(|table| table.write_index()).map(|text| {
+                let again = fastq::read_index(&text).and_then(|table| table.write_index());
+                assert_eq!(again.as_deref(), Ok(&text[..]));
+                assert_eq!(fastq::check(&file, &text), Ok(()));
+                text.len()
+            })
+        }
         8 => {
             let whole = Window { bytes: &file, from: 0, file_length: file.len() as u64 };
             let read = table.read_window(whole, row, bounds);
