@@ -42,14 +42,29 @@ export function linesNear(told, file) {
     return [{ file: "fasta", ...said, line: said.line + lineEnds, byte: byte + at }];
 }
 
-// Of a refusal of the indexer of FASTQ: the line at an offset, or the definition line of the record behind the last good row.
-export function fastqLines(told, fastq, last) {
+// Of a refusal of FASTQ's indexer or checker: the lines of the record that it is about, or the line at its offset, or the first line of the record
+// behind the last good one.
+export function fastqLines(told, fastq, index, { record, last }) {
     const [number, first] = [Number(told.refusal), Number(told.first)];
-    if (number >= 2 && number <= 5) return ofFasta(fastq, lineAt(fastq, number === 5 ? Math.max(0, first - 1) : first), number === 5 ? Math.max(0, first - 1) : first);
+    if (number === 20) return ofIndex(index, first + 1);
+    if (isOfRecord(told)) {
+        const ofRecord = record ? ofFasta(fastq, lineAt(fastq, record.name[0])) : [];
+        return [...(number === 19 ? [] : ofIndex(index, first)), ...ofRecord];
+    }
+    if (number >= 2 && number <= 5) {
+        const offset = number === 5 ? Math.max(0, first - 1) : first;
+        return ofFasta(fastq, lineAt(fastq, offset), offset);
+    }
     if (![6, 7, 38, 39].includes(number)) return [];
-    const end = last ? Number(last.qualityPosition + ((last.length - 1n) / last.lineBases) * last.lineWidth + ((last.length - 1n) % last.lineBases)) : -1;
-    const line = last ? lineAt(fastq, lineAt(fastq, end).next) : lineAt(fastq, 0);
-    return ofFasta(fastq, line);
+    if (!last) return ofFasta(fastq, lineAt(fastq, 0));
+    const [lines, bases] = [(last.length - 1n) / last.lineBases, (last.length - 1n) % last.lineBases];
+    const lastQuality = Number(last.qualityPosition + lines * last.lineWidth + bases);
+    return ofFasta(fastq, lineAt(fastq, lineAt(fastq, lastQuality).next));
+}
+
+// Whether a refusal of a checker is about a record, by its number.
+export function isOfRecord({ call, refusal }) {
+    return ["check", "fastq_check"].includes(call) && [9, 10, 11, 12, 19, 21, 22, 23].includes(Number(refusal));
 }
 
 // The line of an index that has no good number, by the reader of indexes.
@@ -77,7 +92,7 @@ function uneven(fasta, good) {
 
 // The name of the record that a refusal of the checker is about, where it has one.
 export function recordName(told, proved, fasta) {
-    if (told.call !== "check" || ![9, 10, 11, 12, 19, 21, 22, 23].includes(Number(told.refusal))) return undefined;
+    if (!isOfRecord(told)) return undefined;
     const line = definitionOf(proved.bytes(fasta), Number(told.first));
     if (!line) return undefined;
     return proved.using(() => {

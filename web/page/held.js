@@ -103,7 +103,7 @@ export class Fastq extends Whole {
     // Exactly the bases of a region, or their qualities.
     exact({ table, count }, row, first, last, qualities = false) {
         const wanted = qualities ? 1n : 0n;
-        return this.proved.output((out) => this.proved.call("fastq_read", this.room, table, BigInt(count), BigInt(row), wanted, ...bounds(first, last), out));
+        return this.proved.output((out) => this.proved.call("fastq_read", this.room, table, BigInt(count), BigInt(row), ...bounds(first, last), wanted, out));
     }
 }
 

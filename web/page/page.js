@@ -301,7 +301,7 @@ function judged(told) {
     const how = told.fastq ? "fastq" : told.inParts ? "parts" : "whole";
     if (told.other) {
         show(byId("verdict"), t("files.other", { index, fasta, line: told.other.line, records }), "bad");
-        show(byId("detail"), t(`files.other.${how}`));
+        show(byId("detail"), t("files.other.detail"));
         showOther(told.other);
     } else if (told.accepted) {
         show(byId("verdict"), t(told.fastq ? "files.accepted.both" : "files.accepted", { index, fasta, records }), "good");

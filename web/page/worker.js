@@ -6,7 +6,7 @@
 // { id, wanted }: then the page asks again with these bytes as `windows`.
 import { FASTQ_ROW, NoRoom, Wakeluri } from "./wakeluri.js";
 import { Fastq, Parts, Wanted, Whole } from "./held.js";
-import { fastqLines, lineRead, linesNear, linesOf, recordName } from "./faults.js";
+import { fastqLines, isOfRecord, lineRead, linesNear, linesOf, recordName } from "./faults.js";
 import { about, kindOf, lineOf, shown } from "./places.js";
 import { NOT_OPEN, READS, now, refused, rowOf, span } from "./reads.js";
 
@@ -27,7 +27,21 @@ function rowsOf(strict) {
 function linesAt(told, rows) {
     if (now.file instanceof Parts) return linesNear(told, now.file);
     const bytes = now.proved.bytes(now.file.room);
-    return isFastq() ? fastqLines(told, bytes, rows.count > 0 ? rowOf(rows, rows.count - 1) : undefined) : linesOf(told, bytes);
+    return isFastq() ? fastqLines(told, bytes, undefined, { last: lastOf(rows) }) : linesOf(told, bytes);
+}
+const lastOf = (rows) => (rows.count > 0 ? rowOf(rows, rows.count - 1) : undefined);
+
+// The lines that a refusal of a checker is about, and the name of its record, where it is about one.
+function placesOf(told) {
+    const { proved, file, index } = now;
+    if (!isFastq()) return { lines: linesOf(told, proved.bytes(file.room), proved.bytes(index)), name: recordName(told, proved, file.room) };
+    return proved.using(() => {
+        const [, rows] = file.rows();
+        const number = Number(told.first) - 1;
+        const record = isOfRecord(told) && number < rows.count ? rowOf(rows, number) : undefined;
+        const lines = fastqLines(told, proved.bytes(file.room), proved.bytes(index), { record, last: lastOf(rows) });
+        return { lines, name: record && shown(span(rows, record.name)) };
+    });
 }
 
 // The line of an index of a row, as bytes, in a room that is lent for it.
@@ -37,7 +51,7 @@ function indexLine({ names, table, count }, row, room) {
 
 // The first row, from 0, whose name or numbers are not those of the other rows; undefined where all are.
 function firstOther(rows, others) {
-    const told = ({ length, position, lineBases, lineWidth, qualityPosition }) => `${length} ${position} ${lineBases} ${lineWidth} ${qualityPosition}`;
+    const told = ({ length, position, lineBases, lineWidth }) => `${length} ${position} ${lineBases} ${lineWidth}`;
     for (let row = 0; row < Math.max(rows.count, others.count); row++) {
         if (row >= rows.count || row >= others.count) return row;
         const [one, other] = [rowOf(rows, row), rowOf(others, row)];
@@ -49,8 +63,8 @@ function sameBytes(some, others) {
     return some.length === others.length && some.every((byte, k) => byte === others[k]);
 }
 
-// An index beside the rows that were made of a file in parts, or of FASTQ: a refusal of the index's own lines, the first line that says something
-// else, or neither. Where all say the same the index leads to every base, since these rows do (docs/DECISIONS.md).
+// An index beside the rows that were made of a file in parts: a refusal of the index's own lines, the first line that says something else, or
+// neither. Where all say the same the checker would accept, since the rows lead to every base (docs/DECISIONS.md).
 function compared() {
     const { proved, index, own } = now;
     return proved.using(() => {
@@ -124,14 +138,10 @@ const FILES = {
         const { proved, index, file } = now;
         const from = performance.now();
         const answer = { kind: file.length > 0 ? now.kind : undefined, inParts: file instanceof Parts, fastq: isFastq() };
-        const isCompared = answer.inParts || answer.fastq;
-        if (index && !isCompared) {
-            const told = proved.call("check", file.room, index);
+        if (index && !answer.inParts) {
+            const told = proved.call(isFastq() ? "fastq_check" : "check", file.room, index);
             answer.checking = performance.now() - from;
-            if (told.refusal !== 0n) {
-                const lines = linesOf(told, proved.bytes(file.room), proved.bytes(index));
-                return { ...answer, ...refused(told, { about: "check", lines, name: recordName(told, proved, file.room) }) };
-            }
+            if (told.refusal !== 0n) return { ...answer, ...refused(told, { about: "check", ...placesOf(told) }) };
             [, now.kept] = rowsIn(index);
         }
         const since = performance.now();
@@ -142,7 +152,7 @@ const FILES = {
             return { ...answer, ...made };
         }
         now.own = made.rows;
-        if (index && isCompared) {
+        if (index && answer.inParts) {
             const beside = compared();
             if (beside.refused) return { ...answer, ...beside };
             now.kept = now.own;
