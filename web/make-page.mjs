@@ -10,7 +10,13 @@ const [folder, other] = process.argv.slice(2);
 const from = (path) => readFileSync(new URL(path, import.meta.url), "utf8");
 const page = (name) => from(`page/${name}`);
 // as a classic script: the files one after the other, without imports and exports
-const joined = (...names) => `"use strict";\n${names.map(page).join("\n").replace(/^import .*\n/gm, "").replace(/^export /gm, "")}`;
+function joined(...names) {
+    const script = names.map(page).join("\n").replace(/^import .*\n/gm, "").replace(/^export /gm, "");
+    // one name for two things would be no error there
+    const declared = Array.from(script.matchAll(/^(?:async )?(?:function|class|const|let) (\w+)/gm), ([, name]) => name);
+    for (const [k, name] of declared.entries()) if (declared.indexOf(name) !== k) throw new Error(`${names.join(", ")}: ${name} is declared twice`);
+    return `"use strict";\n${script}`;
+}
 const hash = (text) => `'sha256-${createHash("sha256").update(text).digest("base64")}'`;
 const module = (name) => readFileSync(`${folder}/wakeluri-${name}.wasm`).toString("base64");
 const escaped = (text) => text.replace(/[&<>"]/g, (letter) => `&#${letter.charCodeAt(0)};`);
@@ -25,7 +31,7 @@ if (other) {
     Object.assign(texts, translated);
 }
 const scripts = {
-    WORKER: joined("wakeluri.js", "places.js", "regions.js", "worker.js"),
+    WORKER: joined("wakeluri.js", "held.js", "places.js", "faults.js", "regions.js", "reads.js", "worker.js"),
     PAGE: `(() => {\n${joined("words.js", "regions.js", "page.js")}\n})();\n`,
 };
 // a text that nothing says is a mistake; some keys are made of a stem, as `kind.${..}`, and those of a count end in one or other

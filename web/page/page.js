@@ -9,6 +9,8 @@ const LISTED = 200; // records that are listed
 const MARKED = 5000; // places of a key that are marked one by one
 const PLACED = 1000; // places of a primer that are shown
 const PART = 8 << 20; // bytes of a file that are read at a time
+// bytes of a file that are held, unless it is said otherwise: an eighth of the device's memory where the browser tells it
+const HELD = Math.min(1 << 30, (navigator.deviceMemory ?? 4) * (128 << 20));
 const WIDTH = 60; // bases to a line of FASTA
 
 // --- texts
@@ -111,6 +113,7 @@ let worker, ready;
 let waiting = new Map();
 let last = 0;
 class Failed extends Error {}
+class NoMemory extends Failed {}
 class Stopped extends Error {}
 
 function startWorker() {
@@ -147,10 +150,27 @@ async function ask(what, given, handed) {
         waiting.set(id, { answer, fail });
         worker.postMessage({ id, ask: what, ...given }, handed ?? []);
     });
-    if (told.noRoom) throw new Failed(t("no.room"));
+    if (told.noRoom) throw new NoMemory(t("no.room"));
     if (told.notOpen) throw new Failed(t("not.open"));
     if (told.failed !== undefined) throw new Failed(t("failed", { what: told.failed }));
     return told;
+}
+
+// Asks the worker about the file. Bytes of it that it does not hold and wants are read, and it is asked again with them.
+async function askFile(what, given) {
+    const { fasta } = held;
+    for (let windows = []; ;) {
+        const told = await ask(what, { ...given, windows }, windows.map(({ bytes }) => bytes));
+        if (!told.wanted) return told;
+        windows = await Promise.all(told.wanted.map(async ({ from, to }) => ({ from, bytes: await bytesOf(fasta, from, to) })));
+    }
+}
+
+// Some bytes of a file; where it changed since it was chosen there are none.
+async function bytesOf(file, from, to) {
+    const bytes = await file.slice(from, to).arrayBuffer().catch(() => undefined);
+    if (bytes?.byteLength !== to - from) throw new Failed(t("files.changed"));
+    return bytes;
 }
 
 // Does some work, and shows at a place why it failed.
@@ -173,12 +193,14 @@ function refusal({ refused, name }) {
 // --- files
 
 const chosen = {};
+let held = {}; // the files that are open
 let round = 0;
 let row; // the record that is chosen
 
 const PARTS = ["choosing", "reading", "sheeting", "making", "searching"];
-function enable(open) {
-    for (const id of PARTS) byId(id).disabled = !open;
+const FASTQ_PARTS = ["choosing", "reading"];
+function enable(open, fastq) {
+    for (const id of PARTS) byId(id).disabled = !open || (fastq && !FASTQ_PARTS.includes(id));
 }
 function clearResults() {
     for (const id of ["count", "made", "matches", "sheet-told", "scored", "primer-told", "copied", "copied-keys", "exercise-made"]) show(byId(id), "");
@@ -187,16 +209,47 @@ function clearResults() {
     row = undefined;
 }
 
-// Hands a file to the worker, part by part; false where other files were chosen meanwhile.
+// Hands a file to the worker, part by part, while the next part is read; false where other files were chosen meanwhile. A file that is refused is
+// read no further.
 async function hand(mine, which, file, progress) {
+    const part = (at) => (at < file.size ? bytesOf(file, at, Math.min(at + PART, file.size)) : undefined);
+    let next = part(0);
     for (let at = 0; at < file.size; at += PART) {
-        const bytes = await file.slice(at, at + PART).arrayBuffer().catch(() => undefined);
+        const bytes = await next;
         if (mine !== round) return false;
-        if (bytes?.byteLength !== Math.min(PART, file.size - at)) throw new Failed(t("files.changed"));
-        await ask("place", { round: mine, file: which, at, bytes }, [bytes]);
+        next = part(at + PART);
+        next?.catch(() => {});
+        const told = await ask("take", { round: mine, file: which, at, bytes }, [bytes]);
         progress(Math.min(at + PART, file.size) / file.size);
+        if (told.refused) break;
     }
     return mine === round;
+}
+
+// Whether a file is read in parts, and none of it held.
+function isInParts(file) {
+    return { parts: true, whole: false }[byId("memory").value] ?? file.size > HELD;
+}
+
+// Whether a file is FASTQ, by its first byte: each of its records begins with '@', and each of FASTA with '>'.
+async function isFastq(file) {
+    return file.size > 0 && new Uint8Array(await bytesOf(file, 0, 1))[0] === 0x40;
+}
+
+// Hands both files to the worker: in parts where the file is large, or where there is no memory for the whole; false as above.
+async function load(mine, progress) {
+    const { fasta, fai } = held;
+    const fastq = await isFastq(fasta);
+    if (mine !== round) return false;
+    const begin = (inParts) => ask("begin", { round: mine, fasta: fasta.size, index: fai?.size, fastq, inParts, strict: byId("strict").checked });
+    const inParts = !fastq && isInParts(fasta);
+    try {
+        await begin(inParts);
+    } catch (e) {
+        if (inParts || fastq || byId("memory").value !== "auto" || !(e instanceof NoMemory)) throw e;
+        await begin(true);
+    }
+    return await hand(mine, "fasta", fasta, progress) && (!fai || await hand(mine, "index", fai, () => {}));
 }
 
 async function open() {
@@ -206,24 +259,22 @@ async function open() {
     clearResults();
     show(byId("detail"), "");
     if (!chosen.fasta) return show(byId("verdict"), t(chosen.fai ? "files.choose.too" : "files.choose"));
-    const { fasta, fai } = chosen;
-    show(byId("verdict"), t("files.reading", { file: fasta.name }));
+    held = { ...chosen };
+    show(byId("verdict"), t("files.reading", { file: held.fasta.name }));
     byId("progress").value = 0;
     byId("doing").textContent = t("files.progress");
     byId("working").hidden = false;
     await working(byId("verdict"), async () => {
         const start = performance.now();
-        await ask("begin", { round: mine, fasta: fasta.size, index: fai?.size });
-        const all = await hand(mine, "fasta", fasta, (part) => { byId("progress").value = part; }) && (!fai || await hand(mine, "index", fai, () => {}));
-        if (!all) return;
+        if (!await load(mine, (part) => { byId("progress").value = part; })) return;
         byId("doing").textContent = t("files.judging");
         byId("progress").removeAttribute("value");
         const loading = performance.now() - start;
-        const told = await ask("judge", { strict: byId("strict").checked });
+        const told = await askFile("judge", { strict: byId("strict").checked });
         if (mine !== round) return;
         document.body.dataset.times = JSON.stringify({ loading, checking: told.checking, indexing: told.indexing });
         judged(told);
-        if (told.records !== undefined) await opened();
+        if (told.records !== undefined) await opened(told.fastq);
     });
     if (mine === round) byId("working").hidden = true;
     document.body.dataset.round = String(mine);
@@ -247,12 +298,25 @@ function judged(told) {
         return;
     }
     const records = many("record", told.records);
-    if (told.accepted) {
-        show(byId("verdict"), t("files.accepted", { index, fasta, records }), "good");
+    const how = told.fastq ? "fastq" : told.inParts ? "parts" : "whole";
+    if (told.other) {
+        show(byId("verdict"), t("files.other", { index, fasta, line: told.other.line, records }), "bad");
+        show(byId("detail"), t("files.other.detail"));
+        showOther(told.other);
+    } else if (told.accepted) {
+        show(byId("verdict"), t(told.fastq ? "files.accepted.both" : "files.accepted", { index, fasta, records }), "good");
+        if (how !== "whole") show(byId("detail"), t(`files.accepted.${how}`));
     } else {
         show(byId("verdict"), t("files.indexed", { fasta, records }));
-        show(byId("detail"), t("files.indexed.detail"));
+        show(byId("detail"), t(`files.indexed.${how}`));
     }
+}
+
+// A line of text that was found, with its label.
+function shownLine(label, ...texts) {
+    const block = made("pre", undefined, { tabindex: "0", role: "region", "aria-label": label });
+    block.append(...texts);
+    byId("lines").append(made("p", label, { class: "quiet" }), block);
 }
 
 // The lines that a refusal is about, each with a caret under the byte that it names.
@@ -260,20 +324,26 @@ function showLines(lines) {
     byId("lines").textContent = "";
     for (const { file, line, byte, text, before } of lines) {
         const name = file === "fasta" ? chosen.fasta.name : chosen.fai.name;
-        const label = t("line.fasta", { file: name, line, byte });
-        const block = made("pre", undefined, { tabindex: "0", role: "region", "aria-label": label });
-        block.append(made("span", text));
-        if (before !== undefined) {
-            block.append(made("span", `\n${" ".repeat(before)}^`, { "aria-hidden": "true" }));
-            block.append(made("span", t("line.marked", { letter: before + 1 }), { class: "apart" }));
-        }
-        byId("lines").append(made("p", label, { class: "quiet" }), block);
+        const caret = before === undefined ? [] : [
+            made("span", `\n${" ".repeat(before)}^`, { "aria-hidden": "true" }),
+            made("span", t("line.marked", { letter: before + 1 }), { class: "apart" }),
+        ];
+        shownLine(t("line.fasta", { file: name, line, byte }), made("span", text), ...caret);
     }
 }
 
+// The first line of an index that is not the one that was made, and that one.
+function showOther({ line, given, made: text }) {
+    byId("lines").textContent = "";
+    if (given) shownLine(t("line.fasta", { file: chosen.fai.name, ...given }), given.text);
+    else byId("lines").append(made("p", t("line.given.none", { file: chosen.fai.name, line }), { class: "quiet" }));
+    if (text !== undefined) shownLine(t("line.made", { file: chosen.fasta.name, line }), text);
+    else byId("lines").append(made("p", t("line.made.none", { file: chosen.fasta.name, line }), { class: "quiet" }));
+}
+
 // A file that can be read: its records are listed.
-async function opened() {
-    enable(true);
+async function opened(fastq) {
+    enable(true, fastq);
     await list();
 }
 
@@ -291,7 +361,7 @@ for (const which of ["fasta", "fai"]) {
     byId(which).addEventListener("click", () => { byId(which).value = ""; });
     byId(which).addEventListener("cancel", () => choose(which, chosen[which]));
 }
-byId("strict").addEventListener("change", () => { if (chosen.fasta) open(); });
+for (const id of ["strict", "memory"]) byId(id).addEventListener("change", () => { if (chosen.fasta) open(); });
 byId("again").addEventListener("click", open);
 byId("stop").addEventListener("click", () => {
     round++;
@@ -330,7 +400,7 @@ document.addEventListener("drop", (e) => {
 });
 
 byId("make").addEventListener("click", () => working(byId("made"), async () => {
-    const told = await ask("index", { strict: byId("strict").checked });
+    const told = await askFile("index", { strict: byId("strict").checked });
     if (told.refused) {
         const { words: said, code } = refusal(told);
         showLines(told.lines);
@@ -339,8 +409,8 @@ byId("make").addEventListener("click", () => working(byId("made"), async () => {
     const file = `${chosen.fasta.name}.fai`;
     const instead = byId("verdict").classList.contains("bad");
     if (instead) {
-        await ask("anew");
-        await opened();
+        const { fastq } = await askFile("anew");
+        await opened(fastq);
     }
     save(file, told.parts, byId("saved"));
     show(byId("made"), t(instead ? "index.made.instead" : "index.made", { file, records: many("record", told.records) }), "good");
@@ -351,8 +421,15 @@ byId("make").addEventListener("click", () => working(byId("made"), async () => {
 let searches = 0;
 async function list() {
     const mine = ++searches;
-    const told = await ask("list", { search: byId("search").value.trim(), most: LISTED });
-    if (mine !== searches) return;
+    const told = { rows: [], matches: 0 };
+    for (let at = 0; at !== undefined;) {
+        const some = await askFile("list", { search: byId("search").value.trim(), most: LISTED - told.rows.length, at });
+        if (mine !== searches) return;
+        told.rows.push(...some.rows);
+        told.matches += some.matches;
+        told.records = some.records;
+        at = some.next;
+    }
     const options = told.rows.map((record) => {
         const bases = many("base", record.length);
         const text = t(record.description ? "records.option.described" : "records.option", { ...record, bases });
@@ -389,7 +466,7 @@ byId("read-form").addEventListener("submit", (e) => {
         const asked = region("first", "last", byId("count"));
         if (!asked) return;
         const wanted = { ...asked, strand: byId("strand").value };
-        const told = await ask("read", { ...wanted, most: SHOWN });
+        const told = await askFile("read", { ...wanted, most: SHOWN });
         if (told.refused) return show(byId("count"), t("nothing.read", { refused: refusal(told).text }), "bad");
         const bases = many("base", told.count);
         show(byId("count"), t(told.count > SHOWN ? "read.count.first" : "read.count", { name: told.name, bases, shown: SHOWN }), "good");
@@ -397,13 +474,18 @@ byId("read-form").addEventListener("submit", (e) => {
             const label = t(other ? "read.other" : "read.bases");
             byId("bases").append(made("p", label, { class: "quiet" }), made("pre", text, { tabindex: "0", role: "region", "aria-label": label, class: "bases" }));
         }
-        lastRead = { ...wanted, name: told.name, text: told.strands.map(({ text }) => text).join("\n") };
+        if (told.qualities !== undefined) {
+            const label = t(wanted.strand === "other" ? "read.qualities.turned" : "read.qualities");
+            byId("bases").append(made("p", label, { class: "quiet" }), made("pre", told.qualities, { tabindex: "0", role: "region", "aria-label": label, class: "bases" }));
+        }
+        const lines = [...told.strands.map(({ text }) => text), ...(told.qualities === undefined ? [] : [told.qualities])];
+        lastRead = { ...wanted, name: told.name, text: lines.join("\n") };
         byId("read-more").hidden = false;
     });
 });
 byId("copy").addEventListener("click", () => copy(lastRead.text, byId("copied")));
 byId("save-fasta").addEventListener("click", () => working(byId("copied"), async () => {
-    const told = await ask("fasta", { ...lastRead, width: WIDTH });
+    const told = await askFile("fasta", { ...lastRead, width: WIDTH });
     if (told.refused) return show(byId("copied"), refusal(told).text, "bad");
     save(`${fileName(lastRead.name)}.fa`, told.parts);
 }));
@@ -435,7 +517,7 @@ function answerSheet() {
     byId("keys").textContent = "";
     byId("sheet-more").hidden = true;
     return working(byId("sheet-told"), async () => {
-        const told = await ask("sheet", { text: byId("regions").value, bed: byId("bed").checked, width: WIDTH });
+        const told = await askFile("sheet", { text: byId("regions").value, bed: byId("bed").checked, width: WIDTH });
         const code = (text) => made("code", text);
         if (told.faults) {
             show(byId("sheet-told"), many("sheet.faults", told.faults.length, { regions: told.regions }), "bad");
@@ -445,14 +527,18 @@ function answerSheet() {
         }
         if (told.keys.length === 0) return show(byId("sheet-told"), t("sheet.empty"));
         show(byId("sheet-told"), many("sheet.done", told.keys.length), "good");
-        const rows = told.keys.map((key) => [number(key.line), code(key.text), key.label ?? "", code(key.bases.slice(0, SHOWN))]);
-        byId("keys").append(tabled(undefined, [t("sheet.line"), t("sheet.region"), t("sheet.label"), t("sheet.key")], rows));
+        // strands are shown where one is turned
+        const turned = told.keys.some((key) => key.reverse);
+        const strand = (key) => (turned ? [t(key.reverse ? "strand.minus" : "strand.plus")] : []);
+        const rows = told.keys.map((key) => [number(key.line), code(key.text), ...strand(key), key.label ?? "", code(key.bases.slice(0, SHOWN))]);
+        const heads = ["sheet.line", "sheet.region", ...(turned ? ["strand"] : []), "sheet.label", "sheet.key"];
+        byId("keys").append(tabled(undefined, heads.map((key) => t(key)), rows));
         lastSheet = told;
         byId("save-keys").hidden = told.parts === undefined;
         byId("sheet-more").hidden = false;
     });
 }
-byId("copy-keys").addEventListener("click", () => copy(lastSheet.keys.map((key) => `${key.text}\t${key.label ?? ""}\t${key.bases}\n`).join(""), byId("copied-keys")));
+byId("copy-keys").addEventListener("click", () => copy(lastSheet.keys.map((key) => `${key.text}${key.reverse ? " -" : ""}\t${key.label ?? ""}\t${key.bases}\n`).join(""), byId("copied-keys")));
 byId("save-keys").addEventListener("click", () => save("keys.fa", lastSheet.parts));
 
 // --- exercises
@@ -463,7 +549,7 @@ byId("make-form").addEventListener("submit", (e) => {
     working(byId("exercise-made"), async () => {
         const asked = region("from", "to", byId("exercise-made"));
         if (!asked) return;
-        const told = await ask("makeExercise", { ...asked, edition: byId("edition").value });
+        const told = await askFile("makeExercise", { ...asked, edition: byId("edition").value });
         if (told.refused) return show(byId("exercise-made"), t("nothing.read", { refused: refusal(told).text }), "bad");
         if (told.fault) return show(byId("exercise-made"), t("refused", { words: t(told.fault) }), "bad");
         const file = `${fileName(`${told.name}_${asked.first ?? ""}-${asked.last ?? ""}`)}.exercise`;
@@ -478,7 +564,7 @@ async function takeExercise(file) {
 async function setExercise(bytes) {
     exercise = undefined;
     byId("score").disabled = true;
-    const told = await ask("readExercise", { bytes });
+    const told = await askFile("readExercise", { bytes });
     const said = told.exercise && t("exercise.asks", { ...told.exercise, edition: t(`edition.${told.exercise.edition}.short`) });
     if (told.refused) return show(byId("asks"), [said, refusal(told).text].filter(Boolean).join(" "), "bad");
     if (!told.hasKey) return show(byId("asks"), `${said} ${t("not.open")}`, "bad");
@@ -521,7 +607,7 @@ function score(answers, ofClass) {
     byId("score-more").hidden = true;
     return working(byId("scored"), async () => {
         if (!exercise) return show(byId("scored"), t("exercise.none"), "bad");
-        const told = await ask("score", { bytes: exercise, answers, most: MARKED });
+        const told = await askFile("score", { bytes: exercise, answers, most: MARKED });
         if (told.refused) return show(byId("scored"), refusal(told).text, "bad");
         const one = told.scores[0];
         show(byId("scored"), ofClass ? many("score.class", told.scores.length) : t("score.one", { ...one, score: percent(one.score) }), "good");
@@ -552,7 +638,7 @@ byId("primer-form").addEventListener("submit", (e) => {
         const placed = () => many("primer.place", places.length);
         let told, at;
         do {
-            told = await ask("primer", { letters: byId("primer").value, only, at });
+            told = await askFile("primer", { letters: byId("primer").value, only, at });
             if (mine !== search && !told.refused) break;
             if (told.refused) {
                 byId("stop-primer").hidden = true;
@@ -602,6 +688,8 @@ tabs.forEach((tab, k) => {
 for (const button of document.querySelectorAll("button.print")) button.addEventListener("click", () => window.print());
 
 // --- begin
+
+byId("memory").options[0].textContent = t("memory.auto", { size: HELD >> 20 });
 
 if (typeof WebAssembly !== "object" || typeof BigInt64Array !== "function" || typeof Worker !== "function") {
     show(byId("verdict"), t("old"), "bad");

@@ -1,5 +1,5 @@
 // Sheets of regions and tables of answers, as people write them. What a region means is found here; whether it is good, the proved code says.
-// The forms are those of the command (host/command/src/region.rs, sheet.rs).
+// The forms are those of the library (host/wakeluri/src/region.rs) and of the command (host/command/src/sheet.rs).
 
 const LARGEST_BOUND = 2n ** 64n - 1n;
 
@@ -44,30 +44,48 @@ export function written(text) {
     return { first, last };
 }
 
-// The lines of a sheet that ask for something: { line, text, label }, or of BED { line, text, label, named: { name, first, last } }, or with
-// `fault`, the key of a text.
+// Whether a field behind a region may be meant as a part of it.
+function isLikeBounds(field) {
+    return /^[0-9,\-+.:]*$/.test(field);
+}
+
+// Whether the strand '-' follows a region that has both ends, and the label behind it. Behind another region a sign may be a part of it.
+function strandOf(region, behind) {
+    const [, sign, rest] = /^([+-])(?:\s+(.*))?$/s.exec(behind) ?? [];
+    const hasBothEnds = /:[0-9,]+-[0-9,]+$/.test(region);
+    if (!sign || !hasBothEnds || (rest && isLikeBounds(rest.split(/\s+/)[0]))) return { reverse: false, label: behind };
+    return { reverse: sign === "-", label: rest ?? "" };
+}
+
+// A line of BED, which counts from 0 and does not include its end; or the key of a fault.
+function bedLine(line, raw) {
+    const trimmed = raw.trim();
+    const fields = trimmed.includes("\t") ? trimmed.split("\t").map((field) => field.trim()) : trimmed.split(/\s+/);
+    const [name, from, to, label, , sign] = fields;
+    const [start, end] = [from, to].map((text) => (/^[0-9]+$/.test(text ?? "") ? BigInt(text) : null));
+    if (start === null || end === null) return { line, text: trimmed, fault: "fault.bed" };
+    if (start >= end || end > LARGEST_BOUND) return { line, text: trimmed, fault: "fault.bedorder" };
+    const named = { name, first: start + 1n, last: end };
+    return { line, text: `${name}:${named.first}-${named.last}`, label: label === "" || label === "." ? undefined : label, named, reverse: sign === "-" };
+}
+
+// The lines of a sheet that ask for something: { line, text, label, reverse }, or of BED with `named`, { name, first, last }, or with `fault`,
+// the key of a text. What may be a region written in another way is never taken for a label.
 export function sheetLines(sheet, bed) {
     const asked = [];
     sheet.replace(/^\ufeff/, "").split(/\r\n|\n|\r/).forEach((raw, k) => {
         const trimmed = raw.trim();
-        if (trimmed === "" || trimmed.startsWith("#")) return;
         const line = k + 1;
+        if (trimmed === "" || trimmed.startsWith("#")) return;
         if (bed) {
-            const fields = raw.includes("\t") ? raw.split("\t").map((field) => field.trim()) : trimmed.split(/\s+/);
-            if (["track", "browser"].includes(fields[0].split(/\s/)[0])) return;
-            const [start, end] = [whole(fields[1] ?? ""), whole(fields[2] ?? "")];
-            if (start === null || end === null) return asked.push({ line, text: trimmed, fault: "fault.bed" });
-            if (start >= end || end > LARGEST_BOUND) return asked.push({ line, text: trimmed, fault: "fault.bedorder" });
-            // BED counts from 0, and its end is not included
-            const named = { name: fields[0], first: start + 1n, last: end };
-            asked.push({ line, text: `${fields[0]}:${named.first}-${named.last}`, label: fields[3], named });
+            if (!/^(?:track|browser)(?:\s|$)/.test(trimmed)) asked.push(bedLine(line, raw));
             return;
         }
         const [, text, behind] = /^(\S+)\s*(.*)$/s.exec(trimmed);
-        const label = behind === "" ? undefined : behind;
-        // a name and numbers apart are a region in another form, and no label
-        if (label !== undefined && !text.includes(":") && /^[0-9][0-9,]*(?:\s|-|$)/.test(label)) return asked.push({ line, text: trimmed, fault: "fault.apart" });
-        asked.push({ line, text, label });
+        const { reverse, label } = strandOf(text, behind);
+        const isPart = label !== "" && (isLikeBounds(label.split(/\s+/)[0]) || /[:,-]$/.test(text) || label.startsWith(":"));
+        if (isPart) asked.push({ line, text: trimmed, fault: "fault.apart" });
+        else asked.push({ line, text, label: label === "" ? undefined : label, reverse });
     });
     return asked;
 }

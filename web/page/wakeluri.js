@@ -4,10 +4,12 @@
 // `memory.buffer` is another object after the memory grew: no view of it is kept between calls.
 
 const PAGE = 65536;
+const MOST = 2 ** 32; // bytes of a memory with 32-bit addresses
 const ANSWER = 32 * 8;
 
-// A row of a table, as include/wakeluri.h has it: eight numbers.
+// A row of a table, as include/wakeluri.h has it: eight numbers, and of FASTQ seven.
 export const ROW = 64;
+export const FASTQ_ROW = 56;
 
 // No room: the browser gives no more memory. This is the host's limit, and no refusal of the proved code.
 export class NoRoom extends Error {}
@@ -61,12 +63,13 @@ export class Wakeluri {
         takes.forEach((kind, k) => {
             const one = given[k];
             if (kind === "number") {
-                if (typeof one !== "bigint" || BigInt.asUintN(64, one) !== one) throw new RangeError(`${name}: no number of 64 bits`);
+                if (!isNumber(one)) throw new RangeError(`${name}: no number of 64 bits`);
                 words.push(one);
                 return;
             }
             if (kind === "state") {
                 const view = new DataView(this.memory.buffer, this.state, 8 * tells.length);
+                if (!tells.every((field) => isNumber(one?.[field]))) throw new RangeError(`${name}: no answer to hand back`);
                 tells.forEach((field, j) => view.setBigUint64(8 * j, one[field], true));
                 words.push(BigInt(this.state));
                 return;
@@ -91,11 +94,24 @@ export class Wakeluri {
 
     // A room of so many bytes behind all others, on a place that 16 divides.
     room(length) {
+        if (length > MOST) throw new NoRoom();
         if (!(Number.isSafeInteger(length) && length >= 0)) throw new RangeError("no length of a room");
         const start = Math.ceil(this.free / 16) * 16;
         this.grow(start + length);
         this.free = start + length;
         return new Room(start, length);
+    }
+
+    // The last room with another length, at the same place: what it has stays.
+    resized(room, length) {
+        if (!this.isMade(room) || room.start + room.length !== this.free) throw new RangeError("not the last room");
+        this.free = room.start;
+        try {
+            return this.room(length);
+        } catch (e) {
+            this.free = room.start + room.length;
+            throw e;
+        }
     }
 
     // The memory has at least so many bytes afterwards.
@@ -140,12 +156,12 @@ export class Wakeluri {
 
     // A table with a row for each record or line: `name` is a call that fills one from some bytes. It is the last room, and made anew
     // while it has too few rows (refusal 8).
-    table(name, text) {
+    table(name, text, size = ROW) {
         for (let rows = 1024; ; rows *= 8) {
-            const table = this.room(rows * ROW);
+            const table = this.room(rows * size);
             const told = this.call(name, text, table);
             if (told.refusal !== 8n) {
-                const used = table.part(0, Number(told.count) * ROW);
+                const used = table.part(0, Number(told.count) * size);
                 this.free = used.start + used.length;
                 return { ...told, table: used };
             }
@@ -153,18 +169,34 @@ export class Wakeluri {
         }
     }
 
-    // One row of a table, by the header's names.
-    row(table, row) {
+    // One row of a table, by the header's names: of FASTQ there is no description, and the place of the qualities.
+    row(table, row, size = ROW) {
         const view = new DataView(this.memory.buffer, table.start, table.length);
-        const number = (k) => view.getBigUint64(ROW * row + 8 * k, true);
+        const number = (k) => view.getBigUint64(size * row + 8 * k, true);
+        const more = size === ROW ? { description: [Number(number(6)), Number(number(7))] } : { description: [0, 0], qualityPosition: number(6) };
         return {
             name: [Number(number(0)), Number(number(1))],
             length: number(2),
             position: number(3),
             lineBases: number(4),
             lineWidth: number(5),
-            description: [Number(number(6)), Number(number(7))],
+            ...more,
         };
+    }
+
+    // For a walk over many rows: a function that tells where the name and the description of a row lie, as four numbers. Their places are in a room,
+    // so that the low half of each number says it. Until the memory grows.
+    spans(table, size = ROW) {
+        const view = new DataView(this.memory.buffer, table.start, table.length);
+        const half = (row, k) => view.getUint32(size * row + 8 * k, true);
+        return (row) => [half(row, 0), half(row, 1), ...(size === ROW ? [half(row, 6), half(row, 7)] : [0, 0])];
+    }
+
+    // Puts the name and the description of a row at other places: for rows whose file is not at hand, and whose names are kept apart.
+    rename(table, row, name, description) {
+        const view = new DataView(this.memory.buffer, table.start, table.length);
+        view.setBigUint64(ROW * row, BigInt(name), true);
+        view.setBigUint64(ROW * row + 48, BigInt(description), true);
     }
 
     // Asks with no room for an output to hear how many bytes are needed (refusal 14), and again with as many. The answer has `out`, the
@@ -177,6 +209,10 @@ export class Wakeluri {
         const again = ask(out);
         return { ...again, out: out.part(0, Number(again.count)) };
     }
+}
+
+function isNumber(one) {
+    return typeof one === "bigint" && BigInt.asUintN(64, one) === one;
 }
 
 // A bound of a region as the calls take it: absent where it is undefined.

@@ -31,6 +31,11 @@ const CALL_WORDS = {
     feed_end: "Index",
     degeneracy: "Primer",
     find_primer: "Primer",
+    fastq_index: "FastqIndex",
+    fastq_read_index: "ReadIndex",
+    fastq_write_line: "WriteIndex",
+    fastq_read: "ReadExact",
+    fastq_check: "FastqCheck",
 };
 
 // What is wrong and where, and the refusal's numbers: two texts.

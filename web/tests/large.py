@@ -1,6 +1,8 @@
 #!/usr/bin/python3
-"""large.py PAGE [GIB]: a file of more than 2 GiB (2.25) in Chromium: chosen with its index, accepted, and read before, across and behind 2 GiB;
-then one base is put elsewhere at its end, and the index is refused there. It needs as much memory, and as much of the disk."""
+"""large.py PAGE [WHOLE [PARTS]]: files of more than 2 GiB in Chromium. One of WHOLE GiB (2.25) is kept in memory: accepted, read before, across and
+behind 2 GiB; then one base is put elsewhere at its end, and the index is refused there. One of PARTS GiB (4.5), more than any page's memory has, is
+read in parts: accepted, read before and behind 4 GiB, and its index is not accepted once a line is longer; what memory that took is told. They
+need as much of the disk, the first as much memory."""
 import os
 import sys
 import tempfile
@@ -11,44 +13,78 @@ from person import Person
 from selenium.webdriver.common.by import By
 
 page = sys.argv[1]
-gib = float(sys.argv[2]) if len(sys.argv) > 2 else 2.25
-with tempfile.TemporaryDirectory() as room:
-    fasta, index = os.path.join(room, "large.fa"), os.path.join(room, "large.fa.fai")
-    block = (b"ACGTTGCAAC" * 6 + b"\n") * 10000
-    head = b">chr a large one\n"
-    lines = int(gib * (1 << 30)) // len(block) * 10000
+sizes = [float(word) for word in sys.argv[2:]] + [2.25, 4.5][len(sys.argv) - 2:]
+BLOCK = (b"ACGTTGCAAC" * 6 + b"\n") * 10000
+HEAD = b">chr a large one\n"
+
+
+def written(room, gib):
+    """A file of so many GiB and its index, and how many lines it has."""
+    fasta = os.path.join(room, "large.fa")
+    lines = int(gib * (1 << 30)) // len(BLOCK) * 10000
     with open(fasta, "wb") as file:
-        file.write(head)
+        file.write(HEAD)
         for _ in range(lines // 10000):
-            file.write(block)
-    with open(index, "w", encoding="ascii") as file:
-        file.write(f"chr\t{60 * lines}\t{len(head)}\t60\t61\n")
+            file.write(BLOCK)
+    with open(fasta + ".fai", "w", encoding="ascii") as file:
+        file.write(f"chr\t{60 * lines}\t{len(HEAD)}\t60\t61\n")
+    return fasta, lines
+
+
+def memory():
+    """The most memory that the page's own process had so far, in MB."""
+    most = 0
+    for process in filter(str.isdigit, os.listdir("/proc")):
+        try:
+            with open(f"/proc/{process}/cmdline", "rb") as words, open(f"/proc/{process}/status", encoding="ascii") as status:
+                # a browser's processes belong to its group, which is this program's own
+                if b"--type=renderer" in words.read() and os.getpgid(int(process)) == os.getpgid(0):
+                    most = max(most, next(int(line.split()[1]) for line in status if line.startswith("VmHWM")))
+        except OSError:
+            pass
+    return most // 1000
+
+
+def tried(room, gib, kind):
+    fasta, lines = written(room, gib)
     browser = Chromium()
-    person = Person(browser, page)
+    person = Person(browser, page, kind)
 
     def chosen(which, path):
         browser.run("document.body.dataset.round = '0'; document.getElementById(arguments[0]).value = ''", which)
         browser.browser.find_element(By.ID, which).send_keys(path)
-        browser.wait_for("return Number(document.body.dataset.round) >= 1 && document.getElementById('working').hidden ? 1 : null", what="a verdict", seconds=600)
+        browser.wait_for("return Number(document.body.dataset.round) >= 1 && document.getElementById('working').hidden ? 1 : null", what="a verdict", seconds=900)
         return " | ".join((person.text("verdict"), person.text("lines")))
 
     try:
         person.fresh()
-        browser.browser.find_element(By.ID, "fai").send_keys(index)
+        before = memory()
+        browser.browser.find_element(By.ID, "fai").send_keys(fasta + ".fai")
         start = time.monotonic()
-        person.expect(f"{os.path.getsize(fasta):,} bytes, accepted", chosen("fasta", fasta), "Accepted", "1 record")
+        person.expect(f"{os.path.getsize(fasta):,} bytes, {kind}, accepted", chosen("fasta", fasta), "Accepted", "1 record")
         print(f"    in {time.monotonic() - start:.0f} s; thousandths of a second: {browser.run('return document.body.dataset.times')}")
-        at = (2 << 30) // 61 * 60
-        for first in (1, at - 5, at, 60 * lines - 9):
+        last = 60 * lines
+        for first in (1, *((border // 61 * 60 + more) for border in (2 << 30, 4 << 30) for more in (-5, 0)), last - 9):
+            if first + 9 > last:
+                continue
             wanted = "".join("ACGTTGCAAC"[(first - 1 + k) % 10] for k in range(10))
             person.expect(f"bases {first:,} on", person.read(str(first), str(first + 9)), "10 bases", wanted)
-        person.expect("past its end", person.read(str(60 * lines), str(60 * lines + 1)), "Refused", "refused 17")
+        person.expect("past its end", person.read(str(last), str(last + 1)), "Refused", "refused 17")
+        print(f"    memory of the page's process: {before} MB before, {memory()} MB at most")
         with open(fasta, "r+b") as file:
-            file.seek(len(head) + 61 * (lines - 2) + 60)
+            file.seek(len(HEAD) + 61 * (lines - 2) + 60)
             file.write(b"A\n")
-        person.expect("a line is longer at the end", chosen("fasta", fasta), "Refused", f"line {lines:,}")
-        print(f"large: {person.passed} passed, 0 failed")
-    except Failed as failed:
-        sys.exit(f"FAILED: {failed}")
+        told = chosen("fasta", fasta)
+        person.expect("a line is longer at the end", told, *(("Refused", f"line {lines:,}") if kind == "whole" else ("No index can be made", f"line {lines:,}")))
+        return person.passed
     finally:
         browser.close()
+        os.remove(fasta)
+
+
+with tempfile.TemporaryDirectory() as room:
+    try:
+        passed = sum(tried(room, gib, kind) for gib, kind in zip(sizes, ("whole", "parts")))
+        print(f"large: {passed} passed, 0 failed")
+    except Failed as failed:
+        sys.exit(f"FAILED: {failed}")

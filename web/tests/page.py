@@ -11,10 +11,12 @@ engine = ENGINES[engine_name]()
 person = Person(engine, page)
 try:
     print(f"== {engine.name} {engine.version}")
-    for test in scenarios.ALL:
-        if not wanted or test.__name__ in wanted:
-            print(f"-- {test.__name__}")
-            test(person, samples)
+    for memory, tests in (("auto", scenarios.ALL), ("parts", scenarios.IN_PARTS)):
+        person.memory = memory
+        for test in tests:
+            if not wanted or test.__name__ in wanted:
+                print(f"-- {test.__name__}")
+                test(person, samples)
     print(f"{engine.name}: {person.passed} passed, 0 failed; the module: {engine.run('return document.body.dataset.module')}")
 except Failed as failed:
     sys.exit(f"FAILED in {engine.name}: {failed}")

@@ -4,7 +4,9 @@ import { readFileSync } from "node:fs";
 import { calls } from "../calls.mjs";
 import { about, baseOf, definitionOf, kindOf, lineAt, lineOf, shown } from "../page/places.js";
 import { answersOf, bound, cells, csvCell, likeBounds, readings, sheetLines, typedBytes, written } from "../page/regions.js";
-import { Room, Wakeluri, bounds } from "../page/wakeluri.js";
+import { linesNear, linesOf } from "../page/faults.js";
+import { Parts, Wanted, Whole } from "../page/held.js";
+import { NoRoom, Room, Wakeluri, bounds } from "../page/wakeluri.js";
 
 const bytes = (text) => Buffer.from(text, "latin1");
 const header = readFileSync(new URL("../../include/wakeluri.h", import.meta.url), "utf8");
@@ -20,10 +22,19 @@ const tests = {
 
     "sheets"() {
         const of = (text, bed) => sheetLines(text, bed);
-        assert.deepEqual(of("\ufeff# x\r\n\r\na:1-2  one two\rb\n", false), [{ line: 3, text: "a:1-2", label: "one two" }, { line: 4, text: "b", label: undefined }]);
-        assert.equal(of("a 5 9", false)[0].fault, "fault.apart");
-        assert.equal(of("a 5-9", false)[0].fault, "fault.apart");
-        assert.equal(of("a:5-9 7", false)[0].fault, undefined);
+        assert.deepEqual(of("\ufeff# x\r\n\r\na:1-2  one two\rb\n", false), [{ line: 3, text: "a:1-2", label: "one two", reverse: false }, { line: 4, text: "b", label: undefined, reverse: false }]);
+        // as the command's own tests have them (host/command/src/sheet.rs)
+        for (const bad of ["s:1 -5", "s:100 - 200", "s:1 000-2 000", "s 5 9", "s :5", "s: 5", "s:5- 9", "s:5 -", "s +", "s:5, 6", "s:5-9 7"]) {
+            assert.equal(of(bad, false)[0].fault, "fault.apart", bad);
+        }
+        for (const good of ["s:1-5 first primer", "s 5prime", "s:5 T7", "s exon-1"]) assert.equal(of(good, false)[0].fault, undefined, good);
+        for (const [line, reverse, label] of [["s:5-9 -", true], ["s:5-9 +", false], ["s:1,005-1,009 -\tfirst primer", true, "first primer"], ["s:5-9 - x", true, "x"], ["s:5-9 -x", false, "-x"]]) {
+            const [{ reverse: turned, label: said }] = of(line, false);
+            assert.deepEqual([turned, said], [reverse, label], line);
+        }
+        for (const bad of ["s:5-9 - 12", "s:5- -", "s:-9 -", "5-9 -"]) assert.equal(of(bad, false)[0].fault, "fault.apart", bad);
+        assert.equal(of("a\t0\t2\t.\t0\t-\n", true)[0].reverse, true);
+        assert.equal(of("a\t0\t2\t.\n", true)[0].label, undefined);
         assert.deepEqual(of("a\t0\t2\tx\n", true)[0].named, { name: "a", first: 1n, last: 2n });
         for (const bad of ["a", "a\t1", "a\tx\t2"]) assert.equal(of(bad, true)[0].fault, "fault.bed");
         for (const bad of ["a\t2\t2", "a\t3\t2", `a\t0\t${2n ** 64n}`]) assert.equal(of(bad, true)[0].fault, "fault.bedorder");
@@ -104,6 +115,10 @@ for (const name of ["simd128", "plain"]) {
         refused("read_line", bases, 0);
         refused("read_line", bases, -1n);
         refused("read_line", bases, 2n ** 64n);
+        const feed = proved.call("feed_start", 1n);
+        refused("feed_piece", undefined, bases, proved.room(0));
+        refused("feed_piece", { ...feed, rows: -1n }, bases, proved.room(0));
+        refused("feed_piece", { ...feed, rows: 1 }, bases, proved.room(0));
         assert.equal(proved.call("read_line", bases, 2n ** 64n - 1n).found, 0n);
         assert.throws(() => bases.part(2, 3), RangeError);
         assert.throws(() => proved.room(-1), RangeError);
@@ -111,6 +126,14 @@ for (const name of ["simd128", "plain"]) {
         const gone = proved.using(() => proved.room(100));
         refused("complement", gone, out);
         assert.throws(() => proved.bytes(gone), RangeError);
+        // the last room alone grows, and keeps what it has
+        const last = proved.lend(bytes("ACGT"));
+        assert.throws(() => proved.resized(bases, 8), RangeError);
+        const longer = proved.resized(last, 1 << 20);
+        assert.equal(Buffer.from(proved.bytes(longer.part(0, 4))).toString(), "ACGT");
+        assert.throws(() => proved.resized(longer, 2 ** 33), NoRoom);
+        assert.equal(Buffer.from(proved.bytes(proved.resized(longer, 2))).toString(), "AC");
+        assert.throws(() => proved.room(2 ** 40), NoRoom);
         // what lies about the rooms stays as it was
         const around = proved.lend(new Uint8Array(64).fill(7));
         proved.call("complement", bases, around.part(16, 4));
@@ -124,6 +147,74 @@ for (const name of ["simd128", "plain"]) {
         assert.equal(Buffer.from(proved.bytes(read.out)).toString(), "C");
     };
 }
+
+// Every file of up to some letters, and some longer ones, in parts of every size: rows, names, lines of refusals and reads as of the whole file.
+tests["files in parts"] = () => {
+    const module = new WebAssembly.Module(readFileSync(`${process.argv[2]}/wakeluri-simd128.wasm`));
+    const proved = new Wakeluri(module, calls(header));
+    const rowsOf = ({ names, table, count }) => Array.from({ length: count }, (_, k) => {
+        const { name, description, ...numbers } = proved.row(table, k);
+        const text = ([start, length]) => Buffer.from(proved.bytes(names.part(start, length))).toString("latin1");
+        return { ...numbers, name: text(name), description: text(description) };
+    });
+    // a window is handed over where it is wanted, as the page does
+    const withBytes = (parts, file, work) => {
+        parts.windows = [];
+        for (;;) {
+            try {
+                return work();
+            } catch (e) {
+                if (!(e instanceof Wanted)) throw e;
+                parts.windows = e.parts.map(({ from, to }) => ({ from, bytes: Uint8Array.from(file.subarray(from, to)).buffer }));
+            }
+        }
+    };
+    let tried = 0;
+    const compare = (file, size, strict) => proved.using(() => {
+        const whole = new Whole(proved, file.length);
+        whole.take(0, file);
+        const [told, rows] = whole.rows(strict);
+        const parts = new Parts(proved, file.length, strict);
+        for (let at = 0; at < file.length; at += size) if (parts.take(at, Uint8Array.from(file.subarray(at, at + size))).refused) break;
+        const [toldToo, rowsToo] = withBytes(parts, file, () => parts.rows());
+        const numbers = ({ refusal, first, second }) => [refusal, first, second];
+        assert.deepEqual(numbers(toldToo), numbers(told), `${file} ${size}`);
+        tried++;
+        if (told.refusal !== 0n) {
+            const lines = withBytes(parts, file, () => linesNear(toldToo, parts));
+            assert.deepEqual(lines.map(({ line, byte }) => [line, byte]), linesOf(told, file).map(({ line, byte }) => [line, byte]), `${JSON.stringify(String(file))} ${size} ${told.refusal}`);
+            return;
+        }
+        assert.deepEqual(rowsOf(rowsToo), rowsOf(rows));
+        const regions = Array.from({ length: rows.count }, (_, row) => ({ row, first: undefined, last: undefined }));
+        const bad = [{ row: 0, first: 1n, last: 99n }, { row: 7, first: 0n, last: 1n }];
+        for (const some of [regions, regions.slice(0, 1), bad]) {
+            const sheet = (of, mine) => {
+                const { keys, next, ...rest } = of.sheet(mine, some);
+                return keys ? keys.map((room) => Buffer.from(proved.bytes(room)).toString("latin1")) : [...numbers(rest), next];
+            };
+            if (some.length <= 200) assert.deepEqual(withBytes(parts, file, () => sheet(parts, rowsToo)), sheet(whole, rows), `${JSON.stringify(String(file))} ${size}`);
+        }
+    });
+    const letters = [62, 65, 10, 13, 32];
+    const every = (length, front) => (length === 0 ? [front] : letters.flatMap((letter) => every(length - 1, [...front, letter])));
+    for (let length = 0; length <= 4; length++) {
+        for (const file of every(length, length > 2 ? [62, 97] : [])) for (const strict of [false, true]) for (const size of [1, 2, 100]) compare(Buffer.from(file), size, strict);
+    }
+    const long = bytes(Array.from({ length: 300 }, (_, k) => `>r${k} about ${k}\n${"ACGTAC\n".repeat(k % 7)}AC\n`).join(""));
+    for (const size of [1, 3, 7, 64, 1000, 1 << 20]) for (const strict of [false, true]) compare(long, size, strict);
+    const exercise = proved.output((out) => proved.call("write_exercise", proved.lend(bytes("r6")), 2n, 9n, 1n, out)).out;
+    const whole = new Whole(proved, long.length);
+    whole.take(0, long);
+    const parts = new Parts(proved, long.length, false);
+    for (let at = 0; at < long.length; at += 100) parts.take(at, Uint8Array.from(long.subarray(at, at + 100)));
+    const [, rowsToo] = withBytes(parts, long, () => parts.rows());
+    const [, rows] = whole.rows(false);
+    const typed = proved.lend(bytes("CGTAAAA"));
+    const counts = ({ right, wrong, missing, surplus, score, key }) => [right, wrong, missing, surplus, score, Buffer.from(proved.bytes(key)).toString()];
+    assert.deepEqual(withBytes(parts, long, () => counts(parts.score(rowsToo, exercise, typed))), counts(whole.score(rows, exercise, typed)));
+    console.log(`    ${tried} files`);
+};
 let failed = 0;
 for (const [name, test] of Object.entries(tests)) {
     try {

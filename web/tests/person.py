@@ -28,8 +28,9 @@ DROP = """
 
 
 class Person:
-    def __init__(self, engine, page):
+    def __init__(self, engine, page, memory="auto"):
         self.engine = engine
+        self.memory = memory  # whether the file is held: auto, whole or parts
         self.address = page if "://" in page else "file://" + os.path.abspath(page)
         self.passed = 0
 
@@ -59,6 +60,7 @@ class Person:
     def fresh(self):
         self.engine.go(self.address)
         self.engine.run(HOOK)
+        self.engine.run("document.getElementById('memory').value = arguments[0]", self.memory)
 
     def drop(self, *files, on="body"):
         files = [[name, content.decode("latin1") if isinstance(content, bytes) else content] for name, content in files]

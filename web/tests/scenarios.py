@@ -86,7 +86,6 @@ def bad_files(p, samples):
     p.expect("a compressed file", p.open(b"\x1f\x8b\x08\x00abc"), "compressed")
     p.expect("a mark before the text", p.open(b"\xef\xbb\xbf>s\nAC\n"), "byte order mark")
     p.expect("UTF-16", p.open(b"\xff\xfe>\x00s\x00\n\x00"), "UTF-16")
-    p.expect("FASTQ", p.open(b"@r\nAC\n+\nII\n"), "FASTQ")
     p.expect("no name", p.open(b">s\nACGT\n>\nAC\n"), "has no name after its '>', at byte 9", "a.fa, line 3", "after 1 record")
     p.expect("no index fits", p.open(b">s\nACGT\nAC\nACGT\n"), "No index can be made", "refused 42", "line 4")
     p.expect("an empty file", p.open(b""), "0 records")
@@ -102,6 +101,31 @@ def bad_files(p, samples):
     p.expect("a bound of 64 bits", p.read("1", "18446744073709551615"), "refused 17 (length 6)")
     p.expect("a bound over 64 bits", p.read("1", "18446744073709551616"), "Refused", "whole number")
     p.expect("a bound that is none", p.read("1", "x"), "Refused", "whole number")
+
+
+def fastq(p, samples):
+    file = b"@r1 first\nACGTN\n+r1\n!\"#$%\n@r2\nGGCC\nAA\n+\n@@II\n~~\n"
+    index = b"r1\t5\t10\t5\t6\t20\nr2\t6\t30\t4\t5\t40\n"
+    p.expect("FASTQ", p.open(file), "2 records", "FASTQ")
+    p.expect("its index", repr(p.save("make")), repr(index.decode()))
+    p.expect("bases and qualities", p.read("3", "6", row=1), "4 bases", "BasesCCAA", "QualitiesII~~")
+    p.expect("the other strand", p.read("3", "6", "other", row=1), "TTGG", "last one first~~II")
+    p.expect("past its end", p.read("3", "7", row=1), "refused 17 (length 6)", never=["Qualities"])
+    p.expect("saved as FASTA", repr(p.save("save-fasta") if p.read("", "", row=0) else ""), repr(">r1\nACGTN\n"))
+    p.expect("no sheets of it", str(p.engine.run("return document.getElementById('sheeting').disabled")), "True")
+    p.expect("with its index", p.open(file, index), "Accepted", "every base and every quality")
+    p.expect("with another", p.open(file, index.replace(b"\t40", b"\t41")), "Refused", "refused 23 (record 2, base 1)", "The record is r2", "r2→6→30→4→5→41",
+             "a.fa.fai, line 2", "a.fa, line 5", "@r2", never=["leads to every"])
+    p.expect("nothing is read by it", str(p.engine.run("return document.getElementById('reading').disabled")), "True")
+    p.save("make")
+    p.expect("but by a new one", p.says("made") + p.read("1", "2", row=1), "Reads go by it now", "GG", "Qualities@@")
+    p.expect("numbers that lead there too", p.open(b"@r\nACGT\n+\nIIII\n", b"r\t4\t3\t60\t61\t10\n"), "Accepted")
+    p.expect("a line missing", p.open(file, b"r1\t5\t10\t5\t6\t20\n"), "no line for record 2", "r2")
+    p.expect("a line too many", p.open(file, index + b"r3\t1\t2\t3\t4\t5\n"), "goes on", "line 3")
+    p.expect("with five columns", p.open(file, b"r1\t5\t10\t5\t6\n"), "Refused", "the offset of the first quality")
+    p.expect("no '+' line", p.open(b"@r\nAC\nII\n"), "No index can be made", "no '+' line", "refused 38", "line 1")
+    p.expect("too few qualities", p.open(b"@q\nAC\n+\nII\n@r\nACGT\n+\nII\n"), "refused 39 (found 2, expected 4)", "line 5", "after 1 record")
+    p.expect("FASTA behind it", p.open(b"@q\nAC\n+\nII\n>s\nAC\n"), "does not begin with '@', at byte 11", "line 5")
 
 
 def records(p, samples):
@@ -132,7 +156,7 @@ def sheets(p, samples):
     p.expect("its keys, saved", repr(p.save("save-keys")), repr(">sq0:2-3 one\nCG\n>sq1:9-\nNN\n>{sq0}:-1\nA\n>sq0\nACGT\n"))
     p.fill(regions="sq0:2-5\nnobody:1-2\nsq1 5 9\nsq0:3-2\nsq0:x-y\nsq0:1-2\n")
     p.expect("all faults at once", p.press("answer", "sheet-told"), "5 of 6 regions", "No key")
-    p.expect("which", str(p.cells("keys")), "refused 17 (length 4)", "refused 15", "apart from the name", "refused 16", "'5'", never=["'AC'"])
+    p.expect("which", str(p.cells("keys")), "refused 17 (length 4)", "refused 15", "write it without blanks", "refused 16", "'5'", never=["'AC'"])
     p.drop(("a.bed", "sq0\t0\t2\tfirst\nsq1\t8\t10\n"), on="#regions")
     p.engine.wait_for("return document.getElementById('sheet-told').textContent.startsWith('2 keys') ? 1 : null", what="a dropped sheet")
     p.expect("BED, dropped", str(p.cells("keys")), "sq0:1-2", "first", "AC", "sq1:9-10", "NN")
@@ -205,4 +229,37 @@ def primers(p, samples):
     p.expect("across two pieces", told + str(p.cells("places")), "2 places", "1,048,575", "1,048,578")
 
 
-ALL = [marked_examples, pain_of_the_clipped_read, pain_of_the_stale_index, pain_of_the_buffer, bad_files, records, sheets, exercises, primers]
+def files_in_parts(p, samples):
+    """A file of which nothing is held: its index is made while it passes by, and held against the one that is given."""
+    p.expect("M1, in parts", p.open(M1), "2 records", "read in parts", "not kept in memory")
+    p.expect("M1, in parts, its index", repr(p.save("make")), repr("sq0\t4\t5\t4\t5\nsq1\t10\t15\t4\t5\n"))
+    p.expect("M9, in parts, with its index", p.open(M9, b"s\t6\t3\t4\t5\n"), "Accepted", "read in parts", "same names and numbers")
+    p.expect("M9, 4 to 5", p.read("4", "5"), "2 bases", "TA")
+    p.expect("M9, 5 to 7", p.read("5", "7"), "Refused", "refused 17 (length 6)")
+    p.expect("numbers written in another way", p.open(M9, b"s\t+6\t03\t4\t5\r\n"), "Accepted")
+    p.expect("M10, in parts", p.open(M9, b"s\t6\t3\t4\t6\n"), "Not accepted: line 1 of a.fa.fai", "keep the whole file in memory", "s→6→3→4→6", "s→6→3→4→5", never=["Refused", "leads to"])
+    p.expect("M10, read by the index that was made", p.read("4", "6"), "3 bases", "TAC")
+    # numbers that lead to every base as well are not judged in parts, and accepted of the whole file
+    p.expect("M11, in parts", p.open(b">s\nACGT\n", b"s\t4\t3\t60\t61\n"), "Not accepted: line 1", "Other numbers can lead to every base too")
+    p.engine.run("document.body.dataset.round = '0'")
+    p.fill(memory="whole")
+    p.expect("M11, then whole", p.judged(), "Accepted", never=["parts"])
+    p.expect("a line missing", p.open(M1, b"sq0\t4\t5\t4\t5\n"), "Not accepted: line 2", "has no line 2", "sq1→10→15→4→5")
+    p.expect("a line too many", p.open(M9, b"s\t6\t3\t4\t5\nt\t6\t3\t4\t5\n"), "Not accepted: line 2", "gives no line 2", "t→6→3→4→5")
+    p.expect("another name", p.open(M9, b"t\t6\t3\t4\t5\n"), "Not accepted: line 1")
+    p.expect("a bad index line", p.open(M9, b"s\t6\tx\t4\t5\n"), "Refused", "field 3, the offset of the first base", "a.fa.fai, line 1")
+    p.expect("nothing is read by it", str(p.engine.run("return document.getElementById('reading').disabled")), "True")
+    p.save("make")
+    p.expect("a new one is made, and gone by", p.says("made") + p.read("1", "2"), "Reads go by it now", "AC")
+    p.expect("no FASTA", p.open(b"hello\n"), "No index can be made", "refused 3 (offset 0)", "line 1", "hello")
+    p.expect("no name", p.open(b">s\nACGT\n>\nAC\n"), "at byte 9", "a.fa, line 3", "after 1 record")
+    p.expect("no index fits", p.open(b">s\nACGT\nAC\nACGT\n"), "refused 42", "line 4")
+    p.expect("M3, in parts", p.open(b">s\nACGT\n\n\n", strict=True), "refused 6 (found 0, expected 4)", "line 3")
+    p.expect("M4, in parts", p.open(b">s\nACGT\nACGT\r\n", strict=True), "refused 7 (found 6, expected 5)", "line 3")
+    p.expect("an empty pair", p.open(b"", b""), "Accepted", "0 records")
+    for test in (pain_of_the_clipped_read, pain_of_the_buffer, records, sheets, exercises, primers):
+        test(p, samples)
+
+
+ALL = [marked_examples, pain_of_the_clipped_read, pain_of_the_stale_index, pain_of_the_buffer, bad_files, fastq, records, sheets, exercises, primers]
+IN_PARTS = [files_in_parts]

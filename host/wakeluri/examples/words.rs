@@ -9,7 +9,7 @@ use std::collections::BTreeMap;
 use std::process::ExitCode;
 use wakeluri::{Call, Refusal};
 
-const CALLS: [Call; 14] = [
+const CALLS: [Call; 16] = [
     Call::Definition,
     Call::Index,
     Call::ReadIndex,
@@ -24,6 +24,8 @@ const CALLS: [Call; 14] = [
     Call::Exercise,
     Call::Score,
     Call::Primer,
+    Call::FastqIndex,
+    Call::FastqCheck,
 ];
 
 /// The call whose words are those of all that have none of their own.
@@ -87,7 +89,7 @@ fn table() -> String {
         let words = refusal(ANY, 10, 1, field).words();
         format!("\"{field}\": {}", quoted(words.rsplit(", ").next().unwrap_or_default()))
     };
-    let columns: Vec<String> = (1..=5).map(column).collect();
+    let columns: Vec<String> = (1..=6).map(column).collect();
     let [words, code] = texts(ANY, UNKNOWN);
     format!(
         "{{\n  \"any\": {{\n{}\n  }},\n  \"calls\": {{\n{}\n  }},\n  \"columns\": {{{}}},\n  \"unknown\": [{}, {}]\n}}\n",
