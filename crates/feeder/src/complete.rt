@@ -21,7 +21,7 @@ ghost use Rattle.feeder.specs.Machine.{toldRow, passedOut, rowsOut, base
 ghost use Rattle.feeder.specs.Small.{SmallRows, FitsIn};
 
 // Where numbers say that the base behind `count` others lies: is it `at`. No product is made.
-fn is_place(n: Numbers, count: usize, at: usize) -> bool
+pub(crate) fn is_place(n: Numbers, count: usize, at: usize) -> bool
     requires { ⌜ (0 < n .bases) × (0 < n .width) ⌝ }
     ensures { λ r. ⌜ r ≡ eqb at (placeBy n count) ⌝ }
 {

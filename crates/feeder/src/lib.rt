@@ -7,6 +7,7 @@ mod complete;
 mod growing;
 mod judging;
 mod opening;
+mod passing;
 mod sound;
 mod strict;
 mod taking;
@@ -74,6 +75,12 @@ struct Fed {
     phase: Phase,
     rows: usize,
     held: Waiting,
+}
+
+// What a part of a piece leaves, and where the piece goes on.
+struct Turn {
+    fed: Fed,
+    at: usize,
 }
 
 // A file on its way: the rule, how many bytes have come, how many rows are written, what is awaited, and the line that waits.
