@@ -8,11 +8,13 @@
 // standard input, has at most 65,536 bytes; what is behind them is not read.
 ghost use Prim.Native.Nat.{_≤_};
 use checker::Verdict;
+use feeder::Feeder;
 use fitting::Rule;
 use libc::STDIN_FILENO;
 use libc::STDOUT_FILENO;
 use output::Written;
 use primer::Place;
+use refusal::Numbers;
 use refusal::Refusal;
 use scoring::Scored;
 use table::Stop;
@@ -30,14 +32,18 @@ fn say(work: &[u8], n: usize) {
     io::write_all(STDOUT_FILENO, b"\n");
 }
 
-// Writes the line of a refusal.
-fn say_refused(why: Refusal) {
-    let told = why.numbers();
+// Writes the line of a refusal by its numbers.
+fn say_told(told: Numbers) {
     io::write_all(STDOUT_FILENO, b"refused");
     say_number(told.refusal);
     say_number(told.first);
     say_number(told.second);
     io::write_all(STDOUT_FILENO, b"\n");
+}
+
+// Writes the line of a refusal.
+fn say_refused(why: Refusal) {
+    say_told(why.numbers());
 }
 
 // Indexes a file by a rule.
@@ -48,6 +54,19 @@ fn index(work: &[u8], fasta: &[u8], rule: Rule) {
     match stop {
         Stop::Ended => say(work, told.rows),
         Stop::Refused(why) => say_refused(why),
+    }
+}
+
+// Indexes a file that arrives, by the complete rule.
+fn arrive(fasta: &[u8]) {
+    let mut table = [0u8; 1024 * 8 * table::WORDS];
+    let fed = Feeder::start(Rule::Complete).piece(fasta, &mut table);
+    let ended = fed.end(&mut table);
+    let told = ended.refusal();
+    if told.refusal == 0 {
+        say(b"arrive", ended.rows);
+    } else {
+        say_told(told);
     }
 }
 
@@ -142,6 +161,7 @@ fn work(letter: u8, file: &[u8]) {
     match letter {
         b'i' => index(b"index", file, Rule::Strict),
         b'f' => index(b"fit", file, Rule::Complete),
+        b'a' => arrive(file),
         b'c' => check_input(file),
         b'r' => reverse(file),
         b'p' => find_input(file),

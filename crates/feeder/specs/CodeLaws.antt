@@ -279,28 +279,26 @@ module _ (rule : Rule) (f₀ : Fed) (p t₀ : List ℕ) where
   unfolding feedSum
   feed-start = record { is = refl; rest = refl }
 
-  module _ (f : Fed) (i : ℕ) (t : List ℕ) (o : FeedOn rule f₀ p t₀ f i t) where
-    pub feed-turn : (e : ℕ) (g : Fed) (u : List ℕ) → i < length p → e ≡ lineEnd p i → AbsorbDone rule f (part p i e) t g u → FeedOn rule f₀ p t₀ g e u
-    feed-turn e g u h q d = record {
-      is =
-          ap (λ (x : FedSum Filling Waiting). absorbSums (machine rule) x (lines (drop e p))) (d .is)
-          ∙ again (fedIn f (numbersIn t)) (part p i e) (lines (drop e p))
-          ∙ ap (absorbSums (machine rule) (fedIn f (numbersIn t))) (sym (rw q (linesAt-cut p i h)))
-          ∙ o .is;
-      rest = d .rest ∙ o .rest;
-    }
-      where
-        again : (x : FedSum Filling Waiting) (l : List ℕ) (ls : List (List ℕ)) → absorbSums (machine rule) (absorbSum (machine rule) x l) ls ≡ absorbSums (machine rule) x (l ∷ ls)
-        again x l ls = unfold absorbSums in refl
+  pub feed-done : (f : Fed) (i : ℕ) (t : List ℕ) → FeedOn rule f₀ p t₀ f i t → length p ≤ i → FeedDone rule f₀ p t₀ f t
+  feed-done f i t o h = record { is = sym (none-left (fedIn f (numbersIn t))) ∙ o .is; rest = o .rest }
+    where
+      none-left : (x : FedSum Filling Waiting) → absorbSums (machine rule) x (lines (drop i p)) ≡ x
+      none-left x = rw (drop-of-length-le p h) (unfold lines absorbSums in refl)
 
-    pub feed-done : length p ≤ i → FeedDone rule f₀ p t₀ f t
-    feed-done h = record { is = sym (none-left (fedIn f (numbersIn t))) ∙ o .is; rest = o .rest }
-      where
-        none-left : (x : FedSum Filling Waiting) → absorbSums (machine rule) x (lines (drop i p)) ≡ x
-        none-left x = rw (drop-of-length-le p h) (unfold lines absorbSums in refl)
+-- a line of a piece
+module _ (rule : Rule) (f : Fed) (p : List ℕ) (i : ℕ) (t : List ℕ) where
+  pub feed-line : (e : ℕ) (g : Fed) (u : List ℕ) → i < length p → e ≡ lineEnd p i → AbsorbDone rule f (part p i e) t g u
+      → absorbSums (machine rule) (fedIn g (numbersIn u)) (lines (drop e p)) ≡ absorbSums (machine rule) (fedIn f (numbersIn t)) (lines (drop i p))
+  feed-line e g u h q d =
+      ap (λ (x : FedSum Filling Waiting). absorbSums (machine rule) x (lines (drop e p))) (d .is)
+      ∙ again (fedIn f (numbersIn t)) (part p i e) (lines (drop e p))
+      ∙ ap (absorbSums (machine rule) (fedIn f (numbersIn t))) (sym (rw q (linesAt-cut p i h)))
+    where
+      again : (x : FedSum Filling Waiting) (l : List ℕ) (ls : List (List ℕ)) → absorbSums (machine rule) (absorbSum (machine rule) x l) ls ≡ absorbSums (machine rule) x (l ∷ ls)
+      again x l ls = unfold absorbSums in refl
 
-    pub feed-fits : (c e : ℕ) (g : Fed) (u : List ℕ) → i < e → e ≤ length p → FitsWithin (c + i) (f .phase) (f .held) → AbsorbDone rule f (part p i e) t g u → FitsWithin (c + e) (g .phase) (g .held)
-    feed-fits c e g u h k fits d =
-        let n : c + i + length (part p i e) ≡ c + e = omega (arith, part-length p i e k) in
-        let r = fits-absorb rule (c + i) (fedIn f (numbersIn t)) (part p i e) (omega (arith, part-length p i e k)) fits in
-        rw (← d .is, n) at r
+  pub feed-fits : (c e : ℕ) (g : Fed) (u : List ℕ) → i < e → e ≤ length p → FitsWithin (c + i) (f .phase) (f .held) → AbsorbDone rule f (part p i e) t g u → FitsWithin (c + e) (g .phase) (g .held)
+  feed-fits c e g u h k fits d =
+      let n : c + i + length (part p i e) ≡ c + e = omega (arith, part-length p i e k) in
+      let r = fits-absorb rule (c + i) (fedIn f (numbersIn t)) (part p i e) (omega (arith, part-length p i e k)) fits in
+      rw (← d .is, n) at r

@@ -12,6 +12,7 @@ pub mod Calls
 pub mod WaitingLaws
 pub mod SmallLaws
 pub mod CodeLaws
+pub mod Passing
 pub mod CallLaws
 pub mod Reached
 pub mod Split

@@ -77,7 +77,7 @@ says-small t s said e = go (blank (unpack t)) (t .starts) e
 -- ---- a line that is judged
 
 module _ (m m′ : ℕ) (h : m ≤ m′) where
-  opened-weak : (d : Opened) → SmallOpened m d → SmallOpened m′ d
+  pub opened-weak : (d : Opened) → SmallOpened m d → SmallOpened m′ d
   opened-weak d s = record {
     at = omega (arith, s .at);
     end = omega (arith, s .end);
@@ -87,7 +87,7 @@ module _ (m m′ : ℕ) (h : m ≤ m′) where
     text-length = omega (arith, s .text-length);
   }
 
-  numbers-weak : (n : Numbers) → SmallNumbers m n → SmallNumbers m′ n
+  pub numbers-weak : (n : Numbers) → SmallNumbers m n → SmallNumbers m′ n
   numbers-weak n s = record { position = omega (arith, s .position); bases = omega (arith, s .bases); width = omega (arith, s .width); some = s .some; apart = s .apart }
 
   so-far-weak : (z z′ : ℕ) → z ≤ z′ → (t : SoFar) → SmallSoFar m z t → SmallSoFar m′ z′ t
@@ -331,7 +331,7 @@ module _ (rule : Rule) where
 
 -- ---- sound states
 
-two : (a b : Bool) → (a && b) ≡ true → (a ≡ true) × (b ≡ true)
+pub two : (a b : Bool) → (a && b) ≡ true → (a ≡ true) × (b ≡ true)
 two true b e = (refl, e)
 two false b e = absurd (true≢false (sym e))
 
@@ -341,7 +341,7 @@ three a b c e = let x = two (a && b) c e in let y = two a b (x .0) in (y .0, y .
 five : (a b c d f : Bool) → ((((a && b) && c) && d) && f) ≡ true → (a ≡ true) × (b ≡ true) × (c ≡ true) × (d ≡ true) × (f ≡ true)
 five a b c d f e = let x = two (((a && b) && c) && d) f e in let y = two ((a && b) && c) d (x .0) in let z = three a b c (y .0) in (z .0, z .1, z .2, y .1, x .1)
 
-six : (a b c d f g : Bool) → (((((a && b) && c) && d) && f) && g) ≡ true → (a ≡ true) × (b ≡ true) × (c ≡ true) × (d ≡ true) × (f ≡ true) × (g ≡ true)
+pub six : (a b c d f g : Bool) → (((((a && b) && c) && d) && f) && g) ≡ true → (a ≡ true) × (b ≡ true) × (c ≡ true) × (d ≡ true) × (f ≡ true) × (g ≡ true)
 six a b c d f g e = let x = two ((((a && b) && c) && d) && f) g e in let y = five a b c d f (x .0) in (y .0, y .1, y .2, y .3, y .4, x .1)
 
 implied : (a b : Bool) → (not a || b) ≡ true → a ≡ true → b ≡ true

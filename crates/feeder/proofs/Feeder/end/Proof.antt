@@ -10,10 +10,10 @@ use Rattle.feeder.proofs.Feeder.end.Statement.{statement}
 use Rattle.feeder.proofs.Feeder.end.Tie as tie
 use Rattle.feeder.proofs.closed.Reads as closed-reads
 use Rattle.feeder.proofs.is_live.Reads as is-live-reads
-use Rattle.feeder.proofs.is_sound.Reads as is-sound-reads
-use Rattle.feeder.proofs.judge.Reads as judge-reads
+use Rattle.feeder.proofs.sound.is_sound.Reads as is-sound-reads
+use Rattle.feeder.proofs.judging.judge.Reads as judge-reads
 use Rattle.feeder.proofs.refused.Reads as refused-reads
-use Rattle.feeder.proofs.settle.Reads as settle-reads
+use Rattle.feeder.proofs.judging.settle.Reads as settle-reads
 use Rattle.feeder.proofs.still_stopped.Reads as still-stopped-reads
 
 is-live-requires : tie.Need-is-live-requires

@@ -7,9 +7,9 @@ use mathlib.Core.Path.{_≡_, refl, ap, sym, _∙_}
 use borrow.Author.Needs.{needs}
 use Rattle.feeder.proofs.Feeder.piece.Statement.{statement}
 use Rattle.feeder.proofs.Feeder.piece.Tie as tie
-use Rattle.feeder.proofs.absorb_lines.Reads as absorb-lines-reads
+use Rattle.feeder.proofs.taking.absorb_lines.Reads as absorb-lines-reads
 use Rattle.feeder.proofs.is_live.Reads as is-live-reads
-use Rattle.feeder.proofs.is_sound.Reads as is-sound-reads
+use Rattle.feeder.proofs.sound.is_sound.Reads as is-sound-reads
 use Rattle.feeder.proofs.kept.Reads as kept-reads
 use Rattle.feeder.proofs.refused.Reads as refused-reads
 use Rattle.feeder.proofs.still_stopped.Reads as still-stopped-reads

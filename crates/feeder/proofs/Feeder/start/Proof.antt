@@ -3,7 +3,7 @@
 use borrow.Author.Needs.{needs}
 use Rattle.feeder.proofs.Feeder.start.Statement.{statement}
 use Rattle.feeder.proofs.Feeder.start.Tie as tie
-use Rattle.feeder.proofs.no_line.Reads as no-line-reads
+use Rattle.feeder.proofs.growing.no_line.Reads as no-line-reads
 
 no-line-requires : tie.Need-no-line-requires
 no-line-requires c κs = search needs
