@@ -24,8 +24,10 @@ mod place;
 mod primer;
 mod progress;
 mod read;
+mod scene;
 mod sheet;
 mod shelf;
+mod trail;
 mod twins;
 mod unusual;
 mod usage;
@@ -38,7 +40,7 @@ use clap::ArgMatches;
 use course::{Drill, Typed};
 use failure::{Failure, Refused};
 use header::Header;
-use input::{How, Input, is_placeless, is_standard};
+use input::{How, Input, Stream, is_placeless, is_standard};
 use json::Object;
 use letters::Odd;
 use mend::Mend;
@@ -55,7 +57,7 @@ use std::os::unix::ffi::OsStrExt;
 use std::path::{Path, PathBuf};
 use std::process::ExitCode;
 use unusual::Unusual;
-use wakeluri::{Edition, Table};
+use wakeluri::{Edition, Refusal, Table};
 use warning::Warning;
 use work::Rule;
 use wrap::Wrapping;
@@ -171,28 +173,71 @@ fn index_of(file: &Path) -> PathBuf {
     name.into()
 }
 
+/// Indexes what arrives, and saves it on the way where a place for it is named. What is there stays where something is refused.
+fn index_arriving(
+    (file, stream): (&Path, &mut Stream),
+    (save, output): (Option<&Output>, &Output),
+    strict: bool,
+    common: Common,
+) -> Result<String, Failure> {
+    let shown = input::shown(file);
+    let rule = if strict { Rule::Strict } else { Rule::Complete };
+    let arrived = match save {
+        None => {
+            arriving::index(&shown, stream, rule, &mut std::io::sink()).map_err(|stopped| stopped.told(&shown, false))
+        }
+        Some(place) => arriving::saved(&shown, stream, rule, place),
+    }?;
+    let outputs = || output.path().map_or(common.outputs, |place| common.outputs.and("the index", place));
+    let rows = arrived.fed.table();
+    let text = rows.write_index().map_err(|refusal| not_written(&shown, refusal))?;
+    if save.is_none() {
+        // by now the name may lead elsewhere
+        stream.apart_from(&outputs(), &shown)?;
+    }
+    output.write(&text)?;
+    let file = save.and_then(Output::path).map_or(shown, input::shown);
+    Ok(indexed(&file, output, &rows, arrived.unusual, common.json))
+}
+
+/// An index that can't be written.
+fn not_written(file: &str, refusal: Refusal) -> Failure {
+    faults::refused(file, None, &refusal.words(), String::new(), refusal)
+}
+
+/// What is said of a file that was indexed; of standard output nothing.
+fn indexed(file: &str, output: &Output, rows: &Table<'_>, unusual: Unusual, json: bool) -> String {
+    let Some(place) = output.path() else { return String::new() };
+    let (records, bases) = (rows.len() as u64, rows.records().map(|record| record.length).sum());
+    let shown = place::quoted(place.as_os_str().as_bytes());
+    if json {
+        let mut object = Object::new();
+        object.text("file", file).text("index", &shown).number("records", records).number("bases", bases);
+        object
+            .number("records_with_blank_lines", unusual.blank_lines)
+            .number("records_without_bases", unusual.no_bases);
+        return object.line();
+    }
+    let records = format!("{}{}", count(records, "record"), unusual.told());
+    format!("{shown}: {records}, {}\n", count(bases, "base"))
+}
+
 /// Indexes standard input as it arrives, and saves it on the way.
-fn index_arriving(words: &ArgMatches, common: Common, saved: &Path, index: Option<&Path>) -> Result<(), Failure> {
-    let place = Output::of(saved)?;
-    let output = Output::of(index.unwrap_or(&index_of(saved)))?;
+fn index_saved(item: &Item, saved: &Path, index: Option<&Path>, strict: bool, common: Common) -> Result<(), Failure> {
+    if !is_standard(&item.file) {
+        return Err(Failure::Usage("--save is for standard input: index - --save FILE".to_string()));
+    }
+    let index = index.map_or_else(|| index_of(saved), Path::to_path_buf);
+    let (place, output) = (Output::of(saved)?, Output::of(&index)?);
     if place.is_standard() || output.is_standard() {
         return Err(Failure::Usage("what is saved with --save, and its index, are files".to_string()));
     }
+    let outputs = common.outputs.and("the saved file", saved).and("the index", &index);
+    let Some(mut stream) = Stream::open(&item.file, &outputs)? else { return Err(Failure::Gone) };
     place.free_for_fasta()?;
     output.free()?;
-    let fed = arriving::saved(&place, rule(words))?;
-    let rows = fed.table();
-    let text = rows.write_index().map_err(|refusal| Failure::Usage(refusal.to_string()))?;
-    output.write(&text)?;
-    let shown = output.path().map(|place| place::quoted(place.as_os_str().as_bytes())).unwrap_or_default();
-    let (records, bases) = (rows.len() as u64, rows.records().map(|record| record.length).sum());
-    if common.json {
-        let mut object = Object::new();
-        let saved = place::quoted(saved.as_os_str().as_bytes());
-        object.text("file", &saved).text("index", &shown).number("records", records).number("bases", bases);
-        return report(object.line().as_bytes());
-    }
-    report(format!("{shown}: {}, {}\n", count(records, "record"), count(bases, "base")).as_bytes())
+    let told = index_arriving((&item.file, &mut stream), (Some(&place), &output), strict, common)?;
+    report(told.as_bytes())
 }
 
 fn index(words: &ArgMatches, common: Common) -> Result<(), Failure> {
@@ -215,10 +260,7 @@ fn index(words: &ArgMatches, common: Common) -> Result<(), Failure> {
         return Err(Failure::Usage("two indexes are named, and one is needed".to_string()));
     }
     if let Some(saved) = path(words, "save") {
-        if !is_standard(&item.file) {
-            return Err(Failure::Usage("--save is for standard input: index - --save FILE".to_string()));
-        }
-        return index_arriving(words, common, saved, path(words, "output").or(named.as_deref()));
+        return index_saved(&item, saved, path(words, "output").or(named), strict, common);
     }
     let output = match path(words, "output").or(named) {
         Some(output) => Output::of(output)?,
@@ -236,42 +278,22 @@ fn index_one(file: &Path, output: &Output, strict: bool, common: Common) -> Resu
         ));
     }
     let outputs = || output.path().map_or(common.outputs, |place| common.outputs.and("the index", place));
+    if let Some(mut stream) = Stream::open(file, &outputs())? {
+        output.free()?;
+        return index_arriving((file, &mut stream), (None, output), strict, common);
+    }
     let fasta = Input::open(file, common.how, common.json, &outputs())?;
     output.free()?;
     let rows = work::index(&fasta, if strict { Rule::Strict } else { Rule::Complete })?;
-    let text = rows.write_index().map_err(|refusal| {
-        let words = format!("{}: {}", fasta.shown, refusal.words());
-        Failure::Refused(Box::new(Refused {
-            words,
-            shown: String::new(),
-            next: String::new(),
-            refusal,
-            file: fasta.shown.clone(),
-            place: None,
-            region: None,
-            sheet: None,
-        }))
-    })?;
+    let text = rows.write_index().map_err(|refusal| not_written(&fasta.shown, refusal))?;
     Odd::of_file(fasta.bytes()).tell(&fasta, strict)?;
-    twins::warn(&fasta, &rows);
+    twins::warn(&fasta.shown, &rows);
     let unusual = Unusual::of(fasta.bytes(), &rows);
     fasta.unchanged()?;
     // by now the name may lead elsewhere
     fasta.apart_from(&outputs())?;
     output.write(&text)?;
-    let Some(place) = output.path() else { return Ok(String::new()) };
-    let (records, bases) = (rows.len() as u64, rows.records().map(|record| record.length).sum());
-    let shown = place::quoted(place.as_os_str().as_bytes());
-    if common.json {
-        let mut object = Object::new();
-        object.text("file", &fasta.shown).text("index", &shown).number("records", records).number("bases", bases);
-        object
-            .number("records_with_blank_lines", unusual.blank_lines)
-            .number("records_without_bases", unusual.no_bases);
-        return Ok(object.line());
-    }
-    let records = format!("{}{}", count(records, "record"), unusual.told());
-    Ok(format!("{shown}: {records}, {}\n", count(bases, "base")))
+    Ok(indexed(&fasta.shown, output, &rows, unusual, common.json))
 }
 
 fn list(words: &ArgMatches, common: Common) -> Result<(), Failure> {
@@ -361,7 +383,7 @@ fn check_one(file: &Path, index: Option<&Path>, strict: bool, common: Common) ->
     Odd::of_file(fasta.bytes()).tell(&fasta, strict)?;
     fasta.unchanged()?;
     let rows = work::read_index(&fasta, &index)?;
-    twins::warn(&fasta, &rows);
+    twins::warn(&fasta.shown, &rows);
     let (records, bases) = (rows.len() as u64, rows.records().map(|record| record.length).sum());
     if common.json {
         let mut object = Object::new();

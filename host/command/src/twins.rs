@@ -1,6 +1,5 @@
 //! Records of one name, in a file that is indexed or checked: a look-up finds the first, and nobody may know of the others.
 
-use crate::input::Input;
 use crate::place::{commas, count, short};
 use crate::warning::Warning;
 use wakeluri::Table;
@@ -9,9 +8,8 @@ use wakeluri::Table;
 const TOLD: usize = 10;
 
 /// Says which names several records have.
-pub fn warn(fasta: &Input, rows: &Table<'_>) {
+pub fn warn(file: &str, rows: &Table<'_>) {
     let twins = of(rows);
-    let file = &fasta.shown;
     for (first, second, name) in twins.iter().take(TOLD) {
         let (first, second, name) = (commas(*first as u64 + 1), commas(*second as u64 + 1), short(name));
         let words =
