@@ -1,9 +1,10 @@
 //! What is wrong with a FASTQ file, in words, with its line and byte. The proved code has refused by then.
 
 use crate::failure::Failure;
-use crate::faults::{name_of, refused, refused_definition, uneven};
+use crate::faults::{name_of, refused, refused_definition};
 use crate::input::Input;
 use crate::place::{self, Line, commas, count};
+use crate::scene::uneven;
 use wakeluri::{Refusal, Table};
 
 /// The lines of a record, as far as they are there.
@@ -77,9 +78,9 @@ pub fn refused_record(file: &[u8], rows: &Table<'_>) -> Option<Lines> {
 pub fn not_indexed(fastq: &Input, rows: &Table<'_>, refusal: Refusal) -> Failure {
     let file = fastq.bytes();
     let Some(lines) = refused_record(file, rows) else {
-        return refused(fastq, None, &refusal.words(), String::new(), refusal);
+        return refused(&fastq.shown, None, &refusal.words(), String::new(), refusal);
     };
-    let name = name_of(file, lines.definition);
+    let name = name_of(place::text(file, lines.definition));
     let (found, expected) = (refusal.first, refusal.second);
     let (at, what, next) = match refusal.number {
         2..=4 => return refused_definition(fastq, lines.definition, refusal.first, refusal),
@@ -116,7 +117,7 @@ pub fn not_indexed(fastq: &Input, rows: &Table<'_>, refusal: Refusal) -> Failure
         },
         _ => (lines.definition, refusal.words(), ""),
     };
-    refused(fastq, Some(at), &what, next.to_string(), refusal)
+    refused(&fastq.shown, Some(at), &what, next.to_string(), refusal)
 }
 
 #[cfg(test)]

@@ -12,8 +12,8 @@ use crate::place::quoted;
 use crate::progress::Progress;
 use memmap2::Mmap;
 use std::borrow::Cow;
-use std::fs::{File, Metadata};
-use std::io::{self, ErrorKind, Read};
+use std::fs::{self, File, Metadata};
+use std::io::{self, BufRead, BufReader, ErrorKind, Read, StdinLock};
 use std::ops::Range;
 use std::os::fd::AsFd;
 use std::os::unix::ffi::OsStrExt;
@@ -103,6 +103,70 @@ fn changed(file: &str) -> Failure {
     }
 }
 
+fn not_opened(shown: &str, error: &io::Error) -> Failure {
+    let (what, next) = match error.kind() {
+        ErrorKind::NotFound => ("there is no such file", "look at the spelling, and at the folder you are in"),
+        ErrorKind::PermissionDenied => ("you may not read it", "ask who owns it, or `chmod u+r` it"),
+        _ => return Failure::system("it can't be opened", shown, error, ""),
+    };
+    Failure::InputOutput { words: format!("{shown}: {what}"), next: next.to_string() }
+}
+
+/// What arrives and can be read once: standard input, or a pipe that has a name.
+#[derive(Debug)]
+pub enum Stream {
+    /// Standard input.
+    Standard(StdinLock<'static>),
+    /// A pipe, a socket or a terminal.
+    Named(BufReader<File>),
+}
+
+impl Stream {
+    /// Opens what a path stands for, if it arrives and is none of the outputs; nothing of a file that is there as a whole.
+    pub fn open(path: &Path, outputs: &Outputs<'_>) -> Result<Option<Self>, Failure> {
+        let shown = shown(path);
+        let stream = if is_standard(path) {
+            Self::Standard(io::stdin().lock())
+        } else {
+            let kind = fs::metadata(path).map(|meta| meta.file_type());
+            if !kind.is_ok_and(|kind| kind.is_fifo() || kind.is_char_device() || kind.is_socket()) {
+                return Ok(None);
+            }
+            Self::Named(BufReader::new(File::open(path).map_err(|error| not_opened(&shown, &error))?))
+        };
+        stream.apart_from(outputs, &shown)?;
+        Ok(Some(stream))
+    }
+
+    /// Whether it is FASTQ, as it was said, or by its first byte, which is waited for and stays.
+    pub fn is_fastq(&mut self) -> bool {
+        let first = match self {
+            Self::Standard(input) => input.fill_buf(),
+            Self::Named(file) => file.fill_buf(),
+        };
+        // what can't be read is told when it is read
+        fastq::is_said() || first.is_ok_and(|bytes| bytes.first() == Some(&b'@'))
+    }
+
+    /// Fails if it is one of some outputs by now.
+    pub fn apart_from(&self, outputs: &Outputs<'_>, shown: &str) -> Result<(), Failure> {
+        let now = match self {
+            Self::Standard(input) => opened(input.as_fd()),
+            Self::Named(file) => file.get_ref().metadata(),
+        };
+        now.map_or(Ok(()), |now| outputs.apart_from(&now, shown))
+    }
+}
+
+impl Read for Stream {
+    fn read(&mut self, room: &mut [u8]) -> io::Result<usize> {
+        match self {
+            Self::Standard(input) => input.read(room),
+            Self::Named(file) => file.read(room),
+        }
+    }
+}
+
 impl Input {
     /// Opens a file, or standard input for `-`, if it is none of the outputs.
     pub fn open(path: &Path, how: How, json: bool, outputs: &Outputs<'_>) -> Result<Self, Failure> {
@@ -114,14 +178,7 @@ impl Input {
             let bytes = read_plainly(&mut io::stdin().lock(), &shown, 0)?;
             return Ok(Self { shown, standard: true, bytes: Bytes::Held(bytes), opened: None });
         }
-        let failed = |error: io::Error| {
-            let (what, next) = match error.kind() {
-                ErrorKind::NotFound => ("there is no such file", "look at the spelling, and at the folder you are in"),
-                ErrorKind::PermissionDenied => ("you may not read it", "ask who owns it, or `chmod u+r` it"),
-                _ => return Failure::system("it can't be opened", &shown, &error, ""),
-            };
-            Failure::InputOutput { words: format!("{shown}: {what}"), next: next.to_string() }
-        };
+        let failed = |error: io::Error| not_opened(&shown, &error);
         let mut file = File::open(path).map_err(failed)?;
         let meta = file.metadata().map_err(failed)?;
         if meta.is_dir() {
@@ -147,6 +204,19 @@ impl Input {
         let input = Self { shown, standard: false, bytes: Bytes::Held(bytes), opened };
         input.unchanged()?;
         Ok(input)
+    }
+
+    /// All that arrives.
+    pub fn arrived(path: &Path, stream: &mut Stream) -> Result<Self, Failure> {
+        let shown = shown(path);
+        let bytes = read_plainly(stream, &shown, 0)?;
+        Ok(Self { shown, standard: is_standard(path), bytes: Bytes::Held(bytes), opened: None })
+    }
+
+    /// Some bytes under a name.
+    #[cfg(test)]
+    pub fn held(shown: &str, bytes: Vec<u8>) -> Self {
+        Self { shown: shown.to_string(), standard: false, bytes: Bytes::Held(bytes), opened: None }
     }
 
     /// The bytes.

@@ -55,35 +55,78 @@ pub struct Odd {
     first: Option<usize>,
 }
 
-impl Odd {
-    /// Those of a whole file.
-    pub fn of_file(file: &[u8]) -> Self {
+/// Those of a file that comes in pieces.
+#[derive(Clone, Copy, Debug)]
+pub struct Odds {
+    /// What was found so far.
+    pub found: Odd,
+    /// How many bytes have come.
+    total: usize,
+    /// The line on its way is a definition line.
+    in_definition: bool,
+    /// The last byte that has come.
+    last: u8,
+}
+
+impl Odds {
+    /// The start of a file: the first line is a definition line, whatever it holds.
+    pub fn new() -> Self {
+        Self { found: Odd::default(), total: 0, in_definition: true, last: 0 }
+    }
+
+    /// The next bytes of the file.
+    pub fn go_on(&mut self, piece: &[u8]) {
+        let (Some(next), Some(last)) = (piece.first(), piece.last()) else { return };
         // the ends of lines are looked at one by one only where CR stands among them
         let mut table = *odd();
         table[usize::from(b'\n')] = 0;
         let is_odd = |byte: u8| table[usize::from(byte)] == 1;
-        let mut found = Self::default();
-        // the first line is a definition line, whatever it holds
-        let mut at = line_end(file, 0);
-        while at < file.len() {
-            if file.get(at..).and_then(<[u8]>::first_chunk).is_some_and(is_plain) {
+        // whether a CR is the end of a line, the byte behind it says
+        if self.last == b'\r' && !self.in_definition && *next != b'\n' {
+            self.found.add(self.total - 1);
+        }
+        let mut at = if self.in_definition { self.behind_definition(piece, 0) } else { 0 };
+        while at < piece.len() {
+            if piece.get(at..).and_then(<[u8]>::first_chunk).is_some_and(is_plain) {
                 at += CHUNK;
                 continue;
             }
-            let end = file.len().min(at + CHUNK);
-            while let Some(byte) = file.get(at).filter(|_| at < end) {
+            let end = piece.len().min(at + CHUNK);
+            while let Some(byte) = piece.get(at).filter(|_| at < end) {
+                let before = || at.checked_sub(1).map_or(self.last, |before| piece[before]);
                 match byte {
                     byte if !is_odd(*byte) => at += 1,
-                    b'>' if file.get(at - 1) == Some(&b'\n') => at = line_end(file, at),
-                    b'\r' if matches!(file.get(at + 1), None | Some(b'\n')) => at += 1,
+                    b'>' if before() == b'\n' => at = self.behind_definition(piece, at),
+                    b'\r' if matches!(piece.get(at + 1), None | Some(b'\n')) => at += 1,
                     _ => {
-                        found.add(at);
+                        self.found.add(self.total + at);
                         at += 1;
                     }
                 }
             }
         }
-        found
+        (self.total, self.last) = (self.total + piece.len(), *last);
+    }
+
+    /// Where the piece goes on behind a definition line, which has its end here or in a later piece.
+    fn behind_definition(&mut self, piece: &[u8], at: usize) -> usize {
+        let end = line_end(piece, at);
+        self.in_definition = piece.get(end - 1) != Some(&b'\n');
+        end
+    }
+}
+
+impl Odd {
+    /// Those of a whole file.
+    pub fn of_file(file: &[u8]) -> Self {
+        let mut odds = Odds::new();
+        odds.go_on(file);
+        odds.found
+    }
+
+    /// Where the first lies.
+    pub fn first(self) -> Option<usize> {
+        self.first
     }
 
     /// Those among the bases of a FASTQ file, by its records, of which each tells position, length, line bases and line width.
@@ -128,28 +171,42 @@ impl Odd {
         }
     }
 
-    /// Says it, or with `--strict` fails.
+    /// Says it of a file that is at hand, or with `--strict` fails.
     pub fn tell(self, fasta: &Input, strict: bool) -> Result<(), Failure> {
         let Some(at) = self.first else { return Ok(()) };
         let file = fasta.bytes();
-        let line = place::line_number(file, at);
         let before = file.get(..at).unwrap_or_default().iter().rev().take_while(|byte| **byte != b'\n').count();
-        let (place, byte) = ((line, before as u64 + 1), file.get(at).copied().unwrap_or_default());
+        let (line, byte) = (place::line_number(file, at), file.get(at).copied().unwrap_or_default());
+        self.tell_of(&fasta.shown, First { line, column: before as u64 + 1, byte }, strict)
+    }
+
+    /// Says it of a file and the first such byte of it, or with `--strict` fails.
+    pub fn tell_of(self, file: &str, First { line, column, byte }: First, strict: bool) -> Result<(), Failure> {
         let all = if self.bytes > 1 { format!("; there are {} such bytes", commas(self.bytes)) } else { String::new() };
         let words = format!(
-            "{}, line {}, column {}: '{}' stands among the bases, and is no letter of one{all}",
-            fasta.shown,
+            "{file}, line {}, column {}: '{}' stands among the bases, and is no letter of one{all}",
             commas(line),
-            commas(place.1),
+            commas(column),
             byte.escape_ascii()
         );
-        let next = "each counts as a base: take out what is none".to_string();
+        let (next, place) = ("each counts as a base: take out what is none".to_string(), (line, column));
         if strict {
-            return Err(Failure::NotLetters(Box::new(NotLetters { words, next, file: fasta.shown.clone(), place })));
+            return Err(Failure::NotLetters(Box::new(NotLetters { words, next, file: file.to_string(), place })));
         }
-        Warning { next, place: Some(place), ..Warning::new(&fasta.shown, words) }.say();
+        Warning { next, place: Some(place), ..Warning::new(file, words) }.say();
         Ok(())
     }
+}
+
+/// The first byte that is no letter: its line and its place in it, both counted from 1.
+#[derive(Clone, Copy, Debug, Eq, PartialEq)]
+pub struct First {
+    /// The line.
+    pub line: u64,
+    /// The place in it.
+    pub column: u64,
+    /// The byte.
+    pub byte: u8,
 }
 
 /// Complements as RNA has them: what comes of A is U. Nothing else becomes T, so each T is such a one.
@@ -208,6 +265,9 @@ mod tests {
             let file: Vec<u8> =
                 b">s\n".iter().copied().chain((0..below(300)).map(|_| letters[below(letters.len())])).collect();
             assert_eq!(Odd::of_file(&file), by_lines(&file), "{}", file.escape_ascii());
+            let (mut odds, piece) = (Odds::new(), below(90) + 1);
+            file.chunks(piece).for_each(|piece| odds.go_on(piece));
+            assert_eq!(odds.found, by_lines(&file), "{} in pieces of {piece}", file.escape_ascii());
         }
         assert_eq!(Odd::of_file(b""), Odd::default());
         let reads = b"@s x\nAC.T\r\nA T\r\n+ 1\r\n....\r\n...\r\n@t\nNNNN\n+\n1234\n@u\nA1\n+\n!!\n";

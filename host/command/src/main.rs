@@ -28,8 +28,10 @@ mod primer;
 mod progress;
 mod qualities;
 mod read;
+mod scene;
 mod sheet;
 mod shelf;
+mod trail;
 mod twins;
 mod unusual;
 mod usage;
@@ -42,7 +44,7 @@ use clap::ArgMatches;
 use course::{Drill, Typed};
 use failure::{Failure, Refused};
 use header::Header;
-use input::{How, Input, is_placeless, is_standard};
+use input::{How, Input, Stream, is_placeless, is_standard};
 use json::Object;
 use letters::Odd;
 use mend::Mend;
@@ -179,28 +181,80 @@ fn index_of(file: &Path) -> PathBuf {
     name.into()
 }
 
+/// Indexes what arrives, and saves it on the way where a place for it is named. What is there stays where something is refused.
+fn index_arriving(
+    (file, stream): (&Path, &mut Stream),
+    (save, output): (Option<&Output>, &Output),
+    strict: bool,
+    common: Common,
+) -> Result<String, Failure> {
+    let shown = input::shown(file);
+    let rule = if strict { Rule::Strict } else { Rule::Complete };
+    let arrived = match save {
+        None => {
+            arriving::index(&shown, stream, rule, &mut std::io::sink()).map_err(|stopped| stopped.told(&shown, false))
+        }
+        Some(place) => arriving::saved(&shown, stream, rule, place),
+    }?;
+    let outputs = || output.path().map_or(common.outputs, |place| common.outputs.and("the index", place));
+    let rows = arrived.fed.table();
+    let text = rows.write_index().map_err(|refusal| not_written(&shown, refusal))?;
+    if save.is_none() {
+        // by now the name may lead elsewhere
+        stream.apart_from(&outputs(), &shown)?;
+    }
+    output.write(&text)?;
+    let file = save.and_then(Output::path).map_or(shown, input::shown);
+    let (records, bases) = (rows.len() as u64, rows.records().map(|record| record.length).sum());
+    let made = Made { text: vec![text], records, bases, unusual: Some(arrived.unusual) };
+    Ok(indexed(&file, output, &made, common.json))
+}
+
+/// An index that can't be written.
+fn not_written(file: &str, refusal: Refusal) -> Failure {
+    faults::refused(file, None, &refusal.words(), String::new(), refusal)
+}
+
+/// What is said of a file that was indexed; of standard output nothing.
+fn indexed(file: &str, output: &Output, made: &Made, json: bool) -> String {
+    let Some(place) = output.path() else { return String::new() };
+    let shown = place::quoted(place.as_os_str().as_bytes());
+    let Made { records, bases, unusual, .. } = made;
+    if json {
+        let mut object = Object::new();
+        object.text("file", file).text("index", &shown).number("records", *records).number("bases", *bases);
+        match unusual {
+            None => object.text("format", "fastq"),
+            Some(unusual) => object
+                .number("records_with_blank_lines", unusual.blank_lines)
+                .number("records_without_bases", unusual.no_bases),
+        };
+        return object.line();
+    }
+    let told = unusual.map(Unusual::told).unwrap_or_default();
+    format!("{shown}: {}{told}, {}\n", count(*records, "record"), count(*bases, "base"))
+}
+
 /// Indexes standard input as it arrives, and saves it on the way.
-fn index_arriving(words: &ArgMatches, common: Common, saved: &Path, index: Option<&Path>) -> Result<(), Failure> {
-    let place = Output::of(saved)?;
-    let output = Output::of(index.unwrap_or(&index_of(saved)))?;
+fn index_saved(item: &Item, saved: &Path, index: Option<&Path>, strict: bool, common: Common) -> Result<(), Failure> {
+    if !is_standard(&item.file) {
+        return Err(Failure::Usage("--save is for standard input: index - --save FILE".to_string()));
+    }
+    let index = index.map_or_else(|| index_of(saved), Path::to_path_buf);
+    let (place, output) = (Output::of(saved)?, Output::of(&index)?);
     if place.is_standard() || output.is_standard() {
         return Err(Failure::Usage("what is saved with --save, and its index, are files".to_string()));
     }
+    let outputs = common.outputs.and("the saved file", saved).and("the index", &index);
+    let Some(mut stream) = Stream::open(&item.file, &outputs)? else { return Err(Failure::Gone) };
+    if stream.is_fastq() {
+        let what = "--save indexes FASTA alone as it arrives: save FASTQ first, and then index the file";
+        return Err(Failure::Usage(what.to_string()));
+    }
     place.free_for_fasta()?;
     output.free()?;
-    let fed = arriving::saved(&place, rule(words))?;
-    let rows = fed.table();
-    let text = rows.write_index().map_err(|refusal| Failure::Usage(refusal.to_string()))?;
-    output.write(&text)?;
-    let shown = output.path().map(|place| place::quoted(place.as_os_str().as_bytes())).unwrap_or_default();
-    let (records, bases) = (rows.len() as u64, rows.records().map(|record| record.length).sum());
-    if common.json {
-        let mut object = Object::new();
-        let saved = place::quoted(saved.as_os_str().as_bytes());
-        object.text("file", &saved).text("index", &shown).number("records", records).number("bases", bases);
-        return report(object.line().as_bytes());
-    }
-    report(format!("{shown}: {}, {}\n", count(records, "record"), count(bases, "base")).as_bytes())
+    let told = index_arriving((&item.file, &mut stream), (Some(&place), &output), strict, common)?;
+    report(told.as_bytes())
 }
 
 fn index(words: &ArgMatches, common: Common) -> Result<(), Failure> {
@@ -223,14 +277,7 @@ fn index(words: &ArgMatches, common: Common) -> Result<(), Failure> {
         return Err(Failure::Usage("two indexes are named, and one is needed".to_string()));
     }
     if let Some(saved) = path(words, "save") {
-        if !is_standard(&item.file) {
-            return Err(Failure::Usage("--save is for standard input: index - --save FILE".to_string()));
-        }
-        if fastq::is_said() {
-            let what = "--save indexes FASTA alone as it arrives: save FASTQ first, and then index the file";
-            return Err(Failure::Usage(what.to_string()));
-        }
-        return index_arriving(words, common, saved, path(words, "output").or(named.as_deref()));
+        return index_saved(&item, saved, path(words, "output").or(named), strict, common);
     }
     let output = match path(words, "output").or(named) {
         Some(output) => Output::of(output)?,
@@ -248,29 +295,27 @@ fn index_one(file: &Path, output: &Output, strict: bool, common: Common) -> Resu
         ));
     }
     let outputs = || output.path().map_or(common.outputs, |place| common.outputs.and("the index", place));
+    if let Some(mut stream) = Stream::open(file, &outputs())? {
+        output.free()?;
+        // FASTQ has no feeder
+        if stream.is_fastq() {
+            return index_held(&Input::arrived(file, &mut stream)?, output, strict, common);
+        }
+        return index_arriving((file, &mut stream), (None, output), strict, common);
+    }
     let fasta = Input::open(file, common.how, common.json, &outputs())?;
     output.free()?;
-    let made = if fasta.is_fastq() { of_fastq(&fasta, strict)? } else { of_fasta(&fasta, strict)? };
+    index_held(&fasta, output, strict, common)
+}
+
+/// Indexes a file that is at hand as a whole.
+fn index_held(fasta: &Input, output: &Output, strict: bool, common: Common) -> Result<String, Failure> {
+    let made = if fasta.is_fastq() { of_fastq(fasta, strict)? } else { of_fasta(fasta, strict)? };
     fasta.unchanged()?;
     // by now the name may lead elsewhere
-    fasta.apart_from(&outputs())?;
+    fasta.apart_from(&output.path().map_or(common.outputs, |place| common.outputs.and("the index", place)))?;
     output.write_parts(&made.text)?;
-    let Some(place) = output.path() else { return Ok(String::new()) };
-    let shown = place::quoted(place.as_os_str().as_bytes());
-    let Made { records, bases, unusual, .. } = made;
-    if common.json {
-        let mut object = Object::new();
-        object.text("file", &fasta.shown).text("index", &shown).number("records", records).number("bases", bases);
-        match unusual {
-            None => object.text("format", "fastq"),
-            Some(unusual) => object
-                .number("records_with_blank_lines", unusual.blank_lines)
-                .number("records_without_bases", unusual.no_bases),
-        };
-        return Ok(object.line());
-    }
-    let records = format!("{}{}", count(records, "record"), unusual.unwrap_or_default().told());
-    Ok(format!("{shown}: {records}, {}\n", count(bases, "base")))
+    Ok(indexed(&fasta.shown, output, &made, common.json))
 }
 
 /// An index that was made, in parts, and what is told of it; of FASTQ nothing is unusual.
@@ -284,9 +329,9 @@ struct Made {
 /// The index of a FASTA file.
 fn of_fasta(fasta: &Input, strict: bool) -> Result<Made, Failure> {
     let rows = work::index(fasta, if strict { Rule::Strict } else { Rule::Complete })?;
-    let text = rows.write_index().map_err(|refusal| not_written(fasta, refusal))?;
+    let text = rows.write_index().map_err(|refusal| not_written(&fasta.shown, refusal))?;
     Odd::of_file(fasta.bytes()).tell(fasta, strict)?;
-    twins::warn(fasta, &twins::of(|| rows.records().map(|record| record.name)));
+    twins::warn(&fasta.shown, &twins::of(|| rows.records().map(|record| record.name)));
     let unusual = Some(Unusual::of(fasta.bytes(), &rows));
     let bases = rows.records().map(|record| record.length).sum();
     Ok(Made { text: vec![text], records: rows.len() as u64, bases, unusual })
@@ -304,7 +349,7 @@ fn of_fastq(fastq: &Input, strict: bool) -> Result<Made, Failure> {
         let told = scope.spawn(|| Told::of(fastq, &rows));
         (index_text::written(rows.len(), &write), told.join())
     });
-    let text = text.map_err(|refusal| not_written(fastq, refusal))?;
+    let text = text.map_err(|refusal| not_written(&fastq.shown, refusal))?;
     told.unwrap_or_else(|_| Told::of(fastq, &rows)).say(fastq, strict)?;
     let bases = rows.records().map(|record| record.length).sum();
     Ok(Made { text, records: rows.len() as u64, bases, unusual: None })
@@ -326,24 +371,9 @@ impl<'f> Told<'f> {
 
     fn say(self, fastq: &Input, strict: bool) -> Result<(), Failure> {
         self.odd.tell(fastq, strict)?;
-        twins::warn(fastq, &self.twins);
+        twins::warn(&fastq.shown, &self.twins);
         Ok(())
     }
-}
-
-/// A row of which no line can be written.
-fn not_written(fasta: &Input, refusal: Refusal) -> Failure {
-    let words = format!("{}: {}", fasta.shown, refusal.words());
-    Failure::Refused(Box::new(Refused {
-        words,
-        shown: String::new(),
-        next: String::new(),
-        refusal,
-        file: fasta.shown.clone(),
-        place: None,
-        region: None,
-        sheet: None,
-    }))
 }
 
 /// Fails for a FASTQ file, where a command takes FASTA alone.
@@ -442,7 +472,7 @@ fn check_one(file: &Path, index: Option<&Path>, strict: bool, common: Common) ->
         Told::of(&fasta, &work::read_reads(&fasta, &index)?).say(&fasta, strict)?;
     } else {
         Odd::of_file(fasta.bytes()).tell(&fasta, strict)?;
-        twins::warn(&fasta, &twins::of(|| rows.records().map(|record| record.name)));
+        twins::warn(&fasta.shown, &twins::of(|| rows.records().map(|record| record.name)));
     }
     fasta.unchanged()?;
     let (records, bases) = (rows.len() as u64, rows.records().map(|record| record.length).sum());

@@ -5,7 +5,7 @@ use crate::failure::Failure;
 use crate::place::quoted;
 use std::ffi::CString;
 use std::fs::{self, File, OpenOptions};
-use std::io::{self, Read, Write};
+use std::io::{self, Read, Seek, Write};
 use std::os::fd::{AsRawFd, FromRawFd, RawFd};
 use std::os::unix::ffi::OsStrExt;
 use std::os::unix::fs::{FileTypeExt, MetadataExt, OpenOptionsExt, chown};
@@ -325,13 +325,13 @@ fn as_the_old(new: &Path, old: &fs::Metadata) {
 /// So many names are tried for a file beside its place.
 const NAMES: u32 = 100;
 
-/// Writes all of a file to a name beside its place that nobody uses, and tells it. What has such a name, whosever it is, stays.
-fn write_beside(place: &Path, fill: Fill<'_>) -> io::Result<PathBuf> {
+/// Does something with names beside a place, one after the other, up to one that nobody uses. What has such a name, whosever it is, stays.
+fn beside<T>(place: &Path, mut take: impl FnMut(&Path) -> io::Result<T>) -> io::Result<(PathBuf, T)> {
     let mut taken = io::Error::from(io::ErrorKind::AlreadyExists);
     for number in 0..NAMES {
         let beside = place.with_file_name(format!("wakeluri-{}-{number}.new", std::process::id()));
-        match write_whole(&beside, fill) {
-            Ok(()) => return Ok(beside),
+        match take(&beside) {
+            Ok(done) => return Ok((beside, done)),
             Err(error) if error.kind() == io::ErrorKind::AlreadyExists => taken = error,
             Err(error) => return Err(error),
         }
@@ -339,20 +339,30 @@ fn write_beside(place: &Path, fill: Fill<'_>) -> io::Result<PathBuf> {
     Err(taken)
 }
 
-/// Writes all of a file to a new name. Where the system can do it the file has no name until it is whole, so that a stop in the middle
-/// leaves nothing behind.
-fn write_whole(path: &Path, fill: Fill<'_>) -> io::Result<()> {
-    if let Ok(mut file) = OpenOptions::new().write(true).custom_flags(libc::O_TMPFILE).open(folder(path)) {
-        put(&mut file, fill)?;
-        if named(&file, path) {
-            return Ok(());
+/// Writes all of a file to a name beside its place that nobody uses, and tells it. Where the system can do it the file has no name until it is
+/// whole, so that a stop in the middle leaves nothing behind. What fills the file is asked once: it may read what arrives.
+fn write_beside(place: &Path, fill: Fill<'_>) -> io::Result<PathBuf> {
+    let nameless = OpenOptions::new().read(true).write(true).custom_flags(libc::O_TMPFILE).open(folder(place));
+    let Ok(mut nameless) = nameless else { return write_named(place, fill) };
+    put(&mut nameless, fill)?;
+    match beside(place, |path| named(&nameless, path)) {
+        Ok((path, ())) => Ok(path),
+        Err(error) if error.kind() == io::ErrorKind::AlreadyExists => Err(error),
+        // it can't be named, so it is copied
+        Err(_) => {
+            nameless.rewind()?;
+            write_named(place, &mut |to| io::copy(&mut nameless, to).map(drop))
         }
     }
-    let mut file = OpenOptions::new().write(true).create_new(true).open(path)?;
-    let written = put(&mut file, fill);
-    written.inspect_err(|_| {
-        let _ = fs::remove_file(path);
-    })
+}
+
+/// The same of a file that has its name from the start.
+fn write_named(place: &Path, fill: Fill<'_>) -> io::Result<PathBuf> {
+    let (path, mut file) = beside(place, |path| OpenOptions::new().write(true).create_new(true).open(path))?;
+    put(&mut file, fill).inspect_err(|_| {
+        let _ = fs::remove_file(&path);
+    })?;
+    Ok(path)
 }
 
 /// Writes all of a file, to the disk.
@@ -364,11 +374,11 @@ fn put(file: &mut File, fill: Fill<'_>) -> io::Result<()> {
 }
 
 /// Gives a name to a file that has none, if that can be done.
-fn named(file: &File, path: &Path) -> bool {
-    let from = CString::new(format!("/proc/self/fd/{}", file.as_raw_fd()));
-    let (Ok(from), Ok(to)) = (from, CString::new(path.as_os_str().as_bytes())) else { return false };
+fn named(file: &File, path: &Path) -> io::Result<()> {
+    let from = CString::new(format!("/proc/self/fd/{}", file.as_raw_fd()))?;
+    let to = CString::new(path.as_os_str().as_bytes())?;
     // SAFETY: both are texts that end in a zero byte and live until the call is over.
     let linked =
         unsafe { libc::linkat(libc::AT_FDCWD, from.as_ptr(), libc::AT_FDCWD, to.as_ptr(), libc::AT_SYMLINK_FOLLOW) };
-    linked == 0
+    if linked == 0 { Ok(()) } else { Err(io::Error::last_os_error()) }
 }

@@ -75,13 +75,6 @@ pub fn refused_definition(file: &[u8], rows: &Table<'_>) -> Option<Line> {
     lines(file, start, line_number(file, start)).next()
 }
 
-/// The first line of a record whose bases or width are not those of its first line.
-pub fn uneven(file: &[u8], definition: Line) -> Option<Line> {
-    let mut lines = sequence(file, definition);
-    let first = lines.next()?;
-    lines.find(|line| (line.bases, line.width) != (first.bases, first.width))
-}
-
 /// The line and the offset of a base of a record, counted from 1.
 pub fn base(file: &[u8], definition: Line, base: u64) -> Option<(Line, usize)> {
     let mut left = usize::try_from(base).ok()?.checked_sub(1)?;
@@ -94,20 +87,22 @@ pub fn base(file: &[u8], definition: Line, base: u64) -> Option<(Line, usize)> {
     None
 }
 
-/// What a message shows of a line: all bases of a short one, of a long one those about a byte of it.
-pub fn about(file: &[u8], line: Line, byte: usize) -> String {
+/// What a message shows of a line, by its bytes: all bases of a short one, of a long one those about a byte of it. Nothing where only the front
+/// of a long line is at hand, and they are not there.
+pub fn about(text: &[u8], line: Line, byte: usize) -> Option<String> {
     const SHOWN: usize = 60;
-    let from = if line.bases <= SHOWN { 0 } else { (byte - line.start).saturating_sub(SHOWN / 2) };
+    let from = if line.bases <= SHOWN { 0 } else { byte.saturating_sub(line.start).saturating_sub(SHOWN / 2) };
     let to = line.bases.min(from + SHOWN);
-    let part = text(file, line).get(from..to).unwrap_or_default();
+    let part = text.get(from..to)?;
     let dots = |left: bool| if left { ".." } else { "" };
-    format!("{}{}{}", dots(from > 0), quoted(part), dots(to < line.bases))
+    Some(format!("{}{}{}", dots(from > 0), quoted(part), dots(to < line.bases)))
 }
 
-/// A line of a file, and below it a caret under a byte of it; what does not fit on a screen of so many columns is left out.
-pub fn pointed(file: &[u8], line: Line, byte: usize, columns: usize) -> String {
-    let text = text(file, line).trim_ascii_end();
-    let (at, room) = (byte.saturating_sub(line.start).min(text.len()), columns.saturating_sub(8).max(20));
+/// The bytes of a line, and below them a caret under one; what does not fit on a screen of so many columns is left out.
+pub fn pointed(line: &[u8], place: u64, columns: usize) -> String {
+    let text = line.trim_ascii_end();
+    let at = usize::try_from(place).unwrap_or(usize::MAX).min(text.len());
+    let room = columns.saturating_sub(8).max(20);
     // letters of a message, not bytes: a byte that is no letter takes four of them
     let shown = |from: usize, to: usize| quoted(text.get(from..to).unwrap_or_default());
     let from = (0..=at).find(|from| shown(*from, at).len() < room / 2).unwrap_or(at);
@@ -144,10 +139,6 @@ mod tests {
         let record = definition(file, 2).unwrap();
         assert_eq!(base(file, record, 3).map(|(line, at)| (line.number, at)), Some((6, 21)));
         assert_eq!(base(file, record, 4), None);
-        assert_eq!(
-            uneven(b">s\nACGT\n\nAC\n", definition(b">s\nACGT\n\nAC\n", 1).unwrap()).map(|line| line.number),
-            Some(3)
-        );
         let file = b">s\n\nAC\n\n>t\nAC\nA\nC\n";
         let (rows, refusal) = wakeluri::index_until_refused(file);
         assert_eq!((rows.len(), refusal.map(|refusal| refusal.number)), (1, Some(42)));

@@ -1,12 +1,14 @@
-//! A progress bar on a terminal, for work that takes over a second; nothing elsewhere.
+//! A progress bar on a terminal, for work that takes over a second; nothing elsewhere. Of a file that arrives, whose length nobody knows, it shows
+//! bytes, records and speed.
 
+use crate::place::count;
 use crate::warning::{in_json, is_gathered, is_quiet};
 use indicatif::{ProgressBar, ProgressStyle};
 use std::io::IsTerminal;
 use std::sync::Arc;
 use std::sync::atomic::{AtomicBool, AtomicU64, Ordering};
 use std::thread::{self, JoinHandle};
-use std::time::Duration;
+use std::time::{Duration, Instant};
 
 /// Nothing is shown for work that is done by then.
 const QUIET: Duration = Duration::from_secs(1);
@@ -18,6 +20,7 @@ const TICK: Duration = Duration::from_millis(100);
 #[derive(Debug)]
 pub struct Progress {
     at: Arc<AtomicU64>,
+    records: Arc<AtomicU64>,
     over: Arc<AtomicBool>,
     shower: Option<JoinHandle<()>>,
 }
@@ -33,19 +36,30 @@ impl Progress {
         Self::new(format!("{doing} {file}"), if mapped { bytes } else { 0 }, mapped)
     }
 
+    /// Indexing what arrives, of which nobody knows how much it is.
+    pub fn arriving(file: &str) -> Self {
+        Self::new(format!("indexing {file}"), 0, false)
+    }
+
     fn new(doing: String, bytes: u64, mapped: bool) -> Self {
         let at = Arc::new(AtomicU64::new(0));
+        let records = Arc::new(AtomicU64::new(0));
         let over = Arc::new(AtomicBool::new(false));
         let shower = (!in_json() && !is_quiet() && !is_gathered() && std::io::stderr().is_terminal()).then(|| {
-            let (at, over) = (Arc::clone(&at), Arc::clone(&over));
-            thread::spawn(move || show(&doing, bytes, mapped, &at, &over))
+            let (at, records, over) = (Arc::clone(&at), Arc::clone(&records), Arc::clone(&over));
+            thread::spawn(move || show(&doing, bytes, mapped, [&at, &records], &over))
         });
-        Self { at, over, shower }
+        Self { at, records, over, shower }
     }
 
     /// So many bytes are done.
     pub fn at(&self, bytes: u64) {
         self.at.store(bytes, Ordering::Relaxed);
+    }
+
+    /// So many records are indexed.
+    pub fn with_records(&self, records: u64) {
+        self.records.store(records, Ordering::Relaxed);
     }
 }
 
@@ -59,7 +73,8 @@ impl Drop for Progress {
     }
 }
 
-fn show(doing: &str, bytes: u64, mapped: bool, at: &AtomicU64, over: &AtomicBool) {
+fn show(doing: &str, bytes: u64, mapped: bool, [at, records]: [&AtomicU64; 2], over: &AtomicBool) {
+    let begun = Instant::now();
     let before = if mapped { looked_at() } else { 0 };
     thread::park_timeout(QUIET);
     if over.load(Ordering::Relaxed) {
@@ -78,6 +93,7 @@ fn show(doing: &str, bytes: u64, mapped: bool, at: &AtomicU64, over: &AtomicBool
         let now = if mapped { looked_at().saturating_sub(before) } else { at.load(Ordering::Relaxed) };
         most = now.max(most);
         if bytes == 0 {
+            bar.set_message(format!("{doing}{}", so_far(most, records.load(Ordering::Relaxed), begun.elapsed())));
             bar.tick()
         } else {
             bar.set_position(most.min(bytes))
@@ -87,6 +103,16 @@ fn show(doing: &str, bytes: u64, mapped: bool, at: &AtomicU64, over: &AtomicBool
     bar.finish_and_clear();
 }
 
+/// Bytes, records and speed of what arrives; nothing where no byte has come.
+fn so_far(bytes: u64, records: u64, time: Duration) -> String {
+    if bytes == 0 {
+        return String::new();
+    }
+    let records = if records > 0 { format!(", {}", count(records, "record")) } else { String::new() };
+    let speed = bytes as f64 / 1e6 / time.as_secs_f64().max(0.001);
+    format!(": {}{records}, {speed:.1} MB/s,", count(bytes, "byte"))
+}
+
 /// The bytes of mapped files that this process has looked at and the system still holds.
 fn looked_at() -> u64 {
     let told = std::fs::read_to_string("/proc/self/statm").unwrap_or_default();
@@ -94,4 +120,17 @@ fn looked_at() -> u64 {
     // SAFETY: it only asks for a number.
     let page = unsafe { libc::sysconf(libc::_SC_PAGESIZE) };
     pages.saturating_mul(u64::try_from(page).unwrap_or(4096))
+}
+
+#[cfg(test)]
+mod tests {
+    use super::*;
+
+    #[test]
+    fn bytes_records_and_speed() {
+        let second = Duration::from_secs(1);
+        assert_eq!(so_far(0, 0, second), "");
+        assert_eq!(so_far(3_000_000, 0, second), ": 3,000,000 bytes, 3.0 MB/s,");
+        assert_eq!(so_far(3_000_000, 1234, 2 * second), ": 3,000,000 bytes, 1,234 records, 1.5 MB/s,");
+    }
 }

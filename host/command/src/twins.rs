@@ -1,6 +1,5 @@
 //! Records of one name, in a file that is indexed or checked: a look-up finds the first, and nobody may know of the others.
 
-use crate::input::Input;
 use crate::place::{commas, count, short};
 use crate::warning::Warning;
 
@@ -11,8 +10,7 @@ const TOLD: usize = 10;
 pub type Twins<'n> = (usize, usize, &'n [u8]);
 
 /// Says which names several records have.
-pub fn warn(fasta: &Input, twins: &[Twins<'_>]) {
-    let file = &fasta.shown;
+pub fn warn(file: &str, twins: &[Twins<'_>]) {
     for (first, second, name) in twins.iter().take(TOLD) {
         let (first, second, name) = (commas(*first as u64 + 1), commas(*second as u64 + 1), short(name));
         let words =

@@ -2,9 +2,12 @@
 
 use crate::failure::Failure;
 use crate::fastq;
+use crate::fastq_faults;
 use crate::faults;
 use crate::input::Input;
+use crate::place;
 use crate::progress::Progress;
+use crate::scene::Scene;
 use crate::warning::Warning;
 use wakeluri::fastq::{Part, Table as Reads};
 use wakeluri::{Refusal, Table};
@@ -36,7 +39,15 @@ pub fn reads(fastq: &Input) -> Result<Reads<'_>, Failure> {
     drop(progress);
     match refusal {
         None => Ok(reads),
-        Some(refusal) => Err(faults::not_indexed(fastq, &reads.part(Part::Bases), refusal)),
+        Some(refusal) => {
+            let rows = reads.part(Part::Bases);
+            let is_too_long = refusal.number == 1;
+            Err(if is_too_long {
+                Scene::of(fastq, &rows, refusal).told(refusal)
+            } else {
+                fastq_faults::not_indexed(fastq, &rows, refusal)
+            })
+        }
     }
 }
 
@@ -58,19 +69,25 @@ pub fn index(fasta: &Input, rule: Rule) -> Result<Table<'_>, Failure> {
     drop(progress);
     match refusal {
         None => {
-            if let Some(warning) = faults::lines_of_cr(fasta, &rows) {
+            let first_line = place::lines(file, 0, 1).next().map_or(&[][..], |line| place::text(file, line));
+            if let Some(warning) = faults::lines_of_cr(&fasta.shown, &rows, first_line) {
                 warning.say();
             }
             Ok(rows)
         }
-        Some(refusal) => Err(faults::not_indexed(fasta, &rows, refusal)),
+        Some(refusal) => Err(Scene::of(fasta, &rows, refusal).told(refusal)),
     }
 }
 
 /// A file without a byte is a file without records, and seldom what was meant.
 pub fn warn_of_nothing(fasta: &Input) {
-    if fasta.bytes().is_empty() {
-        Warning::new(&fasta.shown, format!("{}: it is empty: there is no record in it", fasta.shown)).say();
+    warn_of_no_bytes(&fasta.shown, fasta.bytes().len() as u64);
+}
+
+/// The same of a file by its name and its length.
+pub fn warn_of_no_bytes(file: &str, length: u64) {
+    if length == 0 {
+        Warning::new(file, format!("{file}: it is empty: there is no record in it")).say();
     }
 }
 
