@@ -41,18 +41,18 @@ module _ (newest : ℕ) (s : List ℕ) where
   reached : (r : ℕ) → AllGood r → Reached r
   unfolding saysFrom fieldAt
   reached zero good = record {
-    held = begun
-    ; known = record {
-      least = omega arith
-      ; most = omega arith
-      ; below = λ j q f. absurd (omega (arith, q))
-      ; name = λ m. absurd (omega (arith, m))
-      ; start = λ m. absurd (omega (arith, m))
-      ; end = λ m. absurd (omega (arith, m))
-      ; edition = λ m. absurd (omega (arith, m))
-    }
-    ; within = omega arith
-    ; same = refl
+    held = begun;
+    known = record {
+      least = omega arith;
+      most = omega arith;
+      below = λ j q f. absurd (omega (arith, q));
+      name = λ m. absurd (omega (arith, m));
+      start = λ m. absurd (omega (arith, m));
+      end = λ m. absurd (omega (arith, m));
+      edition = λ m. absurd (omega (arith, m));
+    };
+    within = omega arith;
+    same = refl;
   }
   reached (suc r) good = go (reached r (λ k q. good k (omega (arith, q)))) (good r (omega arith))
     where
@@ -114,19 +114,19 @@ module _ (newest : ℕ) (s : List ℕ) where
       let c = k .end (omega (arith, w)) in
       let d = k .edition (omega (arith, w)) in
       record {
-        name = a .place
-        ; name-tag = a .tagged
-        ; name-start = a .holds .start
-        ; name-length = a .holds .length
-        ; start = b .place
-        ; start-tag = b .tagged
-        ; start-value = b .holds
-        ; end = c .place
-        ; end-tag = c .tagged
-        ; end-value = c .holds
-        ; edition = d .place
-        ; edition-tag = d .tagged
-        ; edition-value = d .holds
+        name = a .place;
+        name-tag = a .tagged;
+        name-start = a .holds .start;
+        name-length = a .holds .length;
+        start = b .place;
+        start-tag = b .tagged;
+        start-value = b .holds;
+        end = c .place;
+        end-tag = c .tagged;
+        end-value = c .holds;
+        edition = d .place;
+        edition-tag = d .tagged;
+        edition-value = d .holds;
       }
 
   -- without a fault it reads, and says what its fields hold

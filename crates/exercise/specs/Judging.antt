@@ -71,11 +71,11 @@ module _ (newest : ℕ) (s : List ℕ) (r : ℕ) (h : Held) where
           said-either newest s r (eqb (h .wanted) 1) _ _
           (λ n. passes _
           (record {
-            unneeded = t
-            ; whole = w
-            ; turn = λ _. wanted 1 e n
-            ; size = record { start = λ z. absurd (omega (arith, q, z)); end = λ z. absurd (omega (arith, q, z)); edition = λ z. absurd (omega (arith, q, z)) }
-            ; known = λ z. absurd (omega (arith, q, z))
+            unneeded = t;
+            whole = w;
+            turn = λ _. wanted 1 e n;
+            size = record { start = λ z. absurd (omega (arith, q, z)); end = λ z. absurd (omega (arith, q, z)); edition = λ z. absurd (omega (arith, q, z)) };
+            known = λ z. absurd (omega (arith, q, z));
           })
           (name-known s r h k q (eqb-true (h .wanted) 1 n)))
           (unwanted 1 e (omega arith) (omega arith))
@@ -88,11 +88,11 @@ module _ (newest : ℕ) (s : List ℕ) (r : ℕ) (h : Held) where
           (λ n. said-either newest s r (eqb (sizeOf s r) 8) _ _
           (λ z. passes _
           (record {
-            unneeded = t
-            ; whole = w
-            ; turn = λ _. wanted 2 e n
-            ; size = record { start = λ _. eqb-true (sizeOf s r) 8 z; end = λ y. absurd (omega (arith, q, y)); edition = λ y. absurd (omega (arith, q, y)) }
-            ; known = λ y. absurd (omega (arith, q, y))
+            unneeded = t;
+            whole = w;
+            turn = λ _. wanted 2 e n;
+            size = record { start = λ _. eqb-true (sizeOf s r) 8 z; end = λ y. absurd (omega (arith, q, y)); edition = λ y. absurd (omega (arith, q, y)) };
+            known = λ y. absurd (omega (arith, q, y));
           })
           (start-known s r h k q (eqb-true (h .wanted) 2 n)))
           (λ z. stops (wrong-size t w (wanted 2 e n) (λ u. eqb-false (sizeOf s r) 8 z (u .start q)))))
@@ -106,11 +106,11 @@ module _ (newest : ℕ) (s : List ℕ) (r : ℕ) (h : Held) where
           (λ n. said-either newest s r (eqb (sizeOf s r) 8) _ _
           (λ z. passes _
           (record {
-            unneeded = t
-            ; whole = w
-            ; turn = λ _. wanted 3 e n
-            ; size = record { start = λ y. absurd (omega (arith, q, y)); end = λ _. eqb-true (sizeOf s r) 8 z; edition = λ y. absurd (omega (arith, q, y)) }
-            ; known = λ y. absurd (omega (arith, q, y))
+            unneeded = t;
+            whole = w;
+            turn = λ _. wanted 3 e n;
+            size = record { start = λ y. absurd (omega (arith, q, y)); end = λ _. eqb-true (sizeOf s r) 8 z; edition = λ y. absurd (omega (arith, q, y)) };
+            known = λ y. absurd (omega (arith, q, y));
           })
           (end-known s r h k q (eqb-true (h .wanted) 3 n)))
           (λ z. stops (wrong-size t w (wanted 3 e n) (λ u. eqb-false (sizeOf s r) 8 z (u .end q)))))
@@ -125,11 +125,11 @@ module _ (newest : ℕ) (s : List ℕ) (r : ℕ) (h : Held) where
           (λ z. said-either newest s r (knownTo newest (getD (valueOf s r) 0 0)) _ _
           (λ c. passes _
           (record {
-            unneeded = t
-            ; whole = w
-            ; turn = λ _. wanted 4 e n
-            ; size = record { start = λ y. absurd (omega (arith, q, y)); end = λ y. absurd (omega (arith, q, y)); edition = λ _. eqb-true (sizeOf s r) 1 z }
-            ; known = λ _. c
+            unneeded = t;
+            whole = w;
+            turn = λ _. wanted 4 e n;
+            size = record { start = λ y. absurd (omega (arith, q, y)); end = λ y. absurd (omega (arith, q, y)); edition = λ _. eqb-true (sizeOf s r) 1 z };
+            known = λ _. c;
           })
           (edition-known s r h k q (eqb-true (h .wanted) 4 n)))
           (λ c. stops (other-edition w q (wanted 4 e n) (eqb-true (sizeOf s r) 1 z) c)))
@@ -142,11 +142,11 @@ module _ (newest : ℕ) (s : List ℕ) (r : ℕ) (h : Held) where
           let n : Four (tagOf s r) → ⊥ = not-four (tagOf s r) (eqb-false _ 1 a) (eqb-false _ 2 b) (eqb-false _ 3 c) (eqb-false _ 4 d) in
           passes h
           (record {
-            unneeded = t
-            ; whole = w
-            ; turn = λ f. absurd (n f)
-            ; size = record { start = λ y. absurd (eqb-false _ 2 b y); end = λ y. absurd (eqb-false _ 3 c y); edition = λ y. absurd (eqb-false _ 4 d y) }
-            ; known = λ y. absurd (eqb-false _ 4 d y)
+            unneeded = t;
+            whole = w;
+            turn = λ f. absurd (n f);
+            size = record { start = λ y. absurd (eqb-false _ 2 b y); end = λ y. absurd (eqb-false _ 3 c y); edition = λ y. absurd (eqb-false _ 4 d y) };
+            known = λ y. absurd (eqb-false _ 4 d y);
           })
           (passed-known s r h k n)
         where

@@ -96,59 +96,59 @@ module _ (s : List ℕ) (r : ℕ) (h : Held) (k : Known s r h) where
   -- a tag that is not of the four: as before
   pub passed-known : (Four (tagOf s r) → ⊥) → Known s (suc r) h
   passed-known n = record {
-    least = k .least
-    ; most = k .most
-    ; below = below-next (h .wanted) (omega arith) (λ f. absurd (n f))
-    ; name = λ m. onward (k .name m)
-    ; start = λ m. onward (k .start m)
-    ; end = λ m. onward (k .end m)
-    ; edition = λ m. onward (k .edition m)
+    least = k .least;
+    most = k .most;
+    below = below-next (h .wanted) (omega arith) (λ f. absurd (n f));
+    name = λ m. onward (k .name m);
+    start = λ m. onward (k .start m);
+    end = λ m. onward (k .end m);
+    edition = λ m. onward (k .edition m);
   }
 
   pub name-known : tagOf s r ≡ 1 → h .wanted ≡ 1
       → Known s (suc r) (record { wanted = 2; «name_start» = fieldAt s r + 3; «name_length» = sizeOf s r; start = h .start; end = h .end; edition = h .edition })
   name-known e w = record {
-    least = omega arith
-    ; most = omega arith
-    ; below = below-next 2 (omega (arith, w)) (λ f. omega (arith, e))
-    ; name = λ m. record { place = r; before = omega arith; tagged = e; holds = record { start = refl; length = refl } }
-    ; start = λ m. absurd (omega (arith, m))
-    ; end = λ m. absurd (omega (arith, m))
-    ; edition = λ m. absurd (omega (arith, m))
+    least = omega arith;
+    most = omega arith;
+    below = below-next 2 (omega (arith, w)) (λ f. omega (arith, e));
+    name = λ m. record { place = r; before = omega arith; tagged = e; holds = record { start = refl; length = refl } };
+    start = λ m. absurd (omega (arith, m));
+    end = λ m. absurd (omega (arith, m));
+    edition = λ m. absurd (omega (arith, m));
   }
 
   pub start-known : tagOf s r ≡ 2 → h .wanted ≡ 2
       → Known s (suc r) (record { wanted = 3; «name_start» = h .«name_start»; «name_length» = h .«name_length»; start = bigFrom 0 (valueOf s r); end = h .end; edition = h .edition })
   start-known e w = record {
-    least = omega arith
-    ; most = omega arith
-    ; below = below-next 3 (omega (arith, w)) (λ f. omega (arith, e))
-    ; name = λ m. onward (k .name (omega (arith, w)))
-    ; start = λ m. record { place = r; before = omega arith; tagged = e; holds = refl }
-    ; end = λ m. absurd (omega (arith, m))
-    ; edition = λ m. absurd (omega (arith, m))
+    least = omega arith;
+    most = omega arith;
+    below = below-next 3 (omega (arith, w)) (λ f. omega (arith, e));
+    name = λ m. onward (k .name (omega (arith, w)));
+    start = λ m. record { place = r; before = omega arith; tagged = e; holds = refl };
+    end = λ m. absurd (omega (arith, m));
+    edition = λ m. absurd (omega (arith, m));
   }
 
   pub end-known : tagOf s r ≡ 3 → h .wanted ≡ 3
       → Known s (suc r) (record { wanted = 4; «name_start» = h .«name_start»; «name_length» = h .«name_length»; start = h .start; end = bigFrom 0 (valueOf s r); edition = h .edition })
   end-known e w = record {
-    least = omega arith
-    ; most = omega arith
-    ; below = below-next 4 (omega (arith, w)) (λ f. omega (arith, e))
-    ; name = λ m. onward (k .name (omega (arith, w)))
-    ; start = λ m. onward (k .start (omega (arith, w)))
-    ; end = λ m. record { place = r; before = omega arith; tagged = e; holds = refl }
-    ; edition = λ m. absurd (omega (arith, m))
+    least = omega arith;
+    most = omega arith;
+    below = below-next 4 (omega (arith, w)) (λ f. omega (arith, e));
+    name = λ m. onward (k .name (omega (arith, w)));
+    start = λ m. onward (k .start (omega (arith, w)));
+    end = λ m. record { place = r; before = omega arith; tagged = e; holds = refl };
+    edition = λ m. absurd (omega (arith, m));
   }
 
   pub edition-known : tagOf s r ≡ 4 → h .wanted ≡ 4
       → Known s (suc r) (record { wanted = 5; «name_start» = h .«name_start»; «name_length» = h .«name_length»; start = h .start; end = h .end; edition = getD (valueOf s r) 0 0 })
   edition-known e w = record {
-    least = omega arith
-    ; most = omega arith
-    ; below = below-next 5 (omega (arith, w)) (λ f. omega (arith, e))
-    ; name = λ m. onward (k .name (omega (arith, w)))
-    ; start = λ m. onward (k .start (omega (arith, w)))
-    ; end = λ m. onward (k .end (omega (arith, w)))
-    ; edition = λ m. record { place = r; before = omega arith; tagged = e; holds = refl }
+    least = omega arith;
+    most = omega arith;
+    below = below-next 5 (omega (arith, w)) (λ f. omega (arith, e));
+    name = λ m. onward (k .name (omega (arith, w)));
+    start = λ m. onward (k .start (omega (arith, w)));
+    end = λ m. onward (k .end (omega (arith, w)));
+    edition = λ m. record { place = r; before = omega arith; tagged = e; holds = refl };
   }
