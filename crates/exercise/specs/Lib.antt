@@ -5,4 +5,8 @@ pub mod Laws
 pub mod Within
 pub mod Fields
 pub mod Calls
+pub mod FirstFault
+pub mod Turns
+pub mod Judging
+pub mod Faults
 pub mod Examples

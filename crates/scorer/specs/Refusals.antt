@@ -1,7 +1,7 @@
 -- The refusals of the scorer: which it gives, in their order, each exactly in its case.
 --
--- `refused-only-if`, `refused-if`: the scorer refuses with f exactly if `Refuses` says so: 1 if one of the lent inputs is too long; else what the
--- exercise is refused with (31, 32, 33); else what the look-up of its name is (25, 15); else what the exact read of its bounds is (16, 17, 14, 18). In
+-- `refused-only-if`, `refused-if`: the scorer refuses with f exactly if `Refuses` says so: 1 if one of the lent inputs is too long; else the first
+-- fault of the exercise's fields (31, 32, 33); else what the look-up of its name is (25, 15); else what the exact read of its bounds is (16, 17, 14, 18). In
 -- each case the room is as it was (`unchanged` in Known.antt).
 use Prim.Native.Nat.{ℕ}
 use mathlib.Core.Path.{_≡_, refl, sym, ap, _∙_}
@@ -18,6 +18,8 @@ use Rattle.region.specs.Exact.{exactHeld, exactRead}
 use Rattle.exercise.specs.declared.Exercise.{Exercise}
 use Rattle.exercise.specs.declared.ExerciseRead.the-variants as read
 use Rattle.exercise.specs.Reading.{readAs}
+use Rattle.exercise.specs.FirstFault.{FirstFault}
+use Rattle.exercise.specs.Faults as exercise
 use Rattle.exercise.specs.Within.{read-sound, known-two}
 use Rattle.scoring.specs.declared.Scored.{Scored}
 use Rattle.scoring.specs.declared.Scored.the-variants as scored
@@ -29,7 +31,7 @@ use Rattle.scorer.specs.Known.Either.{too-long, unread, unfound, row-fou
 -- why there is no score
 pub data Refuses (s typed file names t : List ℕ) (u : ℕ) (room : List ℕ) : Refusal → Type 0 where
   long : anyOver s typed file names ≡ true → Refuses s typed file names t u room TooLong
-  of-exercise : (f : Refusal) → anyOver s typed file names ≡ false → readAs 2 s ≡ read.Refused f → Refuses s typed file names t u room f
+  of-exercise : (f : Refusal) → anyOver s typed file names ≡ false → FirstFault 2 s f → Refuses s typed file names t u room f
   of-look-up : (f : Refusal) (x : Exercise) → anyOver s typed file names ≡ false → readAs 2 s ≡ read.Read x → rowRead names t u (nameAsked s x) ≡ found.Refused f
       → Refuses s typed file names t u room f
   of-read : (f : Refusal) (x : Exercise) (r : ℕ) → anyOver s typed file names ≡ false → readAs 2 s ≡ read.Read x → rowRead names t u (nameAsked s x) ≡ found.Row r
@@ -48,7 +50,7 @@ module _ (s typed file names t : List ℕ) (u : ℕ) (room : List ℕ) where
 
       go : Either s typed file names t u room → Refuses s typed file names t u room f
       go (too-long l e) = rw (← is e) (long l)
-      go (unread g l r e) = of-exercise f l (r ∙ ap read.Refused (is e))
+      go (unread g l r e) = of-exercise f l (exercise.refused-only-if 2 s f (r ∙ ap read.Refused (is e)))
       go (unfound g x l r d e) = of-look-up f x l r (d ∙ ap found.Refused (is e))
       go (row-found x r l p d e) =
           of-read f x r l p d
@@ -57,6 +59,6 @@ module _ (s typed file names t : List ℕ) (u : ℕ) (room : List ℕ) where
   pub refused-if : (f : Refusal) → Refuses s typed file names t u room f → scorerOf s typed file names t u room ≡ refusesScore f room
   unfolding exactRead
   refused-if _ (long l) = sym (scorer-long s typed file names t u room l)
-  refused-if _ (of-exercise f l r) = sym (scorer-refused s typed file names t u room l f (sym (asked-unread s names t u f r)))
+  refused-if _ (of-exercise f l r) = sym (scorer-refused s typed file names t u room l f (sym (asked-unread s names t u f (exercise.refused-if 2 s f r))))
   refused-if _ (of-look-up f x l r d) = sym (scorer-refused s typed file names t u room l f (sym (asked-unfound s names t u x r f d)))
   refused-if _ (of-read f x r l p d e) = sym (scorer-row s typed file names t u room l x r (sym (asked-found s names t u x p r d))) ∙ refused-read x typed file (heldAt t u r) room f e

@@ -2,13 +2,14 @@
 // whose denominator is what was asked. Refused: 1 for bytes over the limit, then 33 for an edition that is not known.
 use refusal::Refusal;
 ghost use mathlib.Core.Path.{_≡_};
+ghost use mathlib.Core.Bool.{true};
 ghost use Prim.Native.Nat.{ℕ, _+_, _≤_, _<_, min};
 ghost use lib.ListN.{length, getD};
 ghost use Rattle.letters.specs.Letters.{setOf};
 ghost use Rattle.letters.specs.Sets.{bit};
 ghost use Rattle.letters.specs.Table.{IsTable};
 ghost use Rattle.scoring.specs.Rules.{folded, same, lies, ruleFor};
-ghost use Rattle.scoring.specs.Plain.{isPlain, isAny, sure, anyAt};
+ghost use Rattle.scoring.specs.Plain.{isPlain, isAny, isLone, isUracil, alike, told, sure, anyAt};
 ghost use Rattle.scoring.specs.Places.{tenths, scoreBy, keyScored, scoredAs};
 ghost use Rattle.scoring.specs.Counting.{Counted, agrees};
 
@@ -24,6 +25,12 @@ pub struct Score {
 pub enum Scored {
     Score(Score),
     Refused(Refusal),
+}
+
+// What is seen of some places: at how many the bytes are alike, and at how many that tells edition 2.
+struct Seen {
+    alike: u8,
+    told: u8,
 }
 
 // An ASCII letter in upper case; another byte as it is.
@@ -85,11 +92,41 @@ fn any_bit(k: u8) -> u8
     is_any(k) as u8
 }
 
-// Is edition 2 told by edition 1 and by N alone, as a number: a plain letter was typed for a plain one or for N.
+// Is edition 2 told by the letters and by N, as a number: a plain letter was typed for a plain one or for N.
 fn sure_bit(k: u8, t: u8) -> u8
     ensures { λ r. ⌜ r ≡ bit (sure k t) ⌝ }
 {
     (is_plain(t) & (is_plain(k) | is_any(k))) as u8
+}
+
+// Is a byte A, C, G or T, or E, in either case: letters that stand for one base, and one that stands for none. Of these but T all have the
+// bit 1, and may differ in the bits 2 and 4.
+fn is_lone(b: u8) -> bool
+    ensures { λ r. ⌜ r ≡ isLone b ⌝ }
+{
+    let low = b | 32;
+    (low | 6 == b'g') | (low == b't')
+}
+
+// Is a byte U, in either case: the other letter of T's base.
+fn is_uracil(b: u8) -> bool
+    ensures { λ r. ⌜ r ≡ isUracil b ⌝ }
+{
+    b | 32 == b'u'
+}
+
+// Is edition 2 told by the letters alone, as a number: the key's letter stands for one base at most, and no U was typed.
+fn told_bit(k: u8, t: u8) -> u8
+    ensures { λ r. ⌜ r ≡ bit (told k t) ⌝ }
+{
+    (is_lone(k) & !is_uracil(t)) as u8
+}
+
+// Are two bytes the same but for the bit of lower case, as a number.
+fn alike_bit(k: u8, t: u8) -> u8
+    ensures { λ r. ⌜ r ≡ bit (alike k t) ⌝ }
+{
+    (k | 32 == t | 32) as u8
 }
 
 // How many of 32 places are right in edition 1.
@@ -104,7 +141,24 @@ fn same32(key: &[u8], typed: &[u8], at: usize) -> u8
     right
 }
 
-// At how many of 32 places edition 2 is told so.
+// At how many of 32 places the bytes are the same but for the bit of lower case, and at how many edition 2 is told by the letters alone. Both
+// are counted in one loop: it is too long to be unrolled, and so the compiler counts 16 places at once.
+fn seen32(key: &[u8], typed: &[u8], at: usize) -> Seen
+    requires { ⌜ (at + 32 ≤ length (now key)) × (at + 32 ≤ length (now typed)) ⌝ }
+    ensures { λ r. ⌜ Counted (agrees alike (now (key .entry)) (now (typed .entry))) at 32 (r .alike) × Counted (agrees told (now (key .entry)) (now (typed .entry))) at 32 (r .told) ⌝ }
+{
+    let mut alike: u8 = 0;
+    let mut told: u8 = 0;
+    for j in 0..32 {
+        let k = key[at + j];
+        let t = typed[at + j];
+        alike = alike + alike_bit(k, t);
+        told = told + told_bit(k, t);
+    }
+    Seen { alike, told }
+}
+
+// At how many of 32 places edition 2 is told by them and by N.
 fn sure32(key: &[u8], typed: &[u8], at: usize) -> u8
     requires { ⌜ (at + 32 ≤ length (now key)) × (at + 32 ≤ length (now typed)) ⌝ }
     ensures { λ r. ⌜ Counted (agrees sure (now (key .entry)) (now (typed .entry))) at 32 r ⌝ }
@@ -158,22 +212,34 @@ fn right_bit(codes: &[u8; 256], k: u8, t: u8, second: bool) -> u8
     same_bit(k, t)
 }
 
-// How many of 32 places are right: what edition 1 takes, edition 2 takes too; for a plain letter no other, and for N any plain one.
+// How many of 32 places are right in edition 2: by letters alone, where those of the key stand for one base; with N, any plain letter is
+// right too; what edition 1 takes, edition 2 takes too; else each place is looked at.
+fn second_block(codes: &[u8; 256], key: &[u8], typed: &[u8], at: usize) -> usize
+    requires { ⌜ IsTable setOf (now codes) × (at + 32 ≤ length (now key)) × (at + 32 ≤ length (now typed)) ⌝ }
+    ensures { λ r. ⌜ Counted (agrees (ruleFor true) (now (key .entry)) (now (typed .entry))) at 32 r ⌝ }
+{
+    let seen = seen32(key, typed, at);
+    if seen.told == 32 {
+        return wide(seen.alike);
+    }
+    if sure32(key, typed, at) == 32 {
+        return wide(seen.alike) + wide(any32(key, at));
+    }
+    if same32(key, typed, at) == 32 {
+        return 32;
+    }
+    run(codes, key, typed, at, 32, true)
+}
+
+// How many of 32 places are right.
 fn block(codes: &[u8; 256], key: &[u8], typed: &[u8], at: usize, second: bool) -> usize
     requires { ⌜ IsTable setOf (now codes) × (at + 32 ≤ length (now key)) × (at + 32 ≤ length (now typed)) ⌝ }
     ensures { λ r. ⌜ Counted (agrees (ruleFor second) (now (key .entry)) (now (typed .entry))) at 32 r ⌝ }
 {
-    let all = same32(key, typed, at);
-    if all == 32 {
-        return 32;
-    }
     if second {
-        if sure32(key, typed, at) == 32 {
-            return wide(all) + wide(any32(key, at));
-        }
-        return run(codes, key, typed, at, 32, second);
+        return second_block(codes, key, typed, at);
     }
-    wide(all)
+    wide(same32(key, typed, at))
 }
 
 // How many of the first n places are right.
