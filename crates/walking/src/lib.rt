@@ -179,7 +179,13 @@ fn walk_strides(s: &[u8], at: usize, x: Record, stride_bases: u64) -> Walked
     while !lines::sequence_ends(s, i) {
         let e = lines::ends::line_end(s, i);
         let bases = lines::base_count(&s[i..e]);
-        walk = walk_line(walk, stride_bases, stride_width, Offset(i as u64), bases as u64);
+        walk = walk_line(
+            walk,
+            stride_bases,
+            stride_width,
+            Offset(i as u64),
+            bases as u64,
+        );
         i = e;
     }
     let placed = walk.placed;
