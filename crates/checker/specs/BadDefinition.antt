@@ -1,5 +1,5 @@
 -- What the checker tells of a definition line that does not read: the record, and the offset at which reading failed. Both belong to the first
--- record that is wrong. `bad-told`: where such a line is the first fault, that is told. `told-bad`: where 2, 3 or 4 is told, it is so.
+-- record that is wrong. `bad-told`: if such a line is the first fault, the answer is its refusal. `told-bad`: an answer 2, 3 or 4 means that.
 use Prim.Native.Nat.{ℕ, suc, _+_, _≤_, _<_}
 use mathlib.Core.Path.{_≡_, _∙_, ap}
 use mathlib.Core.List.{List}
@@ -37,7 +37,7 @@ pub record TellsBad (f i : List ℕ) (x : Refusal) : Type 0 where
   pub first : FirstBad f i at fault
   pub told : numbersOf x ≡ record { refusal = numberOf fault; first = suc at; second = definitionAt (groups (lines f)) at + failsAt fault }
 
--- 2 to 4 are told of a definition line alone
+-- only a definition line gives 2 to 4
 record BadHere (n at : ℕ) (g : Group) (x : Refusal) : Type 0 where
   fault : Fault
   bad : definition.definitionSays (g .def) ≡ Bad fault

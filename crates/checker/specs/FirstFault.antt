@@ -31,7 +31,7 @@ pub data LineFault (n start : ℕ) (g : Group) (l : List ℕ) : Refusal → Type
 
 -- what is wrong with record n, which begins at an offset, where some lines of the index are left
 pub data RecordFault (n at : ℕ) (g : Group) : List (List ℕ) → Refusal → Type 0 where
-  -- 2 to 4: its definition line does not read; the record is told, and the offset at which reading failed
+  -- 2 to 4: its definition line does not read; the refusal has the record, and the offset at which reading failed
   bad-definition : {left : List (List ℕ)} → (e : Fault) → definition.definitionSays (g .def) ≡ Bad e → RecordFault n at g left (refusalIn e n at)
   -- 19: it reads, and no line is left
   no-line : (d : Definition) → definition.definitionSays (g .def) ≡ Named d → RecordFault n at g [] (LineAbsent n)

@@ -21,7 +21,7 @@ pub data Reads : ℕ → ℕ → List (List ℕ) → List ℕ → Bool → Type 
   more : {place k : ℕ} {f : List ℕ} {fs : List (List ℕ)} {g : Field} {vs : List ℕ} {q : Bool}
       → Fine place f g → Reads (suc place) k fs vs q → Reads place (suc k) (f ∷ fs) (g .value ∷ vs) (g .plain && q)
 
--- numbers that are read are so
+-- numbers that were read are such
 pub numbers-read : (line place k : ℕ) (fs : List (List ℕ)) (vs : List ℕ) (p : Bool) → numbersFrom line place k fs ≡ Are vs p → Reads place k fs vs p
 unfolding numbersFrom
 numbers-read line place zero fs vs p h = let v : vs ≡ [] = cc in let q : p ≡ true = cc in rw (v, q) none

@@ -8,6 +8,11 @@ ghost use lib.Dec.{ltb};
 ghost use Rattle.columns.specs.Decimal.{digitsOf, numberOf, plainNumber, digits, decimalOf, NumberWritten};
 ghost use Rattle.columns.specs.Bytes.{overlaid};
 
+// The bytes of the digits 0 and 9, as numbers.
+pub(crate) const ZERO: u64 = 48;
+
+pub(crate) const NINE: u64 = 57;
+
 // The largest number.
 const LARGEST: u64 = 18446744073709551615;
 
@@ -43,13 +48,13 @@ fn read_digits(s: &[u8]) -> Number
     let mut i = 0;
     while i < s.len() {
         let b = wide(s[i]);
-        if b < 48 {
+        if b < ZERO {
             return Number::Bad;
         }
-        if 57 < b {
+        if NINE < b {
             return Number::Bad;
         }
-        let d = b - 48;
+        let d = b - ZERO;
         if !may_follow(value, d) {
             return Number::Bad;
         }
@@ -107,7 +112,7 @@ fn put_digits(n: u64, w: usize, out: &mut [u8], at: usize)
     let mut place = at + w;
     while at < place {
         place -= 1;
-        out[place] = (48 + m % 10) as u8;
+        out[place] = (ZERO + m % 10) as u8;
         m = m / 10;
     }
 }

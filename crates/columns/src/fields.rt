@@ -141,16 +141,16 @@ fn front_digits(s: &[u8]) -> Digits
     let mut i = 0;
     while i < s.len() {
         let b = decimal::wide(s[i]);
-        if b < 48 {
+        if b < decimal::ZERO {
             return Digits { value, count: i };
         }
-        if 57 < b {
+        if decimal::NINE < b {
             return Digits { value, count: i };
         }
         if decimal::ROOMY <= value {
             return Digits { value, count: i };
         }
-        value = value * 10 + (b - 48);
+        value = value * 10 + (b - decimal::ZERO);
         i += 1;
     }
     Digits { value, count: i }

@@ -16,7 +16,7 @@ fn smaller(a: usize, b: usize) -> usize
     b
 }
 
-// How many of some bytes are from a place on.
+// How many bytes there are from a place on.
 fn behind(bytes: usize, place: usize) -> usize
     ensures { λ r. ⌜ r ≡ bytes - place ⌝ }
 {

@@ -1,4 +1,4 @@
--- Where reading a definition line failed, and what is told of it (docs/RULES.md, R10).
+-- Where reading a definition line failed, and the refusal for it (docs/RULES.md, R10).
 use Prim.Native.Nat.{ℕ, zero, suc}
 use mathlib.Core.Path.{_≡_, refl, sym, _∙_}
 use mathlib.Core.List.{List, [], _∷_}

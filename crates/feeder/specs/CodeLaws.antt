@@ -31,7 +31,7 @@ use Rattle.record.specs.declared.Record.{Record}
 use Rattle.record.specs.declared.Offset.{Offset}
 use Rattle.record.specs.Place.{placeOf}
 use Rattle.walking.specs.Places.{firstElsewhere}
-use Rattle.walking.specs.Walk.{walkRow, LineJudged, judged-there, judged-crosses, judged-elsewhere}
+use Rattle.walking.specs.Walk.{walkStride, LineJudged, judged-there, judged-crosses, judged-elsewhere}
 use Rattle.walking.specs.declared.Placed.the-variants.{There, Elsewhere}
 use Rattle.fitting.specs.declared.Numbers.{Numbers}
 use Rattle.fitting.specs.Complete.{placeBy}
@@ -183,33 +183,33 @@ module _ (n : Numbers) (k at : ℕ) where
 
 -- some bases from an offset on, behind k others
 module _ (n : Numbers) (k at b : ℕ) (s : 0 < n .bases) (a : n .bases < n .width) (z : 0 < b) (m : at + b < 2 ^ 62) (t : Bool) (q : t ≡ eqb at (placeBy n k)) where
-  same : t ≡ eqb at (walkRow (n .position) (n .bases) (n .width) k .start .0 + walkRow (n .position) (n .bases) (n .width) k .passed)
-  unfolding walkRow placeOf
+  same : t ≡ eqb at (walkStride (n .position) (n .bases) (n .width) k .start .0 + walkStride (n .position) (n .bases) (n .width) k .passed)
+  unfolding walkStride placeOf
   same = q ∙ go (eqb at (placeBy n k)) refl
     where
       go : (t : Bool) → eqb at (placeBy n k) ≡ t → t ≡ eqb at (min (n .position + k / n .bases * n .width) (2 ^ 64 - 1) + k % n .bases)
       go true e = sym (eq-eqb at _ (omega (arith, eqb-true at _ e)))
       go false e = sym (ne-eqb at _ (λ x. eqb-false at _ e (omega arith)))
 
-  inside : walkRow (n .position) (n .bases) (n .width) k .passed < n .bases
-  unfolding walkRow
+  inside : walkStride (n .position) (n .bases) (n .width) k .passed < n .bases
+  unfolding walkStride
   inside = mod-lt k s
 
   pub bases-there : t ≡ true → b ≤ n .bases - k % n .bases → There ≡ firstElsewhere (placeBy n) k (upFrom at b)
   bases-there h l =
-      judged-there (walkRow (n .position) (n .bases) (n .width) k) (n .bases) k (record { 0 = at }) b (omega arith) (λ e. omega arith) inside t same h (unfold walkRow in l)
+      judged-there (walkStride (n .position) (n .bases) (n .width) k) (n .bases) k (record { 0 = at }) b (omega arith) (λ e. omega arith) inside t same h (unfold walkStride in l)
       .says (n .position) (n .width) refl (λ e. absurd (omega arith))
 
   pub bases-cross : t ≡ true → n .bases - k % n .bases < b
       → Elsewhere (record { 0 = k + (n .bases - k % n .bases) + 1 }) (record { 0 = at + (n .bases - k % n .bases) }) ≡ firstElsewhere (placeBy n) k (upFrom at b)
-  unfolding walkRow
+  unfolding walkStride
   bases-cross h l =
-      judged-crosses (walkRow (n .position) (n .bases) (n .width) k) (n .bases) k (record { 0 = at }) b (omega arith) (λ e. omega arith) inside t same h l
+      judged-crosses (walkStride (n .position) (n .bases) (n .width) k) (n .bases) k (record { 0 = at }) b (omega arith) (λ e. omega arith) inside t same h l
       .says (n .position) (n .width) refl (λ e. absurd (omega arith))
 
   pub bases-elsewhere : t ≡ false → Elsewhere (record { 0 = k + 1 }) (record { 0 = at }) ≡ firstElsewhere (placeBy n) k (upFrom at b)
   bases-elsewhere h =
-      judged-elsewhere (walkRow (n .position) (n .bases) (n .width) k) (n .bases) k (record { 0 = at }) b (omega arith) (λ e. omega arith) inside t same h
+      judged-elsewhere (walkStride (n .position) (n .bases) (n .width) k) (n .bases) k (record { 0 = at }) b (omega arith) (λ e. omega arith) inside t same h
       .says (n .position) (n .width) refl (λ e. absurd (omega arith))
 
 -- ---- a row that is stored

@@ -161,7 +161,7 @@ good-leads n os h = go (firstElsewhere (placeBy n) 0 os) (places-said (placeBy n
 
 -- ---- what refusal 42 means
 
--- base j + 1 of a sequence is told, with its offset: the rule's numbers lead to all before it, and no numbers lead to it and those before it
+-- the refusal has base j + 1 of a sequence, with its offset: the rule's numbers lead to all before it, and no numbers lead to it and those before it
 pub data Misfit (start : ℕ) (ls : List (List ℕ)) : Refusal → Type 0 where
   misfit : {offset base : ℕ} → (j : ℕ) → base ≡ suc j → j < length (basesAt start ls) → offset ≡ getD (basesAt start ls) j 0
       → LeadsFirst j (numbersAt start ls) (basesAt start ls) → ((n : Numbers) → 0 < n .bases → LeadsFirst (suc j) n (basesAt start ls) → ⊥)

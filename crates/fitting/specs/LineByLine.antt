@@ -51,7 +51,7 @@ unfoldable pub takeLines : SoFar → ℕ → List (List ℕ) → SoFar
 takeLines t at [] = t
 takeLines t at (l ∷ ls) = takeLines (takeLine t at (length l) (length (basesOf l))) (at + length l) ls
 
--- what it tells of a sequence that begins at an offset
+-- its answer for a sequence that begins at an offset
 abbrev pub numbersTold : ℕ → SoFar → Numbers
 numbersTold start blank = record { position = start; bases = 1; width = 2 }
 numbersTold start (run p b line) = record { position = p; bases = b; width = line }
@@ -122,7 +122,7 @@ pub all-terminated : (s : List ℕ) (ls : List (List ℕ)) (at : ℕ) → at ≤
 all-terminated s [] at h e = no-line
 all-terminated s (l ∷ ls) at h e = one-more (rw e at (terminated-here s at h)) (all-terminated s ls (at + length l) (rw e at (first-within s at h)) (rw e at (seqAt-next s at h)))
 
--- what is told is what the rule says
+-- its answer is what the rule says
 pub record Told (start at : ℕ) (ls : List (List ℕ)) (t : SoFar) : Type 0 where
   pub numbers : numbersTold start t ≡ numbersFor start (firstLine (fromBases ls) .width) (basesAt at ls)
   pub verdict : verdictTold t ≡ placesSay (firstElsewhere (placeBy (numbersTold start t)) 0 (basesAt at ls))

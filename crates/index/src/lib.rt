@@ -95,7 +95,7 @@ pub fn read_index(text: &[u8], table: &mut [u64]) -> Filled
     read_rows(text, table)
 }
 
-// Is a record's name, a span of `names`, the name looked for.
+// Does a record, whose name is a span of `names`, have the wanted name.
 fn is_named(names: &[u8], x: Record, name: &[u8]) -> bool
     requires { ⌜ x .«name_start» + x .«name_length» ≤ length (now names) ⌝ }
     ensures { λ r. ⌜ r ≡ named (now (names .entry)) x (now (name .entry)) ⌝ }

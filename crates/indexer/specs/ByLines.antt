@@ -1,4 +1,4 @@
--- The indexer as a machine over lines. Each line is told whether its sequence ends behind it: the next byte is '>', or the file ends. Over
+-- The indexer as a machine over lines. With each line comes whether its sequence ends behind it: the next byte is '>', or the file ends. Over
 -- the lines of a whole file it finds what indexing the file finds: `by-lines`. So fed with a file in any pieces it finds the same: `by-pieces`.
 use Prim.Native.Nat.{ℕ, zero, suc, _+_}
 use mathlib.Core.Path.{_≡_, refl, ap, sym, _∙_}

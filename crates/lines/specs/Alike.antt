@@ -14,21 +14,21 @@ use Rattle.lines.specs.Lines.{part, lineLen, lineEnd, ends, basesOf, seq
 use Rattle.lines.specs.Laws.{lineLen-pos, lineEnd-le, part-length, seqAt-end, some-line, first-within, seqAt-next}
 use Rattle.lines.specs.declared.Line.{Line}
 
--- is a line ended by an LF, with the width and the bases of x
+-- is a line like x: it ends in LF, and has the width and the bases of x
 unfoldable pub isLike : Line → List ℕ → Bool
 isLike x l = ends 10 l && eqb (length l) (x .width) && eqb (length (basesOf l)) (x .bases)
 
--- is the first of some lines so; none is where there is no line
+-- is there a first line, and is it like x
 unfoldable pub firstLike : Line → List (List ℕ) → Bool
 firstLike x [] = false
 firstLike x (l ∷ ls) = isLike x l
 
--- how many of some lines are so, up to the first that is not
+-- how many of some lines are like x, up to the first that is not
 unfoldable pub alike : Line → List (List ℕ) → ℕ
 alike x [] = 0
 alike x (l ∷ ls) = cond (isLike x l) (suc (alike x ls)) 0
 
--- ---- a line that is so, and those behind it
+-- ---- a line like x, and the lines behind it
 
 pub both-left : (a b : Bool) → (a && b) ≡ true → a ≡ true
 both-left true b e = refl
@@ -81,7 +81,7 @@ alike-next s x at h t = alike-on x (seqAt s at) t ∙ ap (λ (ls : List (List �
 
 -- ---- from line to line
 
--- a line of a file that is so: where it is, and that the others are behind it
+-- a line of a file that is like x: where it is, and that the others are behind it
 pub record LineLike (s : List ℕ) (x : Line) (i : ℕ) (l : List ℕ) : Type 0 where
   pub here : seqAt s i ≡ l ∷ seqAt s (i + x .width)
   pub like : isLike x l ≡ true
@@ -127,7 +127,7 @@ module _ (s : List ℕ) (x : Line) where
 pub alike-within : (s : List ℕ) (x : Line) (at : ℕ) → at ≤ length s → at + alike x (seqAt s at) * x .width ≤ length s
 alike-within s x at h = alike-passes s x (λ k i. i ≤ length s) (λ k i l y p. y .within) at h h
 
--- and the line behind them is not so
+-- and the line behind them is not like x
 unlike : (x : Line) (ls : List (List ℕ)) → alike x ls ≡ 0 → firstLike x ls ≡ false
 unfolding alike firstLike
 unlike x [] e = refl

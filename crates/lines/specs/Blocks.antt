@@ -1,4 +1,4 @@
--- Whether there is an LF among some bytes, told by blocks of them: two blocks are looked at together, and they may overlap.
+-- Whether there is an LF among some bytes, by blocks of them: a test takes two blocks at once, which may overlap.
 use Prim.Native.Nat.{ℕ, _+_, _-_, _≤_, _<_}
 use mathlib.Core.Path.{_≡_, refl, sym, _∙_}
 use mathlib.Core.List.{List, [], _∷_, _++_}
@@ -59,7 +59,7 @@ either-more s p q k any h m e =
 lf-row : (s : List ℕ) (at a b : ℕ) → hasLf (take (a + b) (drop at s)) ≡ (hasLf (take a (drop at s)) || hasLf (take b (drop (at + a) s)))
 lf-row s at a b = rw (← drop-drop a at s, take-add a b (drop at s)) (lf-append (take a (drop at s)) (take b (drop a (drop at s))))
 
--- the first m of n bytes and the last m are all of them
+-- the first m of n bytes and the last m cover all of them
 pub either-all : (s : List ℕ) (at m n : ℕ) → m ≤ n → n ≤ m + m → lfInEither s at (at + (n - m)) m ≡ hasLf (take n (drop at s))
 unfolding lfInEither
 either-all s at m n h k = go (n - m) (m + m - n) (omega arith) (omega arith) (omega arith)
@@ -79,7 +79,7 @@ pub either-row : (s : List ℕ) (p m : ℕ) → lfInEither s p (p + m) m ≡ has
 unfolding lfInEither
 either-row s p m = sym (lf-row s p m m)
 
--- ---- many bytes, block by block: k of the n are looked at, then m more
+-- ---- many bytes, block by block: k of the n are tested, then m more
 
 module _ (s : List ℕ) (at n k m : ℕ) where
   pub blocks-hit : k + m ≤ n → hasLf (take m (drop (at + k) s)) ≡ true → true ≡ hasLf (take n (drop at s))

@@ -1,4 +1,4 @@
--- Where the first LF is among some bytes, told by how many of them are left at it: of all LFs the first has most left.
+-- Where the first LF is among some bytes, by how many of them are left at it: the first LF has the most left.
 use Prim.Native.Nat.{ℕ, zero, suc, _+_, _-_, _≤_, _<_, max}
 use mathlib.Core.Path.{_≡_, refl, ap, sym, _∙_}
 use mathlib.Core.List.{List, [], _∷_, _++_}

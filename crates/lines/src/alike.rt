@@ -10,7 +10,7 @@ ghost use Rattle.lines.specs.Alike.{firstLike, alike};
 ghost use Rattle.lines.specs.Clear.{hasLf};
 ghost use Rattle.lines.specs.Blocks.{lfInEither};
 
-// Is one of the 16 bytes from `p` on, or of the 16 from `q` on, an LF. The loop never stops early, so the compiler looks at all of them
+// Is there an LF among the 16 bytes from `p` on or the 16 from `q` on. The loop never stops early, so the compiler looks at all of them
 // at once. That needs a block of constant size, and Rattle has no generics: hence one function, and one proof, for each of three sizes.
 fn lf_in_either_16(s: &[u8], p: usize, q: usize) -> bool
     requires { ⌜ (p + 16 ≤ length (now s)) × (q + 16 ≤ length (now s)) ⌝ }
@@ -23,7 +23,7 @@ fn lf_in_either_16(s: &[u8], p: usize, q: usize) -> bool
     any
 }
 
-// Is one of the 32 bytes from `p` on, or of the 32 from `q` on, an LF.
+// Is there an LF among the 32 bytes from `p` on or the 32 from `q` on.
 fn lf_in_either_32(s: &[u8], p: usize, q: usize) -> bool
     requires { ⌜ (p + 32 ≤ length (now s)) × (q + 32 ≤ length (now s)) ⌝ }
     ensures { λ r. ⌜ r ≡ lfInEither (now (s .entry)) p q 32 ⌝ }
@@ -35,7 +35,7 @@ fn lf_in_either_32(s: &[u8], p: usize, q: usize) -> bool
     any
 }
 
-// Is one of the 64 bytes from `p` on, or of the 64 from `q` on, an LF.
+// Is there an LF among the 64 bytes from `p` on or the 64 from `q` on.
 fn lf_in_either_64(s: &[u8], p: usize, q: usize) -> bool
     requires { ⌜ (p + 64 ≤ length (now s)) × (q + 64 ≤ length (now s)) ⌝ }
     ensures { λ r. ⌜ r ≡ lfInEither (now (s .entry)) p q 64 ⌝ }
@@ -47,7 +47,7 @@ fn lf_in_either_64(s: &[u8], p: usize, q: usize) -> bool
     any
 }
 
-// Is one of the `n` bytes from `at` on an LF: byte by byte.
+// Is there an LF among the `n` bytes from `at` on: byte by byte.
 fn lf_among_few(s: &[u8], at: usize, n: usize) -> bool
     requires { ⌜ at + n ≤ length (now s) ⌝ }
     ensures { λ r. ⌜ r ≡ hasLf (take n (drop at (now (s .entry)))) ⌝ }
@@ -62,7 +62,7 @@ fn lf_among_few(s: &[u8], at: usize, n: usize) -> bool
     false
 }
 
-// Is one of the `n` bytes from `at` on an LF, where there are 128 at least: by blocks of 128, the last of which ends where they end.
+// Is there an LF among the `n` bytes from `at` on, which are at least 128: by blocks of 128, the last of which ends where they end.
 fn lf_among_many(s: &[u8], at: usize, n: usize) -> bool
     requires { ⌜ (128 ≤ n) × (at + n ≤ length (now s)) ⌝ }
     ensures { λ r. ⌜ r ≡ hasLf (take n (drop at (now (s .entry)))) ⌝ }
@@ -79,7 +79,7 @@ fn lf_among_many(s: &[u8], at: usize, n: usize) -> bool
     lf_in_either_64(s, q, q + 64)
 }
 
-// Is one of the `n` bytes from `at` on an LF. Two overlapping blocks cover every byte.
+// Is there an LF among the `n` bytes from `at` on. Two overlapping blocks cover every byte.
 fn lf_within(s: &[u8], at: usize, n: usize) -> bool
     requires { ⌜ at + n ≤ length (now s) ⌝ }
     ensures { λ r. ⌜ r ≡ hasLf (take n (drop at (now (s .entry)))) ⌝ }
@@ -99,7 +99,7 @@ fn lf_within(s: &[u8], at: usize, n: usize) -> bool
     lf_among_many(s, at, n)
 }
 
-// Is the sequence line at `at` ended by an LF, with the width and the bases of `like`: it is looked for where its end should be.
+// Does the sequence line at `at` end in LF, with the width and the bases of `like`. It looks where the end should be.
 fn is_like(s: &[u8], at: usize, like: Line) -> bool
     requires { ⌜ (at ≤ length (now s)) × (0 < like .width) ⌝ }
     ensures { λ r. ⌜ r ≡ firstLike like (seqAt (now (s .entry)) at) ⌝ }
@@ -120,7 +120,7 @@ fn is_like(s: &[u8], at: usize, like: Line) -> bool
     crate::chopped(&s[at..last], b'\r') == like.bases
 }
 
-// How many sequence lines from `at` on are ended by an LF, with the width and the bases of `like`, up to the first that is not.
+// How many sequence lines from `at` on end in LF with the width and the bases of `like`, up to the first that does not.
 pub fn lines_like(s: &[u8], at: usize, like: Line) -> usize
     ensures { λ r. ⌜ r ≡ alike like (seqAt (now (s .entry)) at) ⌝ }
 {

@@ -36,7 +36,7 @@ fn left_at_lf(s: &[u8], i: usize) -> usize
     left as usize
 }
 
-// Is one of the 64 bytes from `i` on an LF.
+// Is there an LF among the 64 bytes from `i` on.
 fn lf_in_64(s: &[u8], i: usize) -> bool
     requires { ⌜ i + 64 ≤ length (now s) ⌝ }
     ensures { λ r. ⌜ r ≡ hasLf (take 64 (drop i (now (s .entry)))) ⌝ }

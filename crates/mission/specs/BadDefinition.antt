@@ -1,6 +1,6 @@
 -- What the indexers tell of a definition line that does not read, by either rule: the offset at which reading failed, which is the start of that
 -- record's definition line plus the place in it. The record is the one behind the rows that are held. `bad-told`: where its definition line does
--- not read, that is told. `told-bad`: where 2, 3 or 4 is told, it is so. `bad-record-told` says it of the record at an offset.
+-- not read, the answer is its refusal. `told-bad`: an answer 2, 3 or 4 means that. `bad-record-told` says it of the record at an offset.
 use Prim.Native.Nat.{ℕ, zero, suc, _+_, _≤_, _<_}
 use mathlib.Core.Path.{_≡_, refl, sym, ap, _∙_}
 use mathlib.Core.List.{List, [], _∷_}
@@ -100,7 +100,7 @@ module _ (rule : SequenceRule) where
       go f (a-fault e n) k h b m = omega arith
       go f (a-sequence d x n j) k h b m = omega arith
 
-  -- the group behind the rows: if its definition line does not read, that is told
+  -- the group behind the rows: if its definition line does not read, that is the answer
   groups-bad : (gs : List Group) (at r : ℕ) (e : Fault) → length (groupsBy rule gs at .rows) ≡ r → r < length gs → definitionSays (recordAt gs r .def) ≡ Bad e
       → groupsBy rule gs at .stop ≡ stop.Refused (refusalAt e (at + definitionAt gs r))
   unfolding groupsBy
@@ -118,7 +118,7 @@ module _ (rule : SequenceRule) where
       go f (a-sequence d x m j) zero n h b k = let z : _≡_ {A = ℕ} 0 1 = cc in absurd (omega arith)
       go f (a-sequence d x m j) (suc r) n h b k = absurd (omega arith)
 
-  -- and where the rule refuses lines with other numbers, 2 to 4 are told of such a line alone
+  -- and if the rule refuses lines with other numbers, only such a line gives 2 to 4
   record Told (gs : List Group) (at r : ℕ) (x : Refusal) : Type 0 where
     fault : Fault
     here : r < length gs

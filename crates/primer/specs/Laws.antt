@@ -60,7 +60,7 @@ module _ (ps : List ℕ) where
   unfolding lettersJudged
   letters-end i h inv = rw (← inv, drop-of-length-le ps h)
 
--- ---- what is told, past the size limit
+-- ---- the answer, past the size limit
 
 module _ (ps : List ℕ) where
   pub degeneracy-over : overLimit (length ps) ≡ true → counted.Refused TooLong ≡ degeneracyRead ps

@@ -1,4 +1,4 @@
--- Of the calls: the place that is told is the first that matches; none is told exactly if none matches; each refusal is given exactly in
+-- Of the calls: the answer is the first place that matches; it is none exactly if no place matches; each refusal is given exactly in
 -- its case, the sizes before the primer's length, and that before its letters.
 use Prim.Native.Nat.{ℕ, _+_, _≤_, _<_}
 use mathlib.Core.Path.{_≡_}

@@ -23,7 +23,7 @@ pub struct Record {
     pub description_length: u64,
 }
 
-// Where a base lies; or nowhere, where no 64-bit offset is its own.
+// Where a base lies: `Nowhere` if the offset does not fit in 64 bits.
 pub enum Address {
     At(Offset),
     Nowhere,

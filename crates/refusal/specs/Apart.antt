@@ -1,4 +1,4 @@
--- What a host is told of a refusal tells it apart: from an accepted call, since no refusal's number is 0; and from every other refusal.
+-- What a host sees of a refusal is enough to know it: no refusal's number is 0, which an accepted call has, and no two refusals look the same.
 use Prim.Native.Nat.{ℕ, _≤_}
 use mathlib.Core.Path.{_≡_, refl, sym, ap, _∙_}
 use mathlib.Core.List.{List, [], _∷_}
@@ -120,6 +120,6 @@ never-zero x = told x .0
 pub case-by-number : (x : Refusal) → x ≡ caseOf (numbersOf x .refusal) (numbersOf x .first) (numbersOf x .second)
 case-by-number x = told x .1
 
--- refusals that are told alike are the same, so different refusals are told differently
+-- two refusals that a host sees alike are the same
 pub told-apart : (x y : Refusal) → numbersOf x ≡ numbersOf y → x ≡ y
 told-apart x y e = case-by-number x ∙ (ap (λ (n : Numbers). caseOf (n .refusal) (n .first) (n .second)) e ∙ sym (case-by-number y))

@@ -1,5 +1,5 @@
 // Why a call is refused: a case for each refusal (docs/RULES.md, R2), in words. Every promise of the project speaks of these cases.
-// `numbers` gives what a host is told of one: its number, and its two numbers, 0 where none is named.
+// `numbers` gives what a host sees of one: its number, and its two numbers, 0 where the refusal has none.
 ghost use mathlib.Core.Path.{_≡_};
 ghost use Rattle.refusal.specs.Numbers.{numbersOf, overLimit};
 
@@ -50,7 +50,7 @@ pub enum Refusal {
     NoIndexFits { offset: u64, base: u64 },
 }
 
-// A refusal as a host is told it.
+// A refusal as a host sees it.
 pub struct Numbers {
     pub refusal: u64,
     pub first: u64,

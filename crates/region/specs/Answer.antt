@@ -1,4 +1,4 @@
--- What the exact read answers, by numbers alone: for a file of so many bytes and so much room. No byte is looked at.
+-- What the exact read answers, by numbers alone: for a file of so many bytes and so much room. It reads no byte.
 use Prim.Native.Nat.{ℕ, _≤_}
 use mathlib.Core.Path.{_≡_, refl, ap, sym, _∙_}
 use mathlib.Core.List.{List, [], _∷_, _++_, map}

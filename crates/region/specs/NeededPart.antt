@@ -1,6 +1,6 @@
 -- What is promised of the part of a file that a region needs (C4).
 --
--- `needed-known`: a part that is told has every needed byte, no smaller one has, and it is inside the file. A region that can be read has a
+-- `needed-known`: the part that is the answer has every needed byte, no smaller one has, and it is inside the file. A region that can be read has a
 -- base or more, so it is never empty.
 --
 -- `needed-reads`: with that part of a file as its window, the window read leaves what the exact read of the whole file leaves, and
@@ -41,7 +41,7 @@ use Rattle.region.specs.Seen.{Needs, Covers}
 use Rattle.region.specs.SeenLaws.{region-one, region-base, base-region, region-needs}
 use Rattle.region.specs.Windowed.{window-whole}
 
--- what is known of a part that is told for a region of a file of so many bytes, and so much room
+-- what is known of a part that is the answer for a region of a file of so many bytes, and so much room
 pub record Told (bytes room : ℕ) (h : Held) (a e : Bound) (part : Part) : Type 0 where
   pub known : overLimit bytes ≡ false
   pub row : Record
@@ -137,7 +137,7 @@ module _ (bytes room : ℕ) (h : Held) (a e : Bound) where
       go false l (held.Row x) c v = told-by x part l c _ refl v
 
 module _ (s : List ℕ) (h : Held) (a e : Bound) (out : List ℕ) where
-  -- ---- a part is told: it is read
+  -- ---- the answer is a part: it is read
 
   module _ (part : Part) (q : neededHeld (length s) (length out) h a e ≡ needed.Bytes part) where
     pub needed-reads : windowHeld (length s) (take (part .to .0 - part .from .0) (drop (part .from .0) s)) (part .from .0) h a e out ≡ exactHeld s h a e out
@@ -152,7 +152,7 @@ module _ (s : List ℕ) (h : Held) (a e : Bound) (out : List ℕ) where
         let g = exact-gives (needed-known (length s) (length out) h a e part q) in
         (g .0, ap (λ (o : Outcome Written). o .answer) needed-reads ∙ g .1)
 
-  -- ---- a refusal is told: it is the exact read's
+  -- ---- the answer is a refusal: it is the exact read's
 
   refused-by : (x : Record) (g : Refusal) (j : Judged) → regionJudged (length s) x (startOf a) (endOf (x .length) e) (length out) ≡ j → neededBy x (startOf a) j ≡ needed.Refused g
       → exactIn (length s) (byteAt s) (held.Row x) a e out ≡ refuses g out

@@ -1,5 +1,5 @@
 -- The raw read, which is the port of `Reader::query`: a scan from where the region's first base lies, by the scanning rule. The
--- record's length is not looked at, so a read may run into the next record, and give bytes of its definition line.
+-- record's length does not matter, so a read may run into the next record, and give bytes of its definition line.
 use Prim.Native.Nat.{ℕ}
 use mathlib.Core.List.{List}
 use mathlib.Core.Bool.{cond}
@@ -24,7 +24,7 @@ unfoldable pub scanTo : List ℕ → ℕ → ℕ → Bound → Scan
 scanTo s at a (Given e) = scanAt s (basesTo a (e .0)) at
 scanTo s at a Absent = scanAll s at
 
--- the scan from where base a lies: 18 where no offset of 64 bits is its own
+-- the scan from where base a lies: 18 if its offset does not fit in 64 bits
 unfoldable pub rawAt : List ℕ → Address → ℕ → Bound → List ℕ → Outcome Written
 rawAt s Nowhere a e out = refuses (NotInFile a) out
 rawAt s (At o) a e out = pours (scanTo s (o .0) a e .bases) out

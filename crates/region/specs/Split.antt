@@ -4,7 +4,7 @@
 -- `split-equals-exact`, `split-equals-raw`: for lent bytes within the limit, `index::find` (`rowRead`) and then the read of the row that it gives
 -- (`exactRead`, `rawRead`) answer together as the one call did: 25 or 15 from the first, all else from the second.
 --
--- `missing-name`: what changed. A name that no row has is told before a file that is too long, of which the one call told 1 (`long-file-exact`,
+-- `missing-name`: what changed. A name that no row has is refused before a file that is too long, for which the one call gave 1 (`long-file-exact`,
 -- `long-file-raw`).
 use Prim.Native.Nat.{ℕ}
 use mathlib.Core.Path.{_≡_}
@@ -35,7 +35,7 @@ module _ (s names t : List ℕ) (u : ℕ) (name : List ℕ) (a e : Bound) (out :
 
   -- ---- what changed
 
-  -- of a file that is too long the one call told 1, whatever the name. Now the second call tells it, for any row
+  -- for a file that is too long the one call gave 1, whatever the name. Now the second call gives it, for any row
   module _ (long : overLimit (length s) ≡ true) where
     pub long-file-exact : (exactNamed s names t u name a e out ≡ refuses TooLong out) × ((r : ℕ) → exactRead s t u r a e out ≡ refuses TooLong out)
     unfolding exactNamed readFound rowFor exactRead exactHeld
@@ -45,7 +45,7 @@ module _ (s names t : List ℕ) (u : ℕ) (name : List ℕ) (a e : Bound) (out :
     unfolding rawNamed readFound rowFor rawRead rawHeld
     long-file-raw = (rw long, λ r. rw long)
 
-  -- and the first tells of the name before, since no file is lent to it: here of a name that no row has, for no row is in use
+  -- and the first refuses the name before that, since no file is lent to it: here a name that no row has, for no row is in use
   pub missing-name : overLimit (length names) ≡ false → overLimit (length name) ≡ false → rowRead names t 0 name ≡ found.Refused NameUnknown
   unfolding rowRead rowNamed rowFrom
   missing-name h k = rw (h, k)

@@ -164,7 +164,7 @@ fn judge_bases(bytes: usize, x: Record, first: Position, last: Position, room: u
     judge_line(bytes, x, first, n)
 }
 
-// Judges a region of a record, by bounds that are not bad, for a file of so many bytes and so much room: no byte is looked at.
+// Judges a region of a record, by bounds that are not bad, for a file of so many bytes and so much room. It reads no byte.
 pub(crate) fn judge_region(bytes: usize, x: Record, start: Bound, end: Bound, room: usize) -> Judged
     requires { ⌜ (0 < x .«line_bases») × (0 < x .«line_width») × (badBounds start end ≡ false) ⌝ }
     ensures { λ r. ⌜ r ≡ regionJudged bytes x (startOf start) (endOf (x .length) end) room ⌝ }

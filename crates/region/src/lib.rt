@@ -4,13 +4,13 @@
 // short; 18, a base that is not in the file, the first of them.
 // The raw read scans from where the first base lies, and does not look at the record's length: it may run into the next record,
 // and give bytes of its definition line. It refuses 1, 16, 25, 18 where the first base's offset is over 64 bits, and 14.
-// The window read is the exact read where only some bytes of a file are at hand: it is told the file's length, and the offset where they
+// The window read is the exact read where only some bytes of a file are at hand: it takes the file's length, and the offset where they
 // begin. It refuses 1, also for a stated length; 35, a window that passes the stated length; then as the exact read for a file of that
 // length; and 34, a base that is in the file and not in the window, the first of them. `needed_bytes` tells which bytes a region needs: the
 // smallest part of the file that has them, or the refusal that the exact read would give.
 // All are by row. Whoever has a name looks its row up first, once for all regions of it, with `index::find`: specs/Split.antt has what the
 // two calls say together.
-// A refusal leaves the output as it was, and so stay the bytes behind an answer.
+// A refusal leaves the output as it was. The bytes behind an answer stay too.
 pub mod answer;
 mod bounds;
 mod exact;

@@ -1,5 +1,5 @@
 // Whether an answer is the one that the original gave: its numbers are held against those that the list tells, of which the first
-// three are the refusal and its numbers. A number behind those that are told agrees with any.
+// three are the refusal and its numbers. A number behind those that an answer has agrees with any.
 use crate::list::number_at;
 use std::num::wrapping_add_usize;
 use wakeluri::answer::Answer;
@@ -7,7 +7,7 @@ use wakeluri::answer::DefinitionAnswer;
 use wakeluri::answer::RowAnswer;
 use wakeluri::answer::SpanAnswer;
 
-// A number that is told at a place.
+// The number of an answer at a place.
 fn number(told: &[u8], at: usize, n: u64) -> bool {
     if told.len() <= at {
         return true;

@@ -87,7 +87,7 @@ pub fn lent(record: &[u8]) -> &[u8] {
     part_at(record, 8)
 }
 
-// The same afterwards, where it is told.
+// The same afterwards, if the answer has it.
 pub fn left(record: &[u8]) -> &[u8] {
     part_at(record, 10)
 }

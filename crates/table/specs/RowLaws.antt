@@ -266,7 +266,7 @@ held-of (used.Row r y) x e = go (eqb (y .«line_bases») 0) refl (eqb (y .«line
         let nw : y .«line_width» ≢ 0 = eqb-false _ _ w in
         rw (← m) (record { row = r; is = refl; some-bases = omega arith; some-width = omega arith })
 
--- where its name is looked at, step by step
+-- for a call that uses its name, step by step
 module _ (bytes : ℕ) (u : InUse) where
   pub named-none : (f : Refusal) → u ≡ used.Refused f → held.Refused f ≡ namedOf bytes u
   unfolding namedOf
@@ -346,7 +346,7 @@ module _ (t : List ℕ) (n r : ℕ) where
       let k = used-known (h .row) x (h .is) in
       record { in-table = k .0; in-use = k .1; numbers = k .2; some-bases = h .some-bases; some-width = h .some-width }
 
-  -- where the name is looked at
+  -- for a call that uses the name
   module _ (bytes : ℕ) where
     pub named-row : (x : Record) → heldAt t n r ≡ held.Row x → namedAt t n r bytes ≡ namedIn bytes r (held.Row x)
     unfolding heldAt namedAt usedAt heldOf namedOf

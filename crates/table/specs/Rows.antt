@@ -87,7 +87,7 @@ namedIn bytes r (held.Row x) =
     cond (ltb bytes (x .«name_start» + x .«name_length»)) (badRow r) (cond (ltb bytes (x .«description_start» + x .«description_length»)) (badRow r) (held.Row x))
 namedIn bytes r (held.Refused f) = held.Refused f
 
--- what a row in use holds, where its name is looked at
+-- what a row in use holds, for a call that uses its name
 unfoldable pub namedOf : ℕ → InUse → Held
 namedOf bytes (used.Row r x) = namedIn bytes r (soundRow r x)
 namedOf bytes (used.Refused f) = held.Refused f

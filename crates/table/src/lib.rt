@@ -1,7 +1,7 @@
 // The rows of a lent table. A table is numbers, `WORDS` of them to a row, or bytes, eight to a number, low byte first (the module
-// `bytes`); what is left of a last part of a row is ignored and stays. Here alone it is known how many numbers a row has. A row is read as
+// `bytes`); a part of a row at the end is ignored and stays. Only this crate knows how many numbers a row has. A row is read as
 // a row in use, which is then judged: 25 refuses a row that is not in use or not in the table, one with line bases or line width 0, and,
-// where names are looked at, a name or a description outside their bytes. A good record that finds no free row is refused (8). A table is
+// in calls that use names, a name or a description outside their bytes. A good record that finds no free row is refused (8). A table is
 // filled from its first row on: the rows before a refusal stand, and what is behind them stays as it was.
 pub mod bytes;
 pub mod numbers;
@@ -158,7 +158,7 @@ impl InUse {
         }
     }
 
-    // The same where its name is looked at: it and the description are spans of `bytes` bytes.
+    // The same for a call that uses its name: name and description are spans of `bytes` bytes.
     pub fn named(self, bytes: usize) -> Held
         ensures { λ r. ⌜ r ≡ namedOf bytes self ⌝ }
     {

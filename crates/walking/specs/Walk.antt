@@ -1,4 +1,4 @@
--- The walk over a sequence beside the rows of an index line, and its laws.
+-- The walk over a sequence beside the strides of an index line, and its laws.
 use Prim.Native.Nat.{ℕ, suc, _+_, _-_, _*_, _/_, _%_, _^_, _≤_, _<_, min}
 use mathlib.Core.Path.{_≡_, refl, ap, sym, _∙_}
 use mathlib.Core.List.{List, [], _∷_, _++_, append-nil, append-assoc}
@@ -22,35 +22,35 @@ use Rattle.lines.specs.Sums.{bases-within}
 use Rattle.walking.specs.PlaceLaws.{all-there, first-elsewhere, elsewhere-append, walked-same}
 use Rattle.walking.specs.declared.Placed.{Placed}
 use Rattle.walking.specs.declared.Placed.the-variants.{There, Elsewhere}
-use Rattle.walking.specs.declared.Row.{Row}
+use Rattle.walking.specs.declared.Stride.{Stride}
 use Rattle.walking.specs.declared.Walk.{Walk}
 
--- the row of base number i + 1, by position p, line bases b and line width w
-unfoldable pub walkRow : ℕ → ℕ → ℕ → ℕ → Row
-walkRow p b w i = record { start = record { 0 = min (p + i / b * w) (2 ^ 64 - 1) }; passed = i % b }
+-- the stride of base number i + 1, by position p, line bases b and line width w
+unfoldable pub walkStride : ℕ → ℕ → ℕ → ℕ → Stride
+walkStride p b w i = record { start = record { 0 = min (p + i / b * w) (2 ^ 64 - 1) }; passed = i % b }
 
 -- a walk over bases at some offsets
 pub record Walking (p b w : ℕ) (os : List ℕ) (v : Walk) : Type 0 where
   pub bases : v .bases ≡ length os
   pub placed : v .placed ≡ firstElsewhere (placeOf p b w) 0 os
-  pub row : v .placed ≡ There → v .row ≡ walkRow p b w (length os)
-  pub inside : v .row .passed < b
+  pub stride : v .placed ≡ There → v .stride ≡ walkStride p b w (length os)
+  pub inside : v .stride .passed < b
 
--- what a line's k bases from an offset on are, behind i others and beside the row of the first, by position p and line width w
-pub record LineJudged (row : Row) (b i : ℕ) (at : Offset) (k : ℕ) (said : Placed) : Type 0 where
-  pub says : (p w : ℕ) → row ≡ walkRow p b w i → (w ≡ b → i + k ≤ b) → said ≡ firstElsewhere (placeOf p b w) i (upFrom (at .0) k)
-  pub within : said ≡ There → row .passed + k ≤ b
+-- what a line's k bases from an offset on are, behind i others and beside the stride of the first, by position p and line width w
+pub record LineJudged (stride : Stride) (b i : ℕ) (at : Offset) (k : ℕ) (said : Placed) : Type 0 where
+  pub says : (p w : ℕ) → stride ≡ walkStride p b w i → (w ≡ b → i + k ≤ b) → said ≡ firstElsewhere (placeOf p b w) i (upFrom (at .0) k)
+  pub within : said ≡ There → stride .passed + k ≤ b
 
--- the row behind k bases that end in this row
-pub record MovedOn (row : Row) (b w k : ℕ) (next : Row) : Type 0 where
+-- the stride behind k bases that end in this stride
+pub record MovedOn (stride : Stride) (b w k : ℕ) (next : Stride) : Type 0 where
   pub inside : next .passed < b
-  pub behind : (p i : ℕ) → row ≡ walkRow p b w i → row .passed + k ≤ b → next ≡ walkRow p b w (i + k)
+  pub behind : (p i : ℕ) → stride ≡ walkStride p b w i → stride .passed + k ≤ b → next ≡ walkStride p b w (i + k)
 
 -- a walk with one line more
 pub record WalkedLine (b w : ℕ) (before : Walk) (at : Offset) (k : ℕ) (after : Walk) : Type 0 where
   pub goes-on : (p : ℕ) (os : List ℕ) → Walking p b w os before → Walking p b w (os ++ upFrom (at .0) k) after
 
--- ---- the end of a row, and the next
+-- ---- the end of a stride, and the next
 
 module _ (b i : ℕ) (z : 0 < b) where
   end-sum : i + (b - i % b) ≡ (i / b + 1) * b + 0
@@ -67,140 +67,140 @@ module _ (b i : ℕ) (z : 0 < b) where
   end-place p w = rw (end-div, end-mod, add-mul (i / b) 1 w, one-mul w) (omega arith)
 
 module _ (p b w i : ℕ) where
-  -- the row behind k bases that end in this one
-  pub row-within : (k : ℕ) → i % b + k < b → record { start = walkRow p b w i .start; passed = walkRow p b w i .passed + k } ≡ walkRow p b w (i + k)
-  unfolding walkRow
-  row-within k h = rw (run-div p b w i k h, run-mod p b w i k h)
+  -- the stride behind k bases that end in this one
+  pub stride-within : (k : ℕ) → i % b + k < b → record { start = walkStride p b w i .start; passed = walkStride p b w i .passed + k } ≡ walkStride p b w (i + k)
+  unfolding walkStride
+  stride-within k h = rw (run-div p b w i k h, run-mod p b w i k h)
 
-  pub row-next : (k s : ℕ) → 0 < b → i % b + k ≡ b → s ≡ min (walkRow p b w i .start .0 + w) (2 ^ 64 - 1) → record { start = record { 0 = s }; passed = 0 } ≡ walkRow p b w (i + k)
-  unfolding walkRow
-  row-next k s z h e =
+  pub stride-next : (k s : ℕ) → 0 < b → i % b + k ≡ b → s ≡ min (walkStride p b w i .start .0 + w) (2 ^ 64 - 1) → record { start = record { 0 = s }; passed = 0 } ≡ walkStride p b w (i + k)
+  unfolding walkStride
+  stride-next k s z h e =
       let m : k ≡ b - i % b = omega arith in
       rw (e, m, end-div b i z, end-mod b i z, add-mul (i / b) 1 w, one-mul w) (ap (λ (n : ℕ). record { start = record { 0 = n }; passed = 0 }) (omega arith))
 
-  module _ (row : Row) (e : row ≡ walkRow p b w i) where
-    passed-is : row .passed ≡ i % b
-    unfolding walkRow
-    passed-is = ap (λ (r : Row). r .passed) e
+  module _ (stride : Stride) (e : stride ≡ walkStride p b w i) where
+    passed-is : stride .passed ≡ i % b
+    unfolding walkStride
+    passed-is = ap (λ (r : Stride). r .passed) e
 
-    start-is : row .start .0 ≡ min (p + i / b * w) (2 ^ 64 - 1)
-    unfolding walkRow
-    start-is = ap (λ (r : Row). r .start .0) e
+    start-is : stride .start .0 ≡ min (p + i / b * w) (2 ^ 64 - 1)
+    unfolding walkStride
+    start-is = ap (λ (r : Stride). r .start .0) e
 
-    -- an offset is where the row has its next base if it is that base's place
-    row-place : (o : ℕ) → o < 2 ^ 64 - 1 → o ≡ row .start .0 + row .passed → o ≡ placeOf p b w i
+    -- an offset is where the stride has its next base if it is that base's place
+    stride-place : (o : ℕ) → o < 2 ^ 64 - 1 → o ≡ stride .start .0 + stride .passed → o ≡ placeOf p b w i
     unfolding placeOf
-    row-place o h q = omega (arith, passed-is, start-is)
+    stride-place o h q = omega (arith, passed-is, start-is)
 
-    row-elsewhere : (o : ℕ) → o < 2 ^ 64 - 1 → (o ≡ row .start .0 + row .passed → ⊥) → o ≡ placeOf p b w i → ⊥
+    stride-elsewhere : (o : ℕ) → o < 2 ^ 64 - 1 → (o ≡ stride .start .0 + stride .passed → ⊥) → o ≡ placeOf p b w i → ⊥
     unfolding placeOf
-    row-elsewhere o h n q = n (omega (arith, passed-is, start-is))
+    stride-elsewhere o h n q = n (omega (arith, passed-is, start-is))
 
 -- ---- the test of one place
 
-module _ (row : Row) (at : Offset) where
-  pub next-before : at .0 < row .start .0 → false ≡ eqb (at .0) (row .start .0 + row .passed)
-  next-before h = sym (ne-eqb (at .0) (row .start .0 + row .passed) (λ e. omega arith))
+module _ (stride : Stride) (at : Offset) where
+  pub next-before : at .0 < stride .start .0 → false ≡ eqb (at .0) (stride .start .0 + stride .passed)
+  next-before h = sym (ne-eqb (at .0) (stride .start .0 + stride .passed) (λ e. omega arith))
 
-  pub next-here : row .start .0 ≤ at .0 → eqb (at .0 - row .start .0) (row .passed) ≡ eqb (at .0) (row .start .0 + row .passed)
-  next-here h = go (eqb (at .0 - row .start .0) (row .passed)) refl
+  pub next-here : stride .start .0 ≤ at .0 → eqb (at .0 - stride .start .0) (stride .passed) ≡ eqb (at .0) (stride .start .0 + stride .passed)
+  next-here h = go (eqb (at .0 - stride .start .0) (stride .passed)) refl
     where
-      go : (t : Bool) → eqb (at .0 - row .start .0) (row .passed) ≡ t → t ≡ eqb (at .0) (row .start .0 + row .passed)
-      go true e = sym (eq-eqb (at .0) (row .start .0 + row .passed) (omega (arith, eqb-true (at .0 - row .start .0) (row .passed) e)))
-      go false e = sym (ne-eqb (at .0) (row .start .0 + row .passed) (λ g. eqb-false (at .0 - row .start .0) (row .passed) e (omega arith)))
+      go : (t : Bool) → eqb (at .0 - stride .start .0) (stride .passed) ≡ t → t ≡ eqb (at .0) (stride .start .0 + stride .passed)
+      go true e = sym (eq-eqb (at .0) (stride .start .0 + stride .passed) (omega (arith, eqb-true (at .0 - stride .start .0) (stride .passed) e)))
+      go false e = sym (ne-eqb (at .0) (stride .start .0 + stride .passed) (λ g. eqb-false (at .0 - stride .start .0) (stride .passed) e (omega arith)))
 
 -- ---- one line's bases, which are the k from offset o on
 
 module _ (p b w i o k : ℕ) where
   -- the first is at its place
   module _ (h : o ≡ placeOf p b w i) where
-    -- and so are those behind it in its row
-    in-row : (m j : ℕ) → i % b + m ≤ b → j < m → j < k → getD (upFrom o k) j 0 ≡ placeOf p b w (i + j)
-    in-row m j r l n = getD-upFrom o k j n ∙ rw h (sym (place-run p b w i j (omega arith)))
+    -- and so are those behind it in its stride
+    in-stride : (m j : ℕ) → i % b + m ≤ b → j < m → j < k → getD (upFrom o k) j 0 ≡ placeOf p b w (i + j)
+    in-stride m j r l n = getD-upFrom o k j n ∙ rw h (sym (place-run p b w i j (omega arith)))
 
     line-there : i % b + k ≤ b → There ≡ firstElsewhere (placeOf p b w) i (upFrom o k)
-    line-there r = all-there (placeOf p b w) i (upFrom o k) (λ j m. in-row k j r (rw length-upFrom at m) (rw length-upFrom at m))
+    line-there r = all-there (placeOf p b w) i (upFrom o k) (λ j m. in-stride k j r (rw length-upFrom at m) (rw length-upFrom at m))
 
-    -- but not the first of the next row
+    -- but not the first of the next stride
     line-crosses : 0 < b → (w ≡ b → ⊥) → b - i % b < k → Elsewhere (record { 0 = suc (i + (b - i % b)) }) (record { 0 = o + (b - i % b) }) ≡ firstElsewhere (placeOf p b w) i (upFrom o k)
     line-crosses z n r =
         rw (getD-upFrom o k (b - i % b) r) at
         (first-elsewhere (placeOf p b w) i (b - i % b) (upFrom o k) (rw length-upFrom r)
-        (λ j m. in-row (b - i % b) j (omega (arith, mod-lt i z)) m (omega arith))
+        (λ j m. in-stride (b - i % b) j (omega (arith, mod-lt i z)) m (omega arith))
         (λ e. n (omega (arith, e, getD-upFrom o k (b - i % b) r, end-place b i z p w, mod-lt i z))))
 
   line-elsewhere : 0 < k → (o ≡ placeOf p b w i → ⊥) → Elsewhere (record { 0 = suc i }) (record { 0 = o }) ≡ firstElsewhere (placeOf p b w) i (upFrom o k)
   line-elsewhere z h =
       rw (add-zero i, getD-upFrom o k 0 z, add-zero o) at (first-elsewhere (placeOf p b w) i 0 (upFrom o k) (rw length-upFrom z) (λ j m. absurd (omega arith)) (λ e. h (sym (add-zero o) ∙ sym (getD-upFrom o k 0 z) ∙ e ∙ ap (placeOf p b w) (add-zero i))))
 
--- beside the row of the first base
-module _ (row : Row) (b i : ℕ) (at : Offset) (k : ℕ) where
-  pub judged-none : row .passed < b → k ≡ 0 → LineJudged row b i at k There
+-- beside the stride of the first base
+module _ (stride : Stride) (b i : ℕ) (at : Offset) (k : ℕ) where
+  pub judged-none : stride .passed < b → k ≡ 0 → LineJudged stride b i at k There
   judged-none l z = record {
     says = λ p w e n. all-there (placeOf p b w) i (upFrom (at .0) k) (λ j m. absurd (omega (arith, rw (length-upFrom, z) at m)));
     within = λ g. omega arith;
   }
 
-  module _ (fits : at .0 + k < 2 ^ 64) (some : k ≡ 0 → ⊥) (inside : row .passed < b) (t : Bool) (q : t ≡ eqb (at .0) (row .start .0 + row .passed)) where
-    at-place : (p w : ℕ) → row ≡ walkRow p b w i → t ≡ true → at .0 ≡ placeOf p b w i
-    at-place p w e h = row-place p b w i row e (at .0) (omega arith) (eqb-true _ _ (sym q ∙ h))
+  module _ (fits : at .0 + k < 2 ^ 64) (some : k ≡ 0 → ⊥) (inside : stride .passed < b) (t : Bool) (q : t ≡ eqb (at .0) (stride .start .0 + stride .passed)) where
+    at-place : (p w : ℕ) → stride ≡ walkStride p b w i → t ≡ true → at .0 ≡ placeOf p b w i
+    at-place p w e h = stride-place p b w i stride e (at .0) (omega arith) (eqb-true _ _ (sym q ∙ h))
 
-    pub judged-there : t ≡ true → k ≤ b - row .passed → LineJudged row b i at k There
+    pub judged-there : t ≡ true → k ≤ b - stride .passed → LineJudged stride b i at k There
     judged-there h r = record {
-      says = λ p w e n. line-there p b w i (at .0) k (at-place p w e h) (omega (arith, passed-is p b w i row e));
+      says = λ p w e n. line-there p b w i (at .0) k (at-place p w e h) (omega (arith, passed-is p b w i stride e));
       within = λ g. omega arith;
     }
 
-    pub judged-crosses : t ≡ true → b - row .passed < k → LineJudged row b i at k (Elsewhere (record { 0 = i + (b - row .passed) + 1 }) (record { 0 = at .0 + (b - row .passed) }))
+    pub judged-crosses : t ≡ true → b - stride .passed < k → LineJudged stride b i at k (Elsewhere (record { 0 = i + (b - stride .passed) + 1 }) (record { 0 = at .0 + (b - stride .passed) }))
     judged-crosses h r = record {
       says = λ p w e n.
-          let m : row .passed ≡ i % b = passed-is p b w i row e in
+          let m : stride .passed ≡ i % b = passed-is p b w i stride e in
           rw (add-one, m) (line-crosses p b w i (at .0) k (at-place p w e h) (omega arith) (λ g. omega (arith, n g, mod-le i b)) (omega arith));
       within = λ g. let z : _≡_ {A = ℕ} 0 1 = cc in absurd (omega arith);
     }
 
-    pub judged-elsewhere : t ≡ false → LineJudged row b i at k (Elsewhere (record { 0 = i + 1 }) at)
+    pub judged-elsewhere : t ≡ false → LineJudged stride b i at k (Elsewhere (record { 0 = i + 1 }) at)
     judged-elsewhere h = record {
-      says = λ p w e n. rw add-one (line-elsewhere p b w i (at .0) k (omega arith) (row-elsewhere p b w i row e (at .0) (omega arith) (eqb-false _ _ (sym q ∙ h))));
+      says = λ p w e n. rw add-one (line-elsewhere p b w i (at .0) k (omega arith) (stride-elsewhere p b w i stride e (at .0) (omega arith) (eqb-false _ _ (sym q ∙ h))));
       within = λ g. let z : _≡_ {A = ℕ} 0 1 = cc in absurd (omega arith);
     }
 
--- ---- the row behind a line's bases
+-- ---- the stride behind a line's bases
 
-module _ (row : Row) (b w k : ℕ) (inside : row .passed < b) where
-  pub moved-within : k < b - row .passed → MovedOn row b w k (record { start = row .start; passed = row .passed + k })
+module _ (stride : Stride) (b w k : ℕ) (inside : stride .passed < b) where
+  pub moved-within : k < b - stride .passed → MovedOn stride b w k (record { start = stride .start; passed = stride .passed + k })
   moved-within h = record {
     inside = omega arith;
-    behind = λ p i e n. ap (λ (r : Row). record { start = r .start; passed = r .passed + k }) e ∙ row-within p b w i k (omega (arith, passed-is p b w i row e));
+    behind = λ p i e n. ap (λ (r : Stride). record { start = r .start; passed = r .passed + k }) e ∙ stride-within p b w i k (omega (arith, passed-is p b w i stride e));
   }
 
-  pub moved-next : (s : ℕ) → b - row .passed ≤ k → s ≡ min (row .start .0 + w) (2 ^ 64 - 1) → MovedOn row b w k (record { start = record { 0 = s }; passed = 0 })
+  pub moved-next : (s : ℕ) → b - stride .passed ≤ k → s ≡ min (stride .start .0 + w) (2 ^ 64 - 1) → MovedOn stride b w k (record { start = record { 0 = s }; passed = 0 })
   moved-next s h m = record {
     inside = omega arith;
-    behind = λ p i e n. row-next p b w i k s (omega arith) (omega (arith, passed-is p b w i row e)) (rw e at m);
+    behind = λ p i e n. stride-next p b w i k s (omega arith) (omega (arith, passed-is p b w i stride e)) (rw e at m);
   }
 
 -- ---- the walk with one line more
 
 module _ (b w : ℕ) (v : Walk) (at : Offset) (k : ℕ) where
-  pub walked-elsewhere : (q : Position) (o : Offset) → v .placed ≡ Elsewhere q o → WalkedLine b w v at k (record { bases = v .bases + k; placed = Elsewhere q o; row = v .row })
+  pub walked-elsewhere : (q : Position) (o : Offset) → v .placed ≡ Elsewhere q o → WalkedLine b w v at k (record { bases = v .bases + k; placed = Elsewhere q o; stride = v .stride })
   walked-elsewhere q o e = record {
     goes-on = λ p os o. record {
       bases = rw (length-append, length-upFrom) (omega (arith, o .bases));
       placed = rw (elsewhere-append, ← o .placed, e);
-      row = λ g. let z : _≡_ {A = ℕ} 0 1 = cc in absurd (omega arith);
+      stride = λ g. let z : _≡_ {A = ℕ} 0 1 = cc in absurd (omega arith);
       inside = o .inside;
     };
   }
 
-  pub walked-there : (said : Placed) (next : Row) → v .placed ≡ There → v .bases ≤ at .0 → at .0 + k < 2 ^ 64 → (w ≡ b → 2 ^ 64 - 1 ≤ b)
-      → LineJudged (v .row) b (v .bases) at k said → MovedOn (v .row) b w k next → WalkedLine b w v at k (record { bases = v .bases + k; placed = said; row = next })
+  pub walked-there : (said : Placed) (next : Stride) → v .placed ≡ There → v .bases ≤ at .0 → at .0 + k < 2 ^ 64 → (w ≡ b → 2 ^ 64 - 1 ≤ b)
+      → LineJudged (v .stride) b (v .bases) at k said → MovedOn (v .stride) b w k next → WalkedLine b w v at k (record { bases = v .bases + k; placed = said; stride = next })
   walked-there said next e l f g j m = record {
     goes-on = λ p os o.
-        let r : v .row ≡ walkRow p b w (v .bases) = rw (o .bases) (o .row e) in record {
+        let r : v .stride ≡ walkStride p b w (v .bases) = rw (o .bases) (o .stride e) in record {
           bases = rw (length-append, length-upFrom) (omega (arith, o .bases));
           placed = rw (elsewhere-append, ← o .placed, e, zero-add, ← o .bases) (j .says p w r (λ h. omega (arith, g h)));
-          row = λ h. rw (length-append, length-upFrom, ← o .bases) (m .behind p (v .bases) r (j .within h));
+          stride = λ h. rw (length-append, length-upFrom, ← o .bases) (m .behind p (v .bases) r (j .within h));
           inside = m .inside;
         };
   }
@@ -224,11 +224,11 @@ pub record Onward (s : List ℕ) (at p b w i : ℕ) (v : Walk) : Type 0 where
   pub fewer : v .bases ≤ i
 
 module _ (s : List ℕ) (at p b w : ℕ) where
-  pub onward-start : 0 < b → p < 2 ^ 64 → Onward s at p b w at (record { bases = 0; placed = There; row = record { start = record { 0 = p }; passed = 0 } })
-  unfolding walkRow firstElsewhere
+  pub onward-start : 0 < b → p < 2 ^ 64 → Onward s at p b w at (record { bases = 0; placed = There; stride = record { start = record { 0 = p }; passed = 0 } })
+  unfolding walkStride firstElsewhere
   onward-start z f = record {
     passed = [];
-    walking = record { bases = refl; placed = refl; row = λ e. rw (zero-div, zero-mod, zero-mul, add-zero) (ap (λ (n : ℕ). record { start = record { 0 = n }; passed = 0 }) (omega arith)); inside = z };
+    walking = record { bases = refl; placed = refl; stride = λ e. rw (zero-div, zero-mod, zero-mul, add-zero) (ap (λ (n : ℕ). record { start = record { 0 = n }; passed = 0 }) (omega arith)); inside = z };
     offsets = refl;
     next = refl;
     fewer = omega arith;
@@ -263,16 +263,16 @@ module _ (s : List ℕ) (at p b w : ℕ) where
         let f = line-within s i e k n h c in
         onward-over (part s i e) e k next (rw h (some-line s i n)) (omega (arith, part-length s i e (f .1))) c g
 
--- rows with no byte between them are one row, and so are rows of no bases
+-- strides with no byte between them are one stride, and so are strides of no bases
 module _ (s : List ℕ) (at p b w : ℕ) (f : length s < 2 ^ 64) where
   one-line : ((i : ℕ) → placeOf p b w i ≡ p + i) → walkedAs (placeOf p (2 ^ 64 - 1) w) at (seqAt s at) ≡ walkedAs (placeOf p b w) at (seqAt s at)
   one-line e =
       walked-same (placeOf p (2 ^ 64 - 1) w) (placeOf p b w) at (seqAt s at)
       (λ i h. place-first p (2 ^ 64 - 1) w i (omega (arith, bases-within s at)) ∙ sym (e i))
 
-  pub one-row : w ≡ b → walkedAs (placeOf p (2 ^ 64 - 1) w) at (seqAt s at) ≡ walkedAs (placeOf p b w) at (seqAt s at)
-  one-row e = one-line (λ i. place-line p b w i e)
+  pub one-stride : w ≡ b → walkedAs (placeOf p (2 ^ 64 - 1) w) at (seqAt s at) ≡ walkedAs (placeOf p b w) at (seqAt s at)
+  one-stride e = one-line (λ i. place-line p b w i e)
 
-  pub no-row : b ≡ 0 → walkedAs (placeOf p (2 ^ 64 - 1) w) at (seqAt s at) ≡ walkedAs (placeOf p b w) at (seqAt s at)
+  pub no-stride : b ≡ 0 → walkedAs (placeOf p (2 ^ 64 - 1) w) at (seqAt s at) ≡ walkedAs (placeOf p b w) at (seqAt s at)
   unfolding placeOf
-  no-row e = one-line (λ i. rw (e, div-zero i, mod-zero i, zero-mul w) (omega arith))
+  no-stride e = one-line (λ i. rw (e, div-zero i, mod-zero i, zero-mul w) (omega arith))

@@ -1,4 +1,4 @@
--- `indexer::index_sequence` meets its contract: the first line is judged, and what the others say is told of the whole record.
+-- `indexer::index_sequence` meets its contract: it judges the first line, and what the other lines say holds for the whole record.
 -- Assumes nothing.
 use borrow.Author.Needs.{needs}
 use Prim.Native.Nat.{_≤_, _<_, _+_, _^_}

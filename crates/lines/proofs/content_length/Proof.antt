@@ -1,4 +1,4 @@
--- `lines::content_length` meets its contract: where no LF came off the whole line is its content, and else a final CR comes off too.
+-- `lines::content_length` meets its contract: without a final LF the whole line is its content; with one, a CR before it comes off too.
 -- Assumes nothing.
 use borrow.Author.Needs.{needs}
 use native.Mathlib.Omega.{arith}

@@ -1,4 +1,4 @@
--- `sequence::scan_into` meets its contract: where the bases fit they are copied, and else their number is told.
+-- `sequence::scan_into` meets its contract: if the bases fit they are copied, else it answers how many they are.
 -- Assumes nothing.
 use borrow.Author.Needs.{needs}
 use borrow.Author.Tests.{not-true, not-false, leb-true}

@@ -1,4 +1,4 @@
--- `walking::moved_on` meets its contract: the bases end before the row does, or with it.
+-- `walking::moved_on` meets its contract: the bases end before the stride does, or with it.
 -- Assumes nothing.
 use native.Mathlib.Omega.{arith}
 use borrow.Author.Needs.{needs}

@@ -1,4 +1,4 @@
--- `walking::walk_line` meets its contract: a base elsewhere stays the first; otherwise the line is judged beside its row.
+-- `walking::walk_line` meets its contract: a base elsewhere stays the first; otherwise the line is judged beside its stride.
 -- Assumes nothing.
 use borrow.Author.Needs.{needs}
 use Rattle.walking.specs.Walk.{walked-elsewhere, walked-there}

@@ -1,4 +1,4 @@
--- `columns::fields::field_length` meets its contract: where no tab cuts, the field is all.
+-- `columns::fields::field_length` meets its contract: if no tab cuts, the field is all that is left.
 -- Assumes nothing.
 use borrow.Author.Needs.{needs}
 use Rattle.columns.specs.Reading.{len-all, len-tab}

@@ -1,4 +1,4 @@
--- `lines::alike::lf_among_few` meets its contract: what the bytes from the place looked at say stays what all of them say.
+-- `lines::alike::lf_among_few` meets its contract: what the bytes from the place on say is what all of them say.
 -- Assumes nothing.
 use Prim.Native.Nat.{_+_, _-_, _≤_}
 use mathlib.Core.Path.{_≡_, sym, _∙_, ap}

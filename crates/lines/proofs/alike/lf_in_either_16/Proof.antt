@@ -1,4 +1,4 @@
--- `lines::alike::lf_in_either_16` meets its contract: at each place `any` says whether an LF is among the bytes looked at in the two blocks.
+-- `lines::alike::lf_in_either_16` meets its contract: at each place `any` says whether the bytes so far of the two blocks hold an LF.
 -- Assumes nothing.
 use Prim.Native.Nat.{_-_, _≤_}
 use mathlib.Core.Path.{_≡_}

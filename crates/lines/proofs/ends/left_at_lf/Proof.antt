@@ -1,4 +1,4 @@
--- `lines::ends::left_at_lf` meets its contract: at each place `left` says what the bytes looked at say.
+-- `lines::ends::left_at_lf` meets its contract: at each place `left` is right for the bytes so far.
 -- Assumes nothing.
 use Prim.Native.Nat.{_-_, _≤_}
 use mathlib.Core.Path.{_≡_, _∙_}

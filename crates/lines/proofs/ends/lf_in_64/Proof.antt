@@ -1,4 +1,4 @@
--- `lines::ends::lf_in_64` meets its contract: at each place `any` says whether an LF is among the bytes looked at.
+-- `lines::ends::lf_in_64` meets its contract: at each place `any` says whether the bytes so far hold an LF.
 -- Assumes nothing.
 use Prim.Native.Nat.{_-_, _≤_}
 use mathlib.Core.Path.{_≡_, refl, sym, _∙_}

@@ -1,4 +1,4 @@
--- `region::window::needed_region` meets its contract: what is judged fine lies in the file, and its part is told; the rest is refused.
+-- `region::window::needed_region` meets its contract: a region that is judged good lies in the file, and its part is the answer; any other is refused.
 -- Assumes nothing.
 use Prim.Native.Nat.{_^_}
 use mathlib.Core.Path.{sym, _∙_}

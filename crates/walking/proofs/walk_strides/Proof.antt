@@ -1,4 +1,4 @@
--- `walking::walk_rows` meets its contract: the offsets of the bases passed, and those of the lines from `i` on, are all.
+-- `walking::walk_strides` meets its contract: the offsets of the bases passed, and those of the lines from `i` on, are all.
 -- Assumes nothing.
 use Prim.Native.Nat.{ℕ, _-_, _≤_, _<_, _+_}
 use mathlib.Core.Path.{_≡_, refl, sym, _∙_}
@@ -9,25 +9,25 @@ use native.Mathlib.Omega.{arith}
 use lib.ListN.{length}
 use Rattle.lines.specs.Lines.{seqAt, none}
 use Rattle.walking.specs.Walk.{Onward, onward-line, onward-end, line-within}
-use Rattle.walking.proofs.walk_rows.Statement.{statement}
-use Rattle.walking.proofs.walk_rows.Tie as tie
+use Rattle.walking.proofs.walk_strides.Statement.{statement}
+use Rattle.walking.proofs.walk_strides.Tie as tie
 
 abbrev Inv-loop : tie.InvT-loop
-Inv-loop s at row-bases row-width walk₀ i₀ walk i = (p : ℕ) → Onward s at p row-bases row-width i₀ walk₀ → Onward s at p row-bases row-width i walk
+Inv-loop s at stride-bases stride-width walk₀ i₀ walk i = (p : ℕ) → Onward s at p stride-bases stride-width i₀ walk₀ → Onward s at p stride-bases stride-width i walk
 
 abbrev μ-loop : tie.MeasureT-loop
-μ-loop s at row-bases row-width walk₀ i₀ walk i = length s - i
+μ-loop s at stride-bases stride-width walk₀ i₀ walk i = length s - i
 
-pass-rows-requires : tie.Need-pass-rows-requires Inv-loop μ-loop
-pass-rows-requires c κs = search needs
+pass-strides-requires : tie.Need-pass-strides-requires Inv-loop μ-loop
+pass-strides-requires c κs = search needs
 
 loop-holds : tie.Need-loop-holds Inv-loop μ-loop
 loop-holds c = λ p o. o
 
 -- the walk so far
 onward : (c : tie.At-loop Inv-loop μ-loop)
-    → let a = c .before .before .before .before .before .args in Onward (a .s .now) (a .at) (a .x .position .0) (a .row-bases) (a .x .«line_width») (c .loop .i) (c .loop .walk)
-onward c = c .loop .inv _ (c .before .before .pass-rows .ensures)
+    → let a = c .before .before .before .before .before .args in Onward (a .s .now) (a .at) (a .x .position .0) (a .stride-bases) (a .x .«line_width») (c .loop .i) (c .loop .walk)
+onward c = c .loop .inv _ (c .before .before .pass-strides .ensures)
 
 sequence-ends-requires : tie.Need-sequence-ends-requires Inv-loop μ-loop
 sequence-ends-requires c κs = search needs
@@ -74,13 +74,13 @@ loop-again c = λ p o.
 returns : tie.Need-returns Inv-loop μ-loop
 returns c = onward-end _ _ _ _ _ _ _ (onward (c .before .before)) (sym (c .before .sequence-ends .ensures) ∙ not-false _ (c .if1 .left))
 
-pub walk-rows-spec : {M : Type 1} → statement M
-walk-rows-spec =
+pub walk-strides-spec : {M : Type 1} → statement M
+walk-strides-spec =
     tie.close
     (tie.spec
     Inv-loop
     μ-loop
-    pass-rows-requires
+    pass-strides-requires
     loop-holds
     sequence-ends-requires
     line-end-requires
