@@ -77,7 +77,7 @@ module _ (f : List ℕ) where
         used-stored t (recordsOf f) e k q Bases,
         qualities-stored t (recordsOf f) e k q,
         ← sound-row k (bare (recordAt (recordsOf f) k) .«record») (λ z. omega (arith, l .some-bases)) (λ z. omega (arith, l .some-width)),
-        ← name-inside k (bare (recordAt (recordsOf f) k) .«record») (length f) (d .named) (omega arith)
+        ← name-inside k (bare (recordAt (recordsOf f) k) .«record») (length f) (d .named) (omega arith),
       )
       (text-written (nameIn f (x .«record»)) (fiveOf x) out (d .unbroken) r)
 

@@ -21,3 +21,4 @@ pub mod Mend
 pub mod MendedLaws
 pub mod Mended
 pub mod Mending
+pub mod Barred

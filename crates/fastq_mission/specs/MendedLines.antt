@@ -167,7 +167,7 @@ module _ (b : ℕ) (lf : b ≡ 10 → ⊥) (cr : b ≡ 13 → ⊥) (n : b ≡ 43
             sums,
             widths-set (bodyOf ls) c b,
             first-alike (setIn (bodyOf ls) c b) (bodyOf ls) (alike-set base),
-            count-alike (setIn (bodyOf ls) c b) (bodyOf ls) (alike-set base)
+            count-alike (setIn (bodyOf ls) c b) (bodyOf ls) (alike-set base),
           )
 
       go : (qs : List (List ℕ)) (v : Verdict) → sequenceJudged at m name (setIn (bodyOf ls) c b) qs v ≡ sequenceJudged at m name (bodyOf ls) qs v
