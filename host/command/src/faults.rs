@@ -2,6 +2,7 @@
 
 use crate::advice;
 use crate::failure::{Failure, Refused};
+use crate::fastq_faults;
 use crate::input::Input;
 use crate::place::{self, Line, commas, count, short};
 use crate::warning::Warning;
@@ -249,7 +250,7 @@ impl<'p> Pair<'p> {
 }
 
 /// A line of an index, counted from 1.
-fn nth_line(index: &Input, number: u64) -> Option<Line> {
+pub fn nth_line(index: &Input, number: u64) -> Option<Line> {
     let before = usize::try_from(number.checked_sub(1)?).ok()?;
     place::lines(index.bytes(), 0, 1).nth(before)
 }
@@ -261,6 +262,9 @@ pub fn not_accepted(fasta: &Input, index: &Input, refusal: Refusal) -> Failure {
         1 if fasta.bytes().len() as u64 > 1 << 40 => return of_size(fasta, "part the file"),
         1 => return of_size(index, "is it an index?"),
         _ => {}
+    }
+    if fasta.is_fastq() {
+        return fastq_faults::not_accepted(fasta, index, refusal);
     }
     let pair = Pair::of(fasta, index, refusal.first);
     if let (2..=4, Some(line)) = (refusal.number, pair.definition) {

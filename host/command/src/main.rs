@@ -549,10 +549,6 @@ fn how_for_regions(words: &ArgMatches, file: &Path, asked: &AllAsked<'_>, common
 
 /// The index that is named, or the one beside the file, if there is one.
 fn index_beside(words: &ArgMatches, file: &Path, fasta: &Input, common: Common) -> Result<Option<Input>, Failure> {
-    // as long as an index of FASTQ is not checked, the rows are made of the file itself
-    if fasta.is_fastq() && !said(words, "unchecked") {
-        return Ok(None);
-    }
     match read_index(words) {
         Some(index) => open_index(index, fasta, common).map(Some),
         None if is_placeless(file) || !index_of(file).exists() => Ok(None),

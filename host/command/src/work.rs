@@ -93,14 +93,11 @@ pub fn warn_of_no_bytes(file: &str, length: u64) {
 
 /// Whether an index is right for a file; if not, the first fault in words.
 pub fn check(fasta: &Input, index: &Input) -> Result<(), Failure> {
-    if fasta.is_fastq() {
-        let words = format!("{}: an index of FASTQ is not checked yet", fasta.shown);
-        return Err(Failure::Usage(words));
-    }
     let file = fasta.bytes();
     warn_of_nothing(fasta);
     let progress = Progress::working("checking", &fasta.shown, file.len() as u64, fasta.is_mapped());
-    let answer = wakeluri::check(file, index.bytes());
+    let check = if fasta.is_fastq() { wakeluri::fastq::check } else { wakeluri::check };
+    let answer = check(file, index.bytes());
     drop(progress);
     answer.map_err(|refusal| faults::not_accepted(fasta, index, refusal))
 }

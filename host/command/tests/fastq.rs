@@ -245,3 +245,97 @@ fn files_of_a_folder() {
     let answer = folder.run(&["index", "r.fq", "c"]);
     assert!(answer.out.ends_with("2 files: 2 indexed\n"), "{answer:?}");
 }
+
+#[test]
+fn its_index_is_checked() {
+    let folder = folder("fastq-check");
+    folder.run(&["check", "r.fq"]).failed(3, &["there is no such file", "make the index with `wakeluri index r.fq`"]);
+    folder.run(&["index", "r.fq"]).gave("r.fq.fai: 2 records, 9 bases\n");
+    let accepted = "accepted: r.fq.fai leads to every base and every quality of r.fq (2 records, 9 bases)\n";
+    folder.run(&["check", "r.fq"]).gave(accepted);
+    folder.run(&["check", "--fastq", "r.fq"]).gave(accepted);
+    let told = objects(&folder.run(&["check", "--json", "r.fq"]).out);
+    assert_eq!((told[0].number("bases"), told[0].text("format")), (Some(9), Some("fastq")));
+    for (from, to, code, words) in [
+        (
+            "r2\t3\t40\t3\t4\t46\n",
+            "",
+            "refused 19 (record 2)",
+            "r.fq.fai: it ends after 1 line, and record 2 of r.fq is r2",
+        ),
+        ("r1\t", "s1\t", "refused 21 (record 1)", "this line is about 's1', and record 1 of r.fq is 'r1'"),
+        ("\t6\t", "\t7\t", "refused 22 (record 1)", "r1 has 6 bases in r.fq, and this line says 7"),
+        (
+            "\t16\t",
+            "\t17\t",
+            "refused 23 (record 1, base 1)",
+            "by this line base 1 of r1 is at byte 17, and it is at byte 16 (line 2) of r.fq",
+        ),
+        (
+            "\t5\t28",
+            "\t6\t28",
+            "refused 23 (record 1, base 5)",
+            "by this line base 5 of r1 is at byte 22, and it is at byte 21 (line 3) of r.fq",
+        ),
+        (
+            "\t46\n",
+            "\t45\n",
+            "refused 23 (record 2, base 1)",
+            "by this line the quality of base 1 of r2 is at byte 45, and it is at byte 46 (line 10) of r.fq",
+        ),
+        ("\t46\n", "\n", "refused 10 (record 2, field 6)", "ends before field 6, the offset of the first quality"),
+        ("\t46\n", "\tx\n", "refused 11 (record 2, field 6)", "field 6, the offset of the first quality"),
+        ("\t46\n", "\t46\nr3\t1\t1\t1\t1\t1\n", "refused 20 (records 2)", "it goes on here, and r.fq has 2 records"),
+    ] {
+        folder.write("r.fq.fai", INDEX.replace(from, to));
+        let next = "make the index again: `wakeluri index r.fq`";
+        for words_given in [&["check", "r.fq"][..], &["read", "r.fq", "r2"], &["read", "--qualities", "r.fq", "r2"]] {
+            folder.run(words_given).refused(code, &[words, next]);
+        }
+    }
+    // a wrong index is used where that is said, and told of
+    folder.write("r.fq.fai", INDEX.replace("\t46\n", "\t45\n"));
+    let answer = folder.run(&["read", "--unchecked", "--qualities", "r.fq", "r2:2-3"]);
+    assert_eq!((answer.status, answer.out.as_str()), (Some(0), "@r2:2-3\nGT\n+\n!#\n"), "{answer:?}");
+    assert!(answer.err.contains("r.fq.fai was not checked with r.fq"), "{answer:?}");
+    // the file is judged first, wherever its fault is
+    folder.write("r.fq", format!("{READS}\n\n"));
+    folder.run(&["check", "r.fq"]).refused("refused 2 (offset 50)", &["r.fq, line 11 (byte 50)", "this line is empty"]);
+}
+
+/// Called as `samtools fqidx` and `samtools faidx -f` are, with the same bytes.
+#[test]
+fn called_as_samtools() {
+    let folder = folder("fastq-samtools");
+    let runs = |program: &str, words: &[&str]| {
+        let _ = std::fs::remove_file(folder.at("r.fq.fai"));
+        let mut command = std::process::Command::new(program);
+        let output = command.args(words).current_dir(folder.path()).stdin(std::process::Stdio::null()).output().ok()?;
+        let index = std::fs::read(folder.at("r.fq.fai")).unwrap_or_default();
+        Some((output.status.success(), String::from_utf8_lossy(&output.stdout).into_owned(), index))
+    };
+    if runs("samtools", &["--version"]).is_none() {
+        eprintln!("skipped: samtools isn't installed; `tools/dev setup peers` installs it");
+        return;
+    }
+    folder.write("regions", "r2\nr1:2-5\n");
+    for words in [
+        &["fqidx", "r.fq"][..],
+        &["faidx", "-f", "r.fq"],
+        &["faidx", "r.fq"],
+        &["fqidx", "r.fq", "r1:2-5", "r2"],
+        &["faidx", "-f", "r.fq", "r1", "r2:1-2"],
+        &["faidx", "r.fq", "r1", "r2:1-2"],
+        &["fqidx", "-n", "4", "r.fq", "r1"],
+        &["fqidx", "-r", "regions", "r.fq"],
+        &["fqidx", "-i", "r.fq", "r1", "r2:2-3"],
+        &["fqidx", "-i", "--mark-strand", "sign", "r.fq", "r1"],
+        &["faidx", "-f", "-i", "--mark-strand", "no", "r.fq", "r1"],
+    ] {
+        assert_eq!(runs(common::WAKELURI, words), runs("samtools", words), "{words:?}");
+    }
+    // where samtools clips, there is a refusal here
+    folder.run(&["fqidx", "r.fq", "r2:2-9"]).refused("refused 17 (length 3)", &[]);
+    folder.write("f.fa", ">s\nACGT\n");
+    folder.run(&["fqidx", "f.fa"]).refused("refused 3 (offset 0)", &["this is a FASTA file"]);
+}
