@@ -2,6 +2,7 @@
 -- accepts once that byte stands for a base. A '>' and an '@' need no bar: they are bases like any other, at the front of a line too.
 use mathlib.Core.Path.{_≡_, refl}
 use mathlib.Core.List.{List, [], _∷_}
+use native.Mathlib.Omega.{arith}
 use Rattle.ascii.specs.Text.{text}
 use Rattle.refusal.specs.Numbers.{overLimit}
 use Rattle.refusal.specs.declared.Refusal.the-variants.{NoBases}
@@ -23,6 +24,7 @@ use Rattle.fastq_index.specs.File.{rowsOf, rowsAt}
 use Rattle.checker.specs.declared.Verdict.{Verdict}
 use Rattle.checker.specs.declared.Verdict.the-variants.{Accepted, Refused}
 use Rattle.fastq_checker.specs.Check.{partLines, offsetsOf, entrySays, recordSays, recordsSay, checkOf}
+use Rattle.fastq_mission.specs.Mend.{BaseAt}
 
 unfoldable pub asked : List Verdict
 asked =
@@ -47,3 +49,8 @@ answers = Accepted ∷ Refused (NoBases 4) ∷ Refused (NoBases 5) ∷ Accepted 
 pub barred : asked ≡ answers
 unfolding asked answers overLimit lines chop ends contentOf sumBases sumWidths upFrom basesAt sameBytes isSpace run keep markedSays failsAt refusalOf placeOf firstWhere allDigits valueFrom numberFrom digitsOf numberOf plainNumber digits cutAt fieldSays numbersFrom plainEnd nameIn fitsLast firstElsewhere bodyOf fromPlus bodyAt lineSays restOf sequenceOf fitsPartner qualitiesOf sequenceSays fastq.recordAt partOf fieldsOf contentSays sixLineSays nameOf rowsOf rowsAt partLines offsetsOf entrySays recordSays recordsSay checkOf
 barred = refl
+
+-- there are bases to mend: the A of the first
+pub base-example : BaseAt (text "@s\nA\n+\nI\n") 0 0 3
+unfolding lines chop ends contentOf sumBases sumWidths upFrom basesAt isSpace run keep markedSays fitsLast bodyOf fromPlus bodyAt lineSays restOf sequenceOf fitsPartner qualitiesOf sequenceSays fastq.recordAt partOf rowsOf rowsAt partLines offsetsOf
+base-example = record { record′ = omega arith; base = omega arith; place = refl }
