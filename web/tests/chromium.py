@@ -129,6 +129,13 @@ def every_text_is_in_the_table(c):
         other.fill(regions="s:9-12\nnobody\ns 1 2")
         other.press("answer", "sheet-told")
         found += c.browser.run(TEXTS)
+        other.open(b"@r\nACGT\n+\nIIII\n")
+        other.read("1", "2", "both")
+        found += c.browser.run(TEXTS)
+        other.memory = "parts"
+        for index in (b"s\t6\t3\t4\t6\n", b"", b"s\t6\t3\t4\t5\n", b"s\t6\t3\t4\t5\nt\t6\t3\t4\t5\n"):
+            other.open(b">s\nACGT\nAC\n", index)
+            found += c.browser.run(TEXTS)
     finally:
         c.person = mine
         os.remove(os.path.join(c.folder, "pseudo.html"))

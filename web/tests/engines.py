@@ -1,6 +1,7 @@
 """Browsers to try the page in: Chromium, Firefox and WebKit, each from Debian's packages, each without a window.
 
-An engine goes to an address (`go`), runs a script in the page (`run`, `wait_for`), takes a picture (`picture`), and is closed.
+An engine goes to an address (`go`), runs a script in the page (`run`, `wait_for`), chooses a file for a field (`choose`), takes a picture
+(`picture`), and is closed.
 """
 import json
 import os
@@ -35,6 +36,9 @@ class Selenium(Engine):
 
     def run(self, script, *words):
         return self.browser.execute_script(script, *words)
+
+    def choose(self, field, path):
+        self.browser.find_element("id", field).send_keys(path)
 
     def picture(self, path):
         self.browser.save_screenshot(path)
@@ -129,6 +133,10 @@ class Firefox(Engine):
 
     def run(self, script, *words):
         return self.ask("WebDriver:ExecuteScript", script=script, args=list(words)).get("value")
+
+    def choose(self, field, path):
+        found = self.ask("WebDriver:FindElement", using="css selector", value=f"#{field}")["value"]
+        self.ask("WebDriver:ElementSendKeys", id=next(iter(found.values())), text=path)
 
     def picture(self, path):
         import base64

@@ -1,19 +1,18 @@
 #!/usr/bin/python3
-"""large.py PAGE [WHOLE [PARTS]]: files of more than 2 GiB in Chromium. One of WHOLE GiB (2.25) is kept in memory: accepted, read before, across and
-behind 2 GiB; then one base is put elsewhere at its end, and the index is refused there. One of PARTS GiB (4.5), more than any page's memory has, is
-read in parts: accepted, read before and behind 4 GiB, and its index is not accepted once a line is longer; what memory that took is told. They
-need as much of the disk, the first as much memory."""
+"""large.py PAGE [ENGINE [WHOLE [PARTS]]]: files of more than 2 GiB in an engine (chromium). One of WHOLE GiB (2.25) is kept in memory: accepted, read
+before, across and behind 2 GiB; then one base is put elsewhere at its end, and the index is refused there. One of PARTS GiB (4.5), more than any
+page's memory has, is read in parts: accepted, read before and behind 4 GiB, and no index fits once a line is longer; of Chromium it is told what memory
+that took. A size of 0 leaves one out. They need as much of the disk, the first as much memory."""
 import os
 import sys
 import tempfile
 import time
 
-from engines import Chromium, Failed
+from engines import ENGINES, Failed
 from person import Person
-from selenium.webdriver.common.by import By
 
-page = sys.argv[1]
-sizes = [float(word) for word in sys.argv[2:]] + [2.25, 4.5][len(sys.argv) - 2:]
+page, engine = (sys.argv[1:3] + ["chromium"])[:2]
+sizes = [float(word) for word in sys.argv[3:]] + [2.25, 4.5][max(0, len(sys.argv) - 3):]
 BLOCK = (b"ACGTTGCAAC" * 6 + b"\n") * 10000
 HEAD = b">chr a large one\n"
 
@@ -47,19 +46,19 @@ def memory():
 
 def tried(room, gib, kind):
     fasta, lines = written(room, gib)
-    browser = Chromium()
+    browser = ENGINES[engine]()
     person = Person(browser, page, kind)
 
     def chosen(which, path):
         browser.run("document.body.dataset.round = '0'; document.getElementById(arguments[0]).value = ''", which)
-        browser.browser.find_element(By.ID, which).send_keys(path)
+        browser.choose(which, path)
         browser.wait_for("return Number(document.body.dataset.round) >= 1 && document.getElementById('working').hidden ? 1 : null", what="a verdict", seconds=900)
         return " | ".join((person.text("verdict"), person.text("lines")))
 
     try:
         person.fresh()
         before = memory()
-        browser.browser.find_element(By.ID, "fai").send_keys(fasta + ".fai")
+        browser.choose("fai", fasta + ".fai")
         start = time.monotonic()
         person.expect(f"{os.path.getsize(fasta):,} bytes, {kind}, accepted", chosen("fasta", fasta), "Accepted", "1 record")
         print(f"    in {time.monotonic() - start:.0f} s; thousandths of a second: {browser.run('return document.body.dataset.times')}")
@@ -70,7 +69,8 @@ def tried(room, gib, kind):
             wanted = "".join("ACGTTGCAAC"[(first - 1 + k) % 10] for k in range(10))
             person.expect(f"bases {first:,} on", person.read(str(first), str(first + 9)), "10 bases", wanted)
         person.expect("past its end", person.read(str(last), str(last + 1)), "Refused", "refused 17")
-        print(f"    memory of the page's process: {before} MB before, {memory()} MB at most")
+        if engine == "chromium":
+            print(f"    memory of the page's process: {before} MB before, {memory()} MB at most")
         with open(fasta, "r+b") as file:
             file.seek(len(HEAD) + 61 * (lines - 2) + 60)
             file.write(b"A\n")
@@ -84,7 +84,7 @@ def tried(room, gib, kind):
 
 with tempfile.TemporaryDirectory() as room:
     try:
-        passed = sum(tried(room, gib, kind) for gib, kind in zip(sizes, ("whole", "parts")))
-        print(f"large: {passed} passed, 0 failed")
+        passed = sum(tried(room, gib, kind) for gib, kind in zip(sizes, ("whole", "parts")) if gib > 0)
+        print(f"large, {engine}: {passed} passed, 0 failed")
     except Failed as failed:
         sys.exit(f"FAILED: {failed}")

@@ -147,6 +147,22 @@ def records(p, samples):
     p.expect("saved as FASTA, whole", repr(p.save("save-fasta")), repr(">a second\nCCCC\n"))
 
 
+def from_the_disk(p, samples):
+    """A file that lies on the disk, and is not made by a script: some engines hand those over in another way."""
+    path = os.path.join(os.path.abspath(samples), "stale.fa")
+    before = p.memory
+    for p.memory in ("auto", "parts"):
+        p.fresh()
+        p.engine.choose("fasta", path)
+        p.expect(f"chosen, {p.memory}", p.judged(), "stale.fa: 5 records")
+        first = p.read("2", "12", row=0)
+        p.expect(f"read, {p.memory}", first, "11 bases")
+        with open(path, "rb") as file:
+            wanted = b"".join(file.read().split(b">")[1].split(b"\n")[1:]).replace(b"\r", b"")[1:12]
+        p.expect(f"which is right, {p.memory}", first, wanted.decode())
+    p.memory = before
+
+
 def sheets(p, samples):
     p.open(M1)
     p.tab("sheet")
@@ -261,5 +277,5 @@ def files_in_parts(p, samples):
         test(p, samples)
 
 
-ALL = [marked_examples, pain_of_the_clipped_read, pain_of_the_stale_index, pain_of_the_buffer, bad_files, fastq, records, sheets, exercises, primers]
+ALL = [marked_examples, pain_of_the_clipped_read, pain_of_the_stale_index, pain_of_the_buffer, bad_files, fastq, records, from_the_disk, sheets, exercises, primers]
 IN_PARTS = [files_in_parts]
