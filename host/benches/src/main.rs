@@ -2,6 +2,7 @@
 //! physical limits. `tools/dev benches` builds and runs it; what it prints is Markdown. Before anything is timed, both sides must give the
 //! same answers.
 
+mod fed;
 mod files;
 mod levels;
 mod measure;
@@ -499,6 +500,9 @@ fn run(plan: &Plan) -> Report {
     if part("scores") {
         scores(plan, &mut report, &lf(60).genome(MEGABYTE));
     }
+    if part("fed") {
+        report.fed = fed::run(plan);
+    }
     if part("growth") {
         growth(plan, &mut report);
     }
@@ -508,7 +512,7 @@ fn run(plan: &Plan) -> Report {
 fn main() {
     let Some(plan) = Plan::of_words(std::env::args().skip(1)) else {
         eprintln!(
-            "usage: benches [--quick] [--json] [--only lines|records|long|reads|names|complement|write|text|scores|levels|growth]"
+            "usage: benches [--quick] [--json] [--only lines|records|long|reads|names|complement|write|text|scores|levels|fed|growth]"
         );
         std::process::exit(2);
     };

@@ -1,5 +1,6 @@
 //! What was found, as Markdown.
 
+use crate::fed::AllFed;
 use crate::levels::{Levelled, levels};
 use std::fmt;
 
@@ -87,6 +88,7 @@ pub struct Report {
     pub levelled: Vec<Levelled>,
     pub scored: Vec<Scored>,
     pub sheeted: Vec<Sheeted>,
+    pub fed: AllFed,
 }
 
 /// A goal, and what was found.
@@ -212,7 +214,7 @@ impl Report {
             goal: 1.0,
             found: SCORE_GOAL / s.ours,
         });
-        compared.chain(checked).chain(mapped).chain(sheeted).chain(scored).collect()
+        compared.chain(checked).chain(mapped).chain(sheeted).chain(scored).chain(self.fed.goals()).collect()
     }
 
     /// The same for machines: each work's seconds, and each goal, as one JSON object.
@@ -366,6 +368,7 @@ impl fmt::Display for Report {
             let cell = |s: &f64| format!("{:.2} ({} GB/s)", seconds[0] / s, gigabytes(*bytes, *s));
             writeln!(f, "| {work} | {} |", seconds.iter().map(cell).collect::<Vec<_>>().join(" | "))?;
         }
+        write!(f, "{}", self.fed)?;
         self.summary(f)
     }
 }

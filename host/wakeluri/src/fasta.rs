@@ -12,7 +12,7 @@ pub use fastq::{Fastq, Read};
 
 use crate::entry::{ROW_BYTES, ROW_WORDS};
 use crate::refusal::Call;
-use crate::region::{Meaning, Written, meaning, plain_form};
+use crate::region::{Meaning, Written, meaning, plain, plain_form};
 use crate::table::{counted, with_room};
 use crate::{Bounds, Refusal, Row, Table, entry};
 use mapped::Bytes;
@@ -367,6 +367,15 @@ impl Fasta {
     /// samtools, `chr1:5` is from base 5 to the end. [`region`](crate::region) has the rules.
     pub fn region(&self, region: impl AsRef<[u8]>) -> Result<(Record<'_>, Bounds), Error> {
         let region = region.as_ref();
+        if let Some((name, bounds)) = plain(region).filter(|_| self.row(region).is_none()) {
+            if let Some(row) = self.row(name) {
+                return Ok((self.numbered(row), bounds));
+            }
+        }
+        self.region_of_any_form(region)
+    }
+
+    fn region_of_any_form(&self, region: &[u8]) -> Result<(Record<'_>, Bounds), Error> {
         let find = |name: &[u8]| self.row(name).map(Row::of_any_table);
         match meaning(region, find) {
             Meaning::Row(row, written) => {
@@ -569,5 +578,30 @@ impl<'f> Record<'f> {
             None if written.senseless() => Err(refused(16, 0)),
             None => Err(refused(17, self.length())),
         }
+    }
+}
+
+#[cfg(test)]
+mod tests {
+    use super::Fasta;
+
+    /// Every short region is read as it is without the short way for most of them.
+    #[test]
+    fn the_short_way_to_a_region() {
+        let fasta = b">a\nACGT\n>a:1\nAC\n>a:1-2\nA\n>{a}\nG\n>1\nC\n>:\nT\n>b:0-1\nT\n";
+        let fasta = Fasta::from_bytes(fasta.to_vec()).expect("a good file");
+        let (alphabet, mut read) = (b"a:1-{}0b", 0);
+        for length in 0..=6_u32 {
+            for number in 0..8_usize.pow(length) {
+                let region: Vec<u8> = (0..length).map(|place| alphabet[number / 8_usize.pow(place) % 8]).collect();
+                let told = |found: Result<(super::Record<'_>, crate::Bounds), super::Error>| {
+                    found.map(|(record, bounds)| (record.number(), bounds)).map_err(|error| error.to_string())
+                };
+                let found = told(fasta.region(&region));
+                read += usize::from(found.is_ok());
+                assert_eq!(found, told(fasta.region_of_any_form(&region)), "{}", region.escape_ascii());
+            }
+        }
+        assert!(read > 100, "{read}");
     }
 }

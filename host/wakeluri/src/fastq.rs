@@ -314,8 +314,8 @@ impl<'n> Table<'n> {
     /// ```
     pub fn part(&self, part: Part) -> crate::Table<'n> {
         let rows = self.bytes.chunks_exact(ROW_BYTES).filter_map(numbers);
-        let bytes = rows.flat_map(|row| as_fasta(row, part)).flat_map(u64::to_le_bytes).collect();
-        crate::Table::with_identity(self.names, bytes, self.in_use, self.identity)
+        let bytes: Vec<u8> = rows.flat_map(|row| as_fasta(row, part)).flat_map(u64::to_le_bytes).collect();
+        crate::Table::with_identity(self.names, bytes.into(), self.in_use, self.identity)
     }
 
     /// The first row that has a name. Refuses 1, 25, 15.

@@ -1,9 +1,8 @@
 //! A file that is indexed while it arrives.
 
-use crate::entry::{self, ROW_BYTES};
+use crate::entry::{self, Feed, ROW_BYTES};
 use crate::refusal::Call;
 use crate::{Refusal, Table};
-use alloc::collections::VecDeque;
 use alloc::vec::Vec;
 #[cfg(feature = "std")]
 use std::io::{self, Write};
@@ -32,10 +31,9 @@ pub struct Feeder {
     bytes: Vec<u8>,
     names: Vec<u8>,
     total: u64,
-    /// Definition lines whose rows are not written, each with its offset in the file.
-    definitions: VecDeque<(u64, Vec<u8>)>,
-    /// The last line so far is open, and whether it is a definition.
-    open: Option<bool>,
+    /// The definition line of the record on its way, as far as it has come, and its offset in the file.
+    kept: Vec<u8>,
+    kept_at: u64,
 }
 
 /// The rows of a file that has arrived. Names and descriptions are kept here, one behind another.
@@ -49,7 +47,7 @@ pub struct Fed {
 impl Fed {
     /// The rows, as [`index`](crate::index) has them but for where names and descriptions lie.
     pub fn table(&self) -> Table<'_> {
-        Table::from_bytes(&self.names, self.bytes.clone(), self.rows)
+        Table::of_lent(&self.names, &self.bytes, self.rows)
     }
 }
 
@@ -72,7 +70,7 @@ impl Feeder {
 
     fn by(complete: u64) -> Self {
         let feed = entry::feed_start(complete);
-        Self { feed, bytes: vec![], names: vec![], total: 0, definitions: VecDeque::new(), open: None }
+        Self { feed, bytes: vec![], names: vec![], total: 0, kept: vec![], kept_at: 0 }
     }
 
     /// How many rows are written.
@@ -93,13 +91,14 @@ impl Feeder {
     pub fn feed(&mut self, piece: &[u8]) -> Result<(), Refusal> {
         for piece in piece.chunks(PIECE) {
             self.refused()?;
-            self.keep_definitions(piece);
+            let from = self.total;
             self.total += piece.len() as u64;
             // no record has fewer than three bytes, but the first and the last may lie outside of the piece in part
             self.make_room(piece.len() / 3 + 2);
             let rows = self.rows();
             self.feed = entry::feed_piece(self.feed, piece, &mut self.bytes);
-            self.name_rows(rows);
+            self.name_rows(rows, from, piece);
+            self.keep_definition(from, piece);
         }
         self.refused()
     }
@@ -109,7 +108,7 @@ impl Feeder {
         self.make_room(1);
         let rows = self.rows();
         self.feed = entry::feed_end(self.feed, &mut self.bytes);
-        self.name_rows(rows);
+        self.name_rows(rows, self.total, &[]);
         self.refused()?;
         let rows = self.rows();
         self.bytes.truncate(rows * ROW_BYTES);
@@ -123,44 +122,65 @@ impl Feeder {
         }
     }
 
-    /// Keeps the definition lines of a piece, or what it has of them.
-    fn keep_definitions(&mut self, piece: &[u8]) {
-        let mut at = self.total;
-        for line in piece.split_inclusive(|byte| *byte == b'\n') {
-            let is_definition = self.open.unwrap_or(line[0] == b'>');
-            if is_definition {
-                if self.open.is_none() {
-                    self.definitions.push_back((at, vec![]));
-                }
-                if let Some((_, kept)) = self.definitions.back_mut() {
-                    kept.extend_from_slice(line);
-                }
-            }
-            self.open = (!line.ends_with(b"\n")).then_some(is_definition);
-            at += line.len() as u64;
+    /// Where the definition line of the record on its way lies, as far as it has come: the line that waits, if it begins with '>', or the one
+    /// that the record was opened with. A row is written with the '>' behind its record, so that there is one at most.
+    fn definition(&self) -> [u64; 2] {
+        let Feed { at, end, held_starts, held_width, .. } = self.feed;
+        if held_starts == 0 { [at, end] } else { [self.total.saturating_sub(held_width), self.total] }
+    }
+
+    /// Keeps what a piece has of that line; the piece begins at an offset.
+    fn keep_definition(&mut self, from: u64, piece: &[u8]) {
+        let [start, end] = self.definition();
+        if start >= from || start != self.kept_at {
+            self.kept.clear();
+            self.kept_at = start;
+        }
+        let kept = self.kept_at + self.kept.len() as u64;
+        if kept < end {
+            self.kept.extend_from_slice(part(piece, kept.saturating_sub(from), end.saturating_sub(from)));
         }
     }
 
-    /// Gives the rows that were written their names: a row's spans count from the start of the file, and here from that of the names.
-    fn name_rows(&mut self, from: usize) {
-        for row in from..self.rows() {
-            let numbers = &mut self.bytes[row * ROW_BYTES..][..ROW_BYTES];
-            let number = |word: usize| u64::from_le_bytes(numbers[word * 8..][..8].try_into().expect("eight bytes"));
-            let (name, described) = ([number(0), number(1)], [number(6), number(7)]);
-            while self.definitions.front().is_some_and(|(at, line)| at + line.len() as u64 <= name[0]) {
-                self.definitions.pop_front();
+    /// Gives the rows that were written their names: a row's spans count from the start of the file, and here from that of the names. A name's
+    /// bytes are in the line that was kept, in the piece, which begins at an offset, or in both.
+    fn name_rows(&mut self, first: usize, from: u64, piece: &[u8]) {
+        let Self { feed, bytes, names, kept, kept_at, .. } = self;
+        let rows = bytes.chunks_exact_mut(ROW_BYTES).take(feed.rows as usize).skip(first);
+        for row in rows {
+            for word in [0, 6] {
+                let Some(numbers) = row.get_mut(word * 8..).and_then(|rest| rest.first_chunk_mut::<16>()) else {
+                    continue;
+                };
+                let [start, length] = numbers_of(*numbers);
+                let end = start.saturating_add(length);
+                let place = if length == 0 { 0 } else { names.len() as u64 };
+                if start < from {
+                    names.extend_from_slice(part(
+                        kept,
+                        start.saturating_sub(*kept_at),
+                        end.min(from).saturating_sub(*kept_at),
+                    ));
+                }
+                if end > from {
+                    names.extend_from_slice(part(piece, start.saturating_sub(from), end - from));
+                }
+                numbers[..8].copy_from_slice(&place.to_le_bytes());
             }
-            let Some((at, line)) = self.definitions.pop_front() else { continue };
-            let mut put = |[start, length]: [u64; 2], word: usize| {
-                let place = if length == 0 { 0 } else { self.names.len() as u64 };
-                let part = (start.saturating_sub(at) as usize).min(line.len());
-                self.names.extend_from_slice(&line[part..][..(length as usize).min(line.len() - part)]);
-                numbers[word * 8..][..8].copy_from_slice(&place.to_le_bytes());
-            };
-            put(name, 0);
-            put(described, 6);
         }
     }
+}
+
+/// Two numbers of a row.
+fn numbers_of(bytes: [u8; 16]) -> [u64; 2] {
+    let both = u128::from_le_bytes(bytes);
+    [both as u64, (both >> 64) as u64]
+}
+
+/// A part of some bytes, as far as they reach.
+fn part(bytes: &[u8], from: u64, to: u64) -> &[u8] {
+    let within = |place: u64| usize::try_from(place).unwrap_or(usize::MAX).min(bytes.len());
+    bytes.get(within(from)..within(to)).unwrap_or_default()
 }
 
 #[cfg(feature = "std")]

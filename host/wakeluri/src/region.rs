@@ -105,18 +105,11 @@ impl Written {
         }
     }
 
-    /// The same of what is written most often, which needs no more than a look at each byte: `5-9`, in digits that 64 bits hold.
+    /// The same of what is written most often: `5-9`.
     fn of_plain(text: &[u8]) -> Option<Self> {
-        let mut values = [None, None];
-        let mut parts = text.split(|byte| *byte == b'-');
-        for value in &mut values {
-            let digits = parts.next().filter(|digits| (1..=19).contains(&digits.len()))?;
-            let add = |sum: u64, byte: &u8| byte.is_ascii_digit().then(|| sum * 10 + u64::from(byte - b'0'));
-            *value = Some(digits.iter().try_fold(0, add)?);
-        }
-        let number = |value| Some(Number { value, digits: String::new() });
-        let [start, end] = values.map(number);
-        parts.next().is_none().then_some(Self { start, end })
+        let number = |value| Some(Number { value: Some(value), digits: String::new() });
+        let ([start, end], before) = plain_bounds(text)?;
+        before.is_empty().then_some(Self { start: number(start), end: number(end) })
     }
 
     /// Whether a bound is 0, or the start after the end.
@@ -139,6 +132,34 @@ impl Written {
     pub fn over(&self) -> Option<&Number> {
         [&self.start, &self.end].into_iter().flatten().find(|number| number.value.is_none())
     }
+}
+
+/// A number of up to 19 digits at the end of a text, and what stands before it.
+fn last_number(text: &[u8]) -> Option<(u64, &[u8])> {
+    let (mut value, mut unit, mut before) = (0, 1, text);
+    while let [rest @ .., byte @ b'0'..=b'9'] = before {
+        if text.len() - before.len() == 19 {
+            return None;
+        }
+        value += u64::from(byte - b'0') * unit;
+        (unit, before) = (unit.wrapping_mul(10), rest);
+    }
+    (before.len() < text.len()).then_some((value, before))
+}
+
+/// The bounds `5-9` at the end of a text, in digits that 64 bits hold, and what stands before them: one look at each byte.
+fn plain_bounds(text: &[u8]) -> Option<([u64; 2], &[u8])> {
+    let (end, before) = last_number(text)?;
+    let (start, before) = last_number(before.strip_suffix(b"-")?)?;
+    Some(([start, end], before))
+}
+
+/// The name and the bounds of a region as most are written, `name:5-9`. Where all of it is no name, and the name exists, that is what
+/// [`meaning`] says of it.
+pub(crate) fn plain(region: &[u8]) -> Option<(&[u8], Bounds)> {
+    let ([start, end], before) = plain_bounds(region)?;
+    let name = before.strip_suffix(b":").filter(|_| !region.starts_with(b"{"))?;
+    Some((name, (start..=end).into()))
 }
 
 /// A way to read a region: a name, and what stands behind the colon after it.

@@ -4,6 +4,7 @@ use crate::entry::{ROW_BYTES, ROW_WORDS};
 use crate::refusal::Call;
 use crate::row::{Identity, Row};
 use crate::{Bounds, Refusal, entry};
+use alloc::borrow::Cow;
 use alloc::vec::Vec;
 
 /// A table of this many rows is tried first: enough for most files, and so small that it costs little beside any.
@@ -74,7 +75,7 @@ impl<'n> Record<'n> {
 #[derive(Clone, Debug)]
 pub struct Table<'n> {
     names: &'n [u8],
-    bytes: Vec<u8>,
+    bytes: Cow<'n, [u8]>,
     in_use: usize,
     identity: Identity,
 }
@@ -231,11 +232,16 @@ impl<'n> Table<'n> {
     /// A table from bytes as they are: [`ROW_WORDS`] numbers of eight bytes to a row, low byte first. Nothing is judged here; a row
     /// that can't be used is refused with 25 when it is.
     pub fn from_bytes(names: &'n [u8], bytes: Vec<u8>, in_use: usize) -> Self {
-        Self::with_identity(names, bytes, in_use, Identity::fresh())
+        Self::with_identity(names, bytes.into(), in_use, Identity::fresh())
+    }
+
+    /// The same of bytes that stay where they are.
+    pub(crate) fn of_lent(names: &'n [u8], bytes: &'n [u8], in_use: usize) -> Self {
+        Self::with_identity(names, bytes.into(), in_use, Identity::fresh())
     }
 
     /// The same, whose rows are those of another table.
-    pub(crate) fn with_identity(names: &'n [u8], bytes: Vec<u8>, in_use: usize, identity: Identity) -> Self {
+    pub(crate) fn with_identity(names: &'n [u8], bytes: Cow<'n, [u8]>, in_use: usize, identity: Identity) -> Self {
         Self { names, bytes, in_use, identity }
     }
 
@@ -270,7 +276,7 @@ impl<'n> Table<'n> {
 
     /// The rows as bytes, and no longer a table: [`Table::from_bytes`] makes one of them again.
     pub fn into_bytes(self) -> Vec<u8> {
-        self.bytes
+        self.bytes.into_owned()
     }
 
     /// The bytes that names are parts of.
