@@ -1,2 +1,9 @@
 pub mod Check
 pub mod Accepts
+pub mod Elsewhere
+pub mod Taken
+pub mod Named
+pub mod Steps
+pub mod JudgeLaws
+pub mod WalkLaws
+pub mod Examples

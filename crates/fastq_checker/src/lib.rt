@@ -1,2 +1,212 @@
-// Checks an index of six columns against its FASTQ file.
+// Checks an index of any program against its FASTQ file: every line of the index has to describe its record, down to the place of every base
+// and of every quality. Refuses inputs over the size limit (1); then what the indexer refuses anywhere in the file (2 to 7, 38, 39); then, record
+// by record, a record without a line (19), a line that does not read (9 to 12), another name (21), another length (22), a base that is not where the
+// line says (23), a quality that is not (23); and what is left of the index behind the last record (20). 19 to 23 tell the record, from 1.
+pub mod elsewhere;
+
 use checker::Verdict;
+use elsewhere::Apart;
+use fastq::Indexed;
+use fastq::Part;
+use fastq::QualityRow;
+use fastq_line::LineRead;
+use record::Record;
+use refusal::Refusal;
+ghost use mathlib.Core.Path.{_≡_};
+ghost use mathlib.Core.List.{[]};
+ghost use Prim.Native.Nat.{_+_, _≤_, _<_};
+ghost use lib.ListN.{length, drop};
+ghost use Rattle.lines.specs.Lines.{lines};
+ghost use Rattle.lines.specs.Same.{sameBytes};
+ghost use Rattle.index_line.specs.IndexLine.{nameIn};
+ghost use Rattle.checker.specs.Steps.{onlyLine};
+ghost use Rattle.fastq_index.specs.File.{rowsAt};
+ghost use Rattle.fastq_checker.specs.Check.{entrySays, recordSays, recordsSay, checkOf};
+ghost use Rattle.fastq_checker.specs.Taken.{Taken};
+ghost use Rattle.fastq_checker.specs.Steps.{partSaysOf, partsSay, stopSays, placeBehind, judgedAs, stepOf};
+
+// The place behind some records: in the file and in the index, and how many they are.
+struct Place {
+    fastq: usize,
+    index: usize,
+    records: u64,
+}
+
+// The place behind one record more; or that there is none; or why it is refused.
+enum Step {
+    Next(Place),
+    End,
+    Refused(Refusal),
+}
+
+// Is the name of a record of the file that of a line's row.
+fn same_name(fastq: &[u8], x: Record, line: &[u8], y: Record) -> bool
+    requires { ⌜ (x .«name_start» + x .«name_length» ≤ length (now fastq)) × (y .«name_start» + y .«name_length» ≤ length (now line)) ⌝ }
+    ensures { λ r. ⌜ r ≡ sameBytes (nameIn (now (fastq .entry)) x) (nameIn (now (line .entry)) y) ⌝ }
+{
+    let a = x.name_start as usize;
+    let b = a + x.name_length as usize;
+    let c = y.name_start as usize;
+    let d = c + y.name_length as usize;
+    check::same(&fastq[a..b], &line[c..d])
+}
+
+// One part of a record against that of its line's row: 23.
+fn judge_part(x: QualityRow, y: QualityRow, part: Part, record: u64) -> Verdict
+    ensures { λ r. ⌜ r ≡ partSaysOf «record» x y part ⌝ }
+{
+    match elsewhere::first_apart(x.part(part), y.part(part)) {
+        Apart::Never => Verdict::Accepted,
+        Apart::First(p) => Verdict::Refused(Refusal::BaseElsewhere { record, base: p.0 }),
+    }
+}
+
+// The bases of a record, then its qualities, against its line's row.
+fn judge_parts(x: QualityRow, y: QualityRow, record: u64) -> Verdict
+    ensures { λ r. ⌜ r ≡ partsSay «record» x y ⌝ }
+{
+    match judge_part(x, y, Part::Bases, record) {
+        Verdict::Refused(r) => Verdict::Refused(r),
+        Verdict::Accepted => judge_part(x, y, Part::Qualities, record),
+    }
+}
+
+// A record against what its line says: 21, 22, then its parts.
+fn judge_entry(fastq: &[u8], x: QualityRow, line: &[u8], y: QualityRow, record: u64) -> Verdict
+    requires { ⌜ Taken (now fastq) x × (y .«record» .«name_start» + y .«record» .«name_length» ≤ length (now line)) ⌝ }
+    ensures { λ r. ⌜ r ≡ entrySays «record» (now (fastq .entry)) x (nameIn (now (line .entry)) (y .«record»)) y ⌝ }
+{
+    let a = x.record;
+    let b = y.record;
+    if !same_name(fastq, a, line, b) {
+        return Verdict::Refused(Refusal::NameDiffers { record });
+    }
+    if a.length != b.length {
+        return Verdict::Refused(Refusal::LengthDiffers { record });
+    }
+    judge_parts(x, y, record)
+}
+
+// A record against its index line, which has no bytes where there is none: 19, 9 to 12, then what it says.
+fn judge_record(fastq: &[u8], x: QualityRow, line: &[u8], record: u64) -> Verdict
+    requires { ⌜ Taken (now fastq) x ⌝ }
+    ensures { λ r. ⌜ r ≡ recordSays «record» (now (fastq .entry)) x (onlyLine (now (line .entry))) ⌝ }
+{
+    if line.len() == 0 {
+        return Verdict::Refused(Refusal::LineAbsent { record });
+    }
+    match fastq_line::parse_line(line, record) {
+        LineRead::Refused(r) => Verdict::Refused(r),
+        LineRead::Row(e) => {
+            let y = e.row;
+            judge_entry(fastq, x, line, y, record)
+        }
+    }
+}
+
+impl Place {
+    // Checks the record at the place, which is `x` and ends at `behind`.
+    fn check_row(self, fastq: &[u8], index: &[u8], x: QualityRow, behind: usize) -> Step
+        requires { ⌜ (self .records < length (now fastq)) × (self .index ≤ length (now index)) × Taken (now fastq) x ⌝ }
+        ensures { λ r. ⌜ r ≡ judgedAs (recordSays (self .records + 1) (now (fastq .entry)) x (lines (drop (self .index) (now (index .entry))))) (placeBehind (now (index .entry)) self behind) ⌝ }
+    {
+        let line = self.index;
+        let end = lines::ends::line_end(index, line);
+        let record = self.records + 1;
+        match judge_record(fastq, x, &index[line..end], record) {
+            Verdict::Refused(r) => Step::Refused(r),
+            Verdict::Accepted => Step::Next(Place {
+                fastq: behind,
+                index: end,
+                records: record,
+            }),
+        }
+    }
+
+    // Checks the record at the place, if there is one, and hands back the place behind it.
+    fn check_record(self, fastq: &[u8], index: &[u8]) -> Step
+        requires { ⌜ (self .records ≤ self .fastq) × (self .index ≤ length (now index)) ⌝ }
+        ensures { λ r. ⌜ r ≡ stepOf (now (fastq .entry)) (now (index .entry)) self ⌝ }
+    {
+        let step = fastq::index_at(fastq, self.fastq);
+        let answer = step.answer;
+        match answer {
+            Indexed::Row(x) => self.check_row(fastq, index, x, step.next),
+            Indexed::End => Step::End,
+            Indexed::Refused(_) => Step::End,
+        }
+    }
+}
+
+// What the indexer refuses in the file, wherever that is.
+fn judge_file(fastq: &[u8]) -> Verdict
+    ensures { λ r. ⌜ r ≡ stopSays (rowsAt (now (fastq .entry)) 0 .stop) ⌝ }
+{
+    let mut at = 0;
+    loop {
+        let step = fastq::index_at(fastq, at);
+        let answer = step.answer;
+        match answer {
+            Indexed::Row(_) => {
+                at = step.next;
+            }
+            Indexed::End => {
+                return Verdict::Accepted;
+            }
+            Indexed::Refused(r) => {
+                return Verdict::Refused(r);
+            }
+        }
+    }
+}
+
+// What is left of the index behind all records: 20.
+fn judge_left(index: &[u8], at: usize, records: u64) -> Verdict
+    requires { ⌜ at ≤ length (now index) ⌝ }
+    ensures { λ r. ⌜ r ≡ recordsSay records [] [] (lines (drop at (now (index .entry)))) ⌝ }
+{
+    if at < index.len() {
+        return Verdict::Refused(Refusal::BytesLeft { records });
+    }
+    Verdict::Accepted
+}
+
+// Every record of the file that the indexer takes, against the lines of the index.
+fn check_records(fastq: &[u8], index: &[u8]) -> Verdict
+    ensures { λ r. ⌜ r ≡ recordsSay 0 (now (fastq .entry)) (rowsAt (now (fastq .entry)) 0 .rows) (lines (now (index .entry))) ⌝ }
+{
+    let mut w = Place {
+        fastq: 0,
+        index: 0,
+        records: 0,
+    };
+    loop {
+        match w.check_record(fastq, index) {
+            Step::Next(next) => {
+                w = next;
+            }
+            Step::End => {
+                return judge_left(index, w.index, w.records);
+            }
+            Step::Refused(r) => {
+                return Verdict::Refused(r);
+            }
+        }
+    }
+}
+
+// Checks an index against its file. What the indexer refuses comes first.
+pub fn check(fastq: &[u8], index: &[u8]) -> Verdict
+    ensures { λ r. ⌜ r ≡ checkOf (now (fastq .entry)) (now (index .entry)) ⌝ }
+{
+    if refusal::over_limit(fastq.len()) {
+        return Verdict::Refused(Refusal::TooLong);
+    }
+    if refusal::over_limit(index.len()) {
+        return Verdict::Refused(Refusal::TooLong);
+    }
+    match judge_file(fastq) {
+        Verdict::Refused(r) => Verdict::Refused(r),
+        Verdict::Accepted => check_records(fastq, index),
+    }
+}
