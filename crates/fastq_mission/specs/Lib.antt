@@ -22,3 +22,4 @@ pub mod MendedLaws
 pub mod Mended
 pub mod Mending
 pub mod Barred
+pub mod ReadBack
