@@ -7,11 +7,10 @@
 use Prim.Native.Nat.{ℕ, _*_, _≤_}
 use mathlib.Core.Path.{_≡_, refl, sym, ap, _∙_}
 use mathlib.Core.List.{List}
-use mathlib.Core.Bool.{Bool, true, false, cond}
+use mathlib.Core.Bool.{cond}
 use lib.ListN.{length, set, length-set}
 use Rattle.refusal.specs.declared.Refusal.the-variants.{TooLong}
 use Rattle.output.specs.Outcome.{Outcome, leaves}
-use Rattle.output.specs.declared.Written.{Written}
 use Rattle.table.specs.Numbers.{numbersIn}
 use Rattle.index.specs.declared.Found.{Found}
 use Rattle.index.specs.declared.Found.the-variants as found

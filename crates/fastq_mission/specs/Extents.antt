@@ -1,7 +1,7 @@
 -- Where the records of a FASTQ file lie: each behind the one before it; in a record the name, then its bases, then its qualities. So a base of one
 -- record is no byte of another's name, bases or qualities.
 use Prim.Native.Nat.{ℕ, zero, suc, _+_, _-_, _≤_, _<_}
-use mathlib.Core.Path.{_≡_, refl, ap, sym, _∙_}
+use mathlib.Core.Path.{_≡_, refl, ap, _∙_}
 use mathlib.Core.Logic.{_⊎_, inl, inr}
 use mathlib.Core.List.{List, [], _∷_}
 use lib.ListN.{length, getD}
@@ -22,7 +22,7 @@ use Rattle.fastq.specs.declared.Indexed.the-variants as indexed
 use Rattle.fastq_index.specs.File.{onwards, rowsOf, rowsAt}
 use Rattle.fastq_checker.specs.Check.{partLines, offsetsOf}
 use Rattle.fastq_checker.specs.Accepts.{recordsOf, recordAt}
-use Rattle.fastq_mission.specs.Taken.{defAt, Taken, record-taken}
+use Rattle.fastq_mission.specs.Taken.{Taken, record-taken}
 use Rattle.fastq_mission.specs.Leads.{start, position-is, qualities-at, bases-are, qualities-are, name-within}
 
 -- where base, or quality, j + 1 of record x of a file lies, and how many there are

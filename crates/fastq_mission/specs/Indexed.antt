@@ -1,20 +1,19 @@
 -- Demand 3 for FASTQ, its last sentence: the index lines of a file that our indexer takes to its end are accepted, if they too are within the limit.
 -- Said for the file's rows by `index-accepted` and `index-checked`, and for the call, with a table of n rows, by `call-checked`. Each index line is what
 -- the call that writes one writes of its row: `line-written`.
-use Prim.Native.Nat.{ℕ, zero, suc, _^_, _≤_, _<_}
-use mathlib.Core.Path.{_≡_, refl, ap, sym, _∙_}
-use mathlib.Core.List.{List, [], _∷_}
+use Prim.Native.Nat.{ℕ, zero, suc, _≤_, _<_}
+use mathlib.Core.Path.{_≡_, refl}
+use mathlib.Core.List.{List}
 use mathlib.Core.Bool.{Bool, true, false, cond}
-use lib.ListN.{length, getD, take}
+use lib.ListN.{length, take}
 use lib.Dec.{ltb}
 use borrow.Author.Tests.{ltb-false, le-ltb}
 use native.Mathlib.Omega.{arith}
 use Rattle.refusal.specs.Numbers.{overLimit}
 use Rattle.refusal.specs.declared.Refusal.the-variants.{TooLong, TableFull}
 use Rattle.output.specs.Outcome.{gives}
-use Rattle.table.specs.Rows.{namedOf, namedIn}
+use Rattle.table.specs.Rows.{namedOf}
 use Rattle.table.specs.RowLaws.{sound-row, name-inside}
-use Rattle.table.specs.declared.Held.the-variants as held
 use Rattle.table.specs.declared.Stop.the-variants as stop
 use Rattle.index_line.specs.IndexLine.{nameIn}
 use Rattle.mission.specs.IndexedLaws.{text-written}
@@ -36,7 +35,7 @@ use Rattle.fastq_checker.specs.Check.{checkOf}
 use Rattle.fastq_checker.specs.Accepts.{recordsOf, recordAt, Accepts}
 use Rattle.fastq_mission.specs.Exactly.{accepted-if}
 use Rattle.fastq_mission.specs.Taken.{record-taken}
-use Rattle.fastq_mission.specs.Leads.{Leads, taken-leads}
+use Rattle.fastq_mission.specs.Leads.{taken-leads}
 use Rattle.fastq_mission.specs.TableRows.{bare, used-stored, qualities-stored}
 use Rattle.fastq_mission.specs.Written.{lineIn, indexText, AllLead, matched, line-at, line-count}
 

@@ -1,7 +1,7 @@
 -- What is known of a line of six columns that reads: its name is its front, and its numbers can stand in a line.
 use Prim.Native.Nat.{ℕ, _^_, _≤_, _<_}
 use mathlib.Core.Path.{_≡_, refl, sym, ap, _∙_}
-use mathlib.Core.List.{List, [], _∷_}
+use mathlib.Core.List.{List, _∷_}
 use mathlib.Core.Bool.{Bool, true, false, _&&_, true≢false}
 use native.Mathlib.Omega.{arith}
 use lib.ListN.{length, take, length-append}

@@ -1,7 +1,7 @@
 -- The lines of a FASTQ record with one byte replaced: behind the record, or a base of it. Either way the record says the same.
 use Prim.Native.Nat.{ℕ, zero, suc, _+_, _-_, _≤_, _<_}
 use mathlib.Core.Path.{_≡_, refl, ap, sym, _∙_}
-use mathlib.Core.List.{List, [], _∷_, _++_, map}
+use mathlib.Core.List.{List, [], _∷_, map}
 use mathlib.Core.Bool.{Bool, true, false, cond}
 use lib.ListN.{length, take, set, length-set, length-map}
 use lib.Dec.{eqb, ltb}
@@ -15,7 +15,7 @@ use Rattle.lines.specs.Lines.{chop, basesOf, none, firstLine, sumBases, sumWidt
 use Rattle.lines.specs.Laws.{chop-le}
 use Rattle.lines.specs.Mending.{setIn, set-first, set-later, bases-set, widths-set, BaseOf, first, later, base-byte-within, sums-set}
 use Rattle.indexer.specs.Index.{lineOf}
-use Rattle.fastq.specs.Fastq.{plus, bodyOf, fromPlus, lineSays, andThen, restOf, sequenceOf, fitsPartner, qualitiesOf, rowFor, qualitiesJudged, plusJudged, sequenceJudged, sequenceSays}
+use Rattle.fastq.specs.Fastq.{plus, bodyOf, fromPlus, lineSays, andThen, restOf, sequenceOf, fitsPartner, qualitiesOf, qualitiesJudged, sequenceJudged, sequenceSays}
 use Rattle.fastq.specs.declared.QualityRow.{QualityRow}
 use Rattle.fastq.specs.declared.Verdict.{Verdict}
 use Rattle.fastq.specs.declared.Verdict.the-variants as judged

@@ -1,24 +1,22 @@
 -- A FASTQ file with one base replaced has the same rows, and the indexer stops where it did: `rows-same`.
 use Prim.Native.Nat.{ℕ, zero, suc, _+_, _-_, _≤_, _<_}
 use mathlib.Core.Path.{_≡_, refl, ap, sym, _∙_}
-use mathlib.Core.List.{List, [], _∷_, _++_}
+use mathlib.Core.List.{List, _∷_, _++_}
 use lib.ListN.{length, getD, drop, set, length-set}
 use lib.Seq.{getD-drop, drop-set-lt, drop-set-add}
 use native.Mathlib.Omega.{arith}
-use Rattle.lines.specs.Lines.{lines, lineEnd, contentOf, basesAt}
+use Rattle.lines.specs.Lines.{lines, lineEnd}
 use Rattle.lines.specs.Laws.{linesAt-cut}
 use Rattle.lines.specs.Mending.{setIn, set-later, lines-set, BaseOf, first, later, base-no-lf}
-use Rattle.definition.specs.Definition.{markedSays}
 use Rattle.record.specs.BasePlaces.{place-from, base-of}
-use Rattle.fastq.specs.Fastq.{linesAt, bodyOf, sequenceSays, firstSays}
+use Rattle.fastq.specs.Fastq.{linesAt, sequenceSays, firstSays}
 use Rattle.fastq.specs.Fastq as fastq
 use Rattle.fastq.specs.Parts.{partOf}
 use Rattle.fastq.specs.declared.Part.the-variants.{Bases}
 use Rattle.fastq.specs.declared.QualityRow.{QualityRow}
 use Rattle.fastq.specs.declared.Indexed.{Indexed}
 use Rattle.fastq.specs.declared.Indexed.the-variants as indexed
-use Rattle.fastq.specs.declared.Step.{Step}
-use Rattle.fastq_table.specs.Fill.{Found, withFirst}
+use Rattle.fastq_table.specs.Fill.{withFirst}
 use Rattle.fastq_index.specs.File.{onwards, rowsOf, rowsAt}
 use Rattle.fastq_checker.specs.Check.{partLines, offsetsOf}
 use Rattle.fastq_checker.specs.Accepts.{recordsOf, recordAt}

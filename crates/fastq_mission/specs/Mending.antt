@@ -4,7 +4,7 @@
 -- all: `mended-elsewhere`; so does every read of qualities: `mended-qualities`. One that covers it differs only there: `mended-here`; `changed-answer`
 -- and `changed-other` of region/specs/Changed.antt say what that leaves. For an accepted index they are `pair-elsewhere`, `pair-qualities` and
 -- `pair-here`. That two indexes of one file are read alike is `indexes-agree` of Tables.antt.
-use Prim.Native.Nat.{ℕ, suc, _+_, _-_, _≤_, _<_}
+use Prim.Native.Nat.{ℕ, suc, _-_, _≤_, _<_}
 use mathlib.Core.Path.{_≡_, refl, ap, sym, _∙_}
 use mathlib.Core.List.{List}
 use mathlib.Core.Bool.{Bool, true, false, cond}
@@ -21,7 +21,7 @@ use Rattle.table.specs.declared.Filled.{Filled}
 use Rattle.table.specs.declared.Held.the-variants as held
 use Rattle.output.specs.Outcome.{Outcome, refuses}
 use Rattle.output.specs.declared.Written.{Written}
-use Rattle.region.specs.Region.{startOf, endOf}
+use Rattle.region.specs.Region.{startOf}
 use Rattle.region.specs.Exact.{exactOf, exactHeld}
 use Rattle.region.specs.Dependence.{InRegion, exact-same}
 use Rattle.region.specs.Changed.{changedAt, changed-refused, exact-changed}
@@ -31,8 +31,7 @@ use Rattle.fastq.specs.declared.Part.the-variants.{Bases, Qualities}
 use Rattle.fastq_table.specs.Rows.{rowCount}
 use Rattle.fastq_table.specs.Fill.{FilledAs}
 use Rattle.fastq_index.specs.Text.{indexIn}
-use Rattle.fastq_checker.specs.Check.{offsetsOf}
-use Rattle.fastq_checker.specs.Accepts.{recordsOf, recordAt, Accepts}
+use Rattle.fastq_checker.specs.Accepts.{Accepts}
 use Rattle.fastq_mission.specs.TableOf.{recordCount, baseCount, RowOf, heldAt, exactPart, TableOf}
 use Rattle.fastq_mission.specs.Tables.{accepted-table}
 use Rattle.fastq_mission.specs.Mend.{BaseAt, Plain, Covers}

@@ -1,7 +1,7 @@
 -- The index lines of a FASTQ file that our indexer takes to its end read back, by the whole-index call, to rows with the same names and the same five
 -- numbers: `rows-read-back` for the file's rows, `call-read-back` for the calls, with a table of n rows each.
-use Prim.Native.Nat.{ℕ, suc, _+_, _≤_, _<_}
-use mathlib.Core.Path.{_≡_, refl, ap, sym, _∙_}
+use Prim.Native.Nat.{ℕ, _+_, _≤_, _<_}
+use mathlib.Core.Path.{_≡_, refl, ap, _∙_}
 use mathlib.Core.List.{List, []}
 use lib.ListN.{length, getD}
 use native.Mathlib.Omega.{arith}

@@ -7,7 +7,7 @@
 use Prim.Native.Nat.{ℕ, _+_, _-_, _≤_, _<_}
 use mathlib.Core.Path.{_≡_, ap, sym, _∙_}
 use mathlib.Core.List.{List, _++_, map}
-use lib.ListN.{length, drop, getD}
+use lib.ListN.{length, drop}
 use borrow.Author.Tests.{le-ltb}
 use native.Mathlib.Omega.{arith}
 use Rattle.refusal.specs.Numbers.{overLimit}
@@ -39,7 +39,7 @@ use Rattle.fastq_checker.specs.Accepts.{recordsOf, recordAt, Accepts}
 use Rattle.fastq_mission.specs.Exactly.{accepted-only-if}
 use Rattle.fastq_mission.specs.Front.{Front, base-inside, bases-part}
 use Rattle.fastq_mission.specs.Indexed.{file-leads, whole}
-use Rattle.fastq_mission.specs.TableOf.{recordCount, linesIn, baseCount, RowOf, heldAt, exactPart, TableOf}
+use Rattle.fastq_mission.specs.TableOf.{recordCount, linesIn, baseCount, RowOf, exactPart, TableOf}
 use Rattle.fastq_mission.specs.Tables.{accepted-table, indexed-table}
 use Rattle.fastq_mission.specs.Asked.{lastOf, askedCount, bytesBetween, Asked, givesAsked}
 

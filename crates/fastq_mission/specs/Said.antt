@@ -1,5 +1,5 @@
 -- Every verdict of the checker of FASTQ is what Accepts.antt of its crate and FirstFault.antt say, and nothing else is: one record and its line.
-use Prim.Native.Nat.{ℕ, suc, _<_}
+use Prim.Native.Nat.{ℕ, suc}
 use mathlib.Core.Path.{_≡_, refl, sym, _∙_}
 use mathlib.Core.List.{List, [], _∷_}
 use mathlib.Core.Bool.{Bool, true, false, cond, true≢false}
@@ -27,7 +27,7 @@ use Rattle.checker.specs.declared.Verdict.{Verdict}
 use Rattle.checker.specs.declared.Verdict.the-variants.{Accepted, Refused}
 use Rattle.fastq_checker.specs.Check.{offsetsOf, placesSay, partSays, entrySays, lineJudged, recordSays}
 use Rattle.fastq_checker.specs.Accepts.{Matches}
-use Rattle.fastq_mission.specs.FirstFault.{InPlace, AllInPlace, FirstElsewhere, SameName, SameCount, LineFault, RecordFault}
+use Rattle.fastq_mission.specs.FirstFault.{AllInPlace, FirstElsewhere, SameName, SameCount, LineFault, RecordFault}
 use Rattle.fastq_mission.specs.FirstFault.LineFault.{bad-line, other-name, other-length, other-base, other-quality}
 use Rattle.fastq_mission.specs.FirstFault.RecordFault.{no-line, wrong-line}
 

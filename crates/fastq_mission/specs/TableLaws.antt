@@ -28,12 +28,12 @@ use Rattle.fastq_index.specs.Text.{placedAt, linesSay, indexAt, indexIn}
 use Rattle.checker.specs.Accepts.{limit}
 use Rattle.mission.specs.TableLaws.{line-bytes, lineStart, suc-shift, start-behind}
 use Rattle.fastq_checker.specs.Check.{partLines, offsetsOf}
-use Rattle.fastq_checker.specs.Accepts.{recordsOf, recordAt, Matches, MatchesAt, Accepts}
+use Rattle.fastq_checker.specs.Accepts.{recordsOf, recordAt, MatchesAt, Accepts}
 use Rattle.fastq_mission.specs.FirstFault.{AllInPlace}
 use Rattle.fastq_mission.specs.LineLaws.{LineSound, line-sound}
 use Rattle.fastq_mission.specs.Indexed.{file-leads}
 use Rattle.fastq_mission.specs.TableRows.{bare, held-stored, held-beyond}
-use Rattle.fastq_mission.specs.TableOf.{recordCount, baseCount, RowOf, Holds, TableOf}
+use Rattle.fastq_mission.specs.TableOf.{recordCount, Holds, TableOf}
 
 -- ---- rows about a file's records, put in a table
 

@@ -2,15 +2,13 @@
 use Prim.Native.Nat.{ℕ, zero, suc, _+_, _*_, _≤_, _<_}
 use mathlib.Core.Path.{_≡_, refl, ap, sym, _∙_}
 use mathlib.Core.List.{List, [], _∷_, _++_, append-assoc}
-use lib.ListN.{length, getD, drop}
+use lib.ListN.{length, drop}
 use lib.Seq.{sets-eq, getD-append-add}
 use native.Mathlib.Omega.{arith}
-use native.Mathlib.Nat.{zero-add, add-assoc}
-use Rattle.record.specs.declared.Offset.{Offset}
-use Rattle.table.specs.Rows.{badRow, soundRow, heldOf}
+use native.Mathlib.Nat.{add-assoc}
+use Rattle.table.specs.Rows.{badRow, heldOf}
 use Rattle.table.specs.RowLaws.{sound-row}
 use Rattle.table.specs.declared.Held.the-variants as held
-use Rattle.table.specs.declared.InUse.{InUse}
 use Rattle.table.specs.declared.InUse.the-variants as used
 use Rattle.fastq.specs.Parts.{partOf}
 use Rattle.fastq.specs.declared.Part.{Part}

@@ -24,7 +24,7 @@ use Rattle.region.specs.Dependence.{exact-alike}
 use Rattle.region.specs.declared.Bound.{Bound}
 use Rattle.fastq.specs.declared.Part.{Part}
 use Rattle.fastq_table.specs.Rows.{rowCount}
-use Rattle.fastq_table.specs.Fill.{Found, FilledAs}
+use Rattle.fastq_table.specs.Fill.{FilledAs}
 use Rattle.fastq_index.specs.File.{rowsAt, fileIn}
 use Rattle.fastq_index.specs.Text.{indexAt, indexIn}
 use Rattle.checker.specs.declared.Verdict.the-variants.{Accepted}

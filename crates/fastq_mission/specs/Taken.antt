@@ -1,6 +1,6 @@
 -- A record that the indexer of FASTQ takes, by its lines: what it found to give this row.
 use Prim.Native.Nat.{ℕ, _+_, _≤_, _<_}
-use mathlib.Core.Path.{_≡_, refl, ap, sym, _∙_}
+use mathlib.Core.Path.{_≡_, refl, ap, _∙_}
 use mathlib.Core.List.{List, [], _∷_, map}
 use mathlib.Core.Bool.{Bool, true, false, cond}
 use lib.ListN.{length, take}
@@ -16,7 +16,7 @@ use Rattle.definition.specs.declared.Definition.{Definition}
 use Rattle.definition.specs.declared.Parsed.{Parsed}
 use Rattle.definition.specs.declared.Parsed.the-variants.{Named, Bad}
 use Rattle.indexer.specs.Index.{lineOf}
-use Rattle.fastq.specs.Fastq.{linesAt, bodyOf, fromPlus, restOf, sequenceOf, qualitiesOf, rowFor, qualitiesJudged, plusJudged, sequenceJudged, sequenceSays, definedSays, recordAt}
+use Rattle.fastq.specs.Fastq.{linesAt, bodyOf, fromPlus, restOf, sequenceOf, qualitiesOf, rowFor, qualitiesJudged, sequenceJudged, sequenceSays, definedSays, recordAt}
 use Rattle.fastq.specs.RecordLaws.{record-end}
 use Rattle.fastq.specs.declared.QualityRow.{QualityRow}
 use Rattle.fastq.specs.declared.Verdict.{Verdict}

@@ -2,7 +2,7 @@
 use Prim.Native.Nat.{ℕ, zero, suc, _^_, _<_}
 use mathlib.Core.Path.{_≡_, refl, ap, sym, _∙_}
 use mathlib.Core.List.{List, [], _∷_, _++_, append-nil}
-use lib.ListN.{length, getD, take}
+use lib.ListN.{length, getD}
 use native.Mathlib.Omega.{arith}
 use Rattle.lines.specs.Lines.{lines}
 use Rattle.definition.specs.Definition.{isSpace}
