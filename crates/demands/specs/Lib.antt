@@ -15,3 +15,4 @@ pub mod BadDefinition
 pub mod WritingLaws
 pub mod Writing
 pub mod Scoring
+pub mod Fed
