@@ -30,6 +30,9 @@ use Rattle.wakeluri.specs.Answer.{boundOf, givenBy, verdictAnswer, foundAnswer,
 use Rattle.output.specs.Outcome.{leaves}
 use Rattle.wakeluri.specs.Told.{filledTold, writtenTold, sequenceTold}
 use Rattle.wakeluri.specs.Course.{scoredTold}
+use Rattle.wakeluri.specs.declared.feeding.Feed.{Feed}
+use Rattle.wakeluri.specs.Feeding.{ruleBy, feederBy, feedTold, callTold}
+use Rattle.feeder.specs.Calls.{begunBy, pieceOf, endOf}
 
 -- wakeluri_check(file, index) answers a
 abbrev pub Check : List ℕ → List ℕ → Answer → Type 0
@@ -94,3 +97,13 @@ WriteExercise name start end edition out a out′ = leaves a out′ ≡ writtenT
 -- wakeluri_score_exercise(exercise, typed, file, names, table, in_use, room)
 abbrev pub ScoreExercise : List ℕ → List ℕ → List ℕ → List ℕ → List ℕ → ℕ → List ℕ → ScoreAnswer → List ℕ → Type 0
 ScoreExercise exercise typed file names table in-use room a room′ = leaves a room′ ≡ scoredTold (scorerOf exercise typed file names (numbersIn table) in-use room)
+
+-- wakeluri_feed_start(complete), wakeluri_feed_piece(feed, piece, table) and wakeluri_feed_end(feed, table)
+abbrev pub FeedStart : ℕ → Feed → Type 0
+FeedStart complete a = a ≡ feedTold (begunBy (ruleBy complete))
+
+abbrev pub FeedPiece : Feed → List ℕ → List ℕ → Feed → List ℕ → Type 0
+FeedPiece feed piece table a table′ = leaves a table′ ≡ callTold (pieceOf (feederBy feed) piece (numbersIn table)) table
+
+abbrev pub FeedEnd : Feed → List ℕ → Feed → List ℕ → Type 0
+FeedEnd feed table a table′ = leaves a table′ ≡ callTold (endOf (feederBy feed) (numbersIn table)) table

@@ -16,3 +16,4 @@ pub mod WritingLaws
 pub mod Writing
 pub mod Scoring
 pub mod MendedScores
+pub mod Fed

@@ -1,12 +1,14 @@
 // Demand 3 at the entry points, looking up and reading as two calls (request K8), just the needed bytes fetched and read (K7), a written record
-// read back (K3), and a written exercise scored (K5). The theorems are in specs/AtTheEdge.antt, LookUp.antt, Fetching.antt, Writing.antt and
-// Scoring.antt, over the calls' promises as relations (specs/Calls.antt). Here each call is made, and has its relation for a contract: so the
+// read back (K3), a written exercise scored (K5), and a file that arrives in pieces (K1). The theorems are in specs/AtTheEdge.antt, LookUp.antt,
+// Fetching.antt, Writing.antt, Scoring.antt and Fed.antt, over the calls' promises as relations (specs/Calls.antt). Here each call is made, and has its relation for a contract: so the
 // theorems are about the calls themselves.
 use wakeluri::answer::Answer;
 use wakeluri::answer::DefinitionAnswer;
 use wakeluri::answer::RowAnswer;
 use wakeluri::course;
 use wakeluri::course::ScoreAnswer;
+use wakeluri::feeding;
+use wakeluri::feeding::Feed;
 use wakeluri::files;
 use wakeluri::rows;
 use wakeluri::scan;
@@ -15,7 +17,7 @@ use wakeluri::window;
 use wakeluri::window::PartAnswer;
 use wakeluri::writing;
 ghost use Rattle.fitting.specs.declared.Rule.the-variants.{Strict, Complete};
-ghost use Rattle.demands.specs.Calls.{Check, ReadIndex, IndexFile, WriteIndexLine, Find, ReadExact, ReadRaw, NeededBytes, ReadWindow, WriteRecord, DefinitionLine, IndexRecord, ReadSequence, WriteExercise, ScoreExercise};
+ghost use Rattle.demands.specs.Calls.{Check, ReadIndex, IndexFile, WriteIndexLine, Find, ReadExact, ReadRaw, NeededBytes, ReadWindow, WriteRecord, DefinitionLine, IndexRecord, ReadSequence, WriteExercise, ScoreExercise, FeedStart, FeedPiece, FeedEnd};
 
 fn check(file: &[u8], index: &[u8]) -> Answer
     ensures { λ a. ⌜ Check (now (file .entry)) (now (index .entry)) a ⌝ }
@@ -210,4 +212,22 @@ fn score_exercise(
     ensures { λ a. ⌜ ScoreExercise (now (exercise .entry)) (now (typed .entry)) (now (file .entry)) (now (names .entry)) (now (table .entry)) «in_use» (now (room .entry)) a (now (room .exit)) ⌝ }
 {
     course::wakeluri_score_exercise(exercise, typed, file, names, table, in_use, room)
+}
+
+fn feed_start(complete: u64) -> Feed
+    ensures { λ a. ⌜ FeedStart complete a ⌝ }
+{
+    feeding::wakeluri_feed_start(complete)
+}
+
+fn feed_piece(feed: Feed, piece: &[u8], table: &mut [u8]) -> Feed
+    ensures { λ a. ⌜ FeedPiece feed (now (piece .entry)) (now (table .entry)) a (now (table .exit)) ⌝ }
+{
+    feeding::wakeluri_feed_piece(feed, piece, table)
+}
+
+fn feed_end(feed: Feed, table: &mut [u8]) -> Feed
+    ensures { λ a. ⌜ FeedEnd feed (now (table .entry)) a (now (table .exit)) ⌝ }
+{
+    feeding::wakeluri_feed_end(feed, table)
 }
