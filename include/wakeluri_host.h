@@ -1,7 +1,7 @@
 /* What stands around the entry points for a host in C: refusals by name and in words, the version, the rows of a table, a region as a
  * struct. wakeluri.h includes it. The entry points are proved; what is here only hands numbers on, and is tested.
  *
- * wakeluri_version, wakeluri_form, wakeluri_words, wakeluri_read_bases and wakeluri_read_near are in the libraries that `tools/dev clibs` makes, which have the
+ * wakeluri_version, wakeluri_form, wakeluri_words, wakeluri_read_bases and wakeluri_read_text are in the libraries that `tools/dev clibs` makes, which have the
  * proved code in them too. The rest needs no library.
  */
 #ifndef WAKELURI_HOST_H
@@ -105,8 +105,20 @@ const char *wakeluri_words(uint64_t number);
  * number, 0 for none; wakeluri_read_exact tells its two numbers. */
 uint64_t wakeluri_read_bases(const struct wakeluri_record *record, uint64_t start, uint64_t end, uint8_t *out);
 
-/* The same of small numbers, which some hosts hand over quicker. */
-int wakeluri_read_near(const struct wakeluri_record *record, uint32_t start, uint32_t end, uint8_t *out);
+/* A record, and how a host makes a text of its own from bytes: PyUnicode_DecodeLatin1, say, which is told NULL as its third argument. Before
+ * `due`, nanoseconds of the monotonic clock, the host needs no look at the file. */
+struct wakeluri_texts {
+    struct wakeluri_record record;
+    void *(*make)(const char *bases, ptrdiff_t count, const char *errors);
+    const uint64_t *due;
+};
+
+/* The longest text that wakeluri_read_text gives. */
+#define WAKELURI_TEXT 65536
+
+/* The bases from `start` to `end` of a record as a text that the host makes, in one call, for a host whose calls are dear. A text of no bases where
+ * the read is refused, it would be too long, or `due` has come: wakeluri_read_exact says which. */
+void *wakeluri_read_text(const struct wakeluri_texts *of, uint32_t start, uint32_t end);
 
 /* Whether the library is one that this header speaks of. */
 static inline int wakeluri_fits(void) {

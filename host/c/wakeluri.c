@@ -1,5 +1,8 @@
 /* What stands around the proved entry points, in C: include/wakeluri_host.h says what each is for. */
+#define _GNU_SOURCE
 #include "wakeluri.h"
+
+#include <time.h>
 
 uint64_t wakeluri_version(void) {
     return WAKELURI_VERSION;
@@ -16,8 +19,22 @@ uint64_t wakeluri_read_bases(const struct wakeluri_record *record, uint64_t star
     return wakeluri_read_region(record->of, &region, out, room).refusal;
 }
 
-int wakeluri_read_near(const struct wakeluri_record *record, uint32_t start, uint32_t end, uint8_t *out) {
-    return (int)wakeluri_read_bases(record, start, end, out);
+/* Whether a time has come, by a clock that a look at costs little: it is some milliseconds late at most. */
+static int is_due(uint64_t due) {
+    struct timespec now;
+#ifdef CLOCK_MONOTONIC_COARSE
+    const int told = clock_gettime(CLOCK_MONOTONIC_COARSE, &now);
+#else
+    const int told = clock_gettime(CLOCK_MONOTONIC, &now);
+#endif
+    return told != 0 || (uint64_t)now.tv_sec * 1000000000 + (uint64_t)now.tv_nsec >= due;
+}
+
+void *wakeluri_read_text(const struct wakeluri_texts *of, uint32_t start, uint32_t end) {
+    uint8_t bases[WAKELURI_TEXT];
+    const int is_short = start <= end && end - start < WAKELURI_TEXT;
+    const int is_read = is_short && !is_due(*of->due) && wakeluri_read_bases(&of->record, start, end, bases) == WAKELURI_FINE;
+    return of->make((const char *)bases, is_read ? (ptrdiff_t)(end - start) + 1 : 0, NULL);
 }
 
 /* The same words as Reason::words_of of host/wakeluri/src/reason.rs, which a test holds against these. */

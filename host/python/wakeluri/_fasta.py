@@ -6,10 +6,10 @@ import ctypes
 import mmap
 import os
 import struct
-from time import monotonic
-from typing import Dict, Iterator, Union, overload
+from time import monotonic_ns
+from typing import Iterator, Union, overload
 
-from ._library import NEAR, ROW_BYTES, OneRow, Rows, address, held, library, read_near
+from ._library import MAKE, NEAR, ROW_BYTES, OneRow, Rows, address, held, library, read_text
 from ._refusal import Changed, Refusal, refused
 
 Path = Union[str, "os.PathLike[str]"]
@@ -21,22 +21,14 @@ MAPPED_FROM = 16 << 20
 #: Up to so many bases a read is so short that to let other threads go on would cost more than it.
 _SHORT = 1 << 16
 
-#: A read looks whether the file has changed if the last look is so many seconds old.
-_DUE = 0.01
+#: A read looks whether the file has changed if the last look is so many nanoseconds old.
+_DUE = 10_000_000
+
+#: What the quickest call raises where it is not asked for numbers: the other way says why, or takes them.
+_NO_NUMBERS = (TypeError, ctypes.ArgumentError)
 
 _row = struct.Struct("<8Q")
 _read_short = held.wakeluri_read_bases
-
-
-class _Rooms(Dict[int, "type[ctypes.Array[ctypes.c_char]]"]):
-    """The kinds of rooms for so many bytes."""
-
-    def __missing__(self, count: int) -> type[ctypes.Array[ctypes.c_char]]:
-        room = self[count] = ctypes.c_char * count
-        return room
-
-
-_rooms = _Rooms()
 
 
 def _bytes_of(source: Source) -> bytes:
@@ -166,7 +158,7 @@ class Record:
     def __init__(self, fasta: Fasta, row: int, name: str, length: int) -> None:
         self._fasta = fasta
         self._row = row
-        row_of = OneRow(fasta._rows_at, row)
+        row_of = OneRow(fasta._rows_at, row, MAKE, fasta._due_at)
         self._at = ctypes.addressof(row_of)
         # this keeps it, and is handed over as it is
         self._one = ctypes.byref(row_of)
@@ -193,17 +185,16 @@ class Record:
         Traceback (most recent call last):
         wakeluri._refusal.PastLength: sq1: the region goes past the record's bases: refused 17 (length 10)
         """
-        fasta = self._fasta
         if type(key) is slice and key.step is None:
-            start, stop = key.start, key.stop
             # most reads: both bounds are given, and there are few bases
-            if type(start) is int and type(stop) is int and 0 <= start < stop <= start + _SHORT and stop < NEAR:
-                out = _rooms[stop - start]()
-                if read_near(self._one, start + 1, stop, out):
-                    raise self._refused(start + 1, stop)
-                if monotonic() >= fasta._due:
-                    fasta.unchanged()
-                return str(out, "latin-1")
+            try:
+                start, stop = key.start, key.stop
+                if 0 <= start < stop < NEAR:
+                    bases: str = read_text(self._one, start + 1, stop)
+                    if bases:
+                        return bases
+            except _NO_NUMBERS:
+                pass
         if isinstance(key, slice):
             return self._slice(key).decode("latin-1")
         at = self._place(key)
@@ -247,7 +238,7 @@ class Record:
         self._fasta._open()
         if read(self._at, first, last, out):
             raise self._refused(first, last)
-        if monotonic() >= self._fasta._due:
+        if monotonic_ns() >= self._fasta._due.value:
             self._fasta.unchanged()
         return out.raw
 
@@ -326,6 +317,8 @@ class Fasta:
             raise
         self._text = text
         self._kept: dict[str, Record] = {}
+        self._due = ctypes.c_uint64(0)
+        self._due_at = ctypes.addressof(self._due)
         self._described: ctypes.Array[ctypes.c_char] | None = None
         table_at = ctypes.addressof(self._table)
         in_use = len(self._table) // ROW_BYTES
@@ -335,7 +328,6 @@ class Fasta:
         for row, (start, length, *_) in enumerate(_row.iter_unpack(self._table)):
             name = ctypes.string_at(self._names_at + start, length).decode("utf-8", "surrogateescape")
             self._by_name.setdefault(name, row)
-        self._due = 0.0
         self.unchanged()
 
     def _found(self, index: Path | None) -> bytes | None:
@@ -376,16 +368,17 @@ class Fasta:
         if self._file.changed():
             self._changed = True
             # every read looks from now on
-            self._due = 0.0
+            self._due.value = 0
             self._open()
-        self._due = monotonic() + _DUE
+        self._due.value = monotonic_ns() + _DUE
 
     def __getitem__(self, name: str) -> Record:
         """The first record of a name; raises `NameUnknown`, a `KeyError`, if there is none."""
-        record = self._kept.get(name)
-        if record is None:
+        try:
+            return self._kept[name]
+        except KeyError:
             record = self._kept[name] = self._record(name)
-        return record
+            return record
 
     def _record(self, name: str) -> Record:
         self._open()
@@ -496,7 +489,7 @@ class Fasta:
             # a read of a record finds no row from now on
             self._rows.in_use = 0
             self._rows.file_length = 0
-            self._due = 0.0
+            self._due.value = 0
             self._file.close()
 
     def __enter__(self) -> Fasta:

@@ -54,9 +54,9 @@ class Rows(ctypes.Structure):
 
 
 class OneRow(ctypes.Structure):
-    """A row of them: a record to read from."""
+    """A row of them: a record to read from. Then what makes a `str` of bases, and where the time stands at which a look at the file is due."""
 
-    _fields_ = [("of", _pointer), ("row", _u64)]
+    _fields_ = [("of", _pointer), ("row", _u64), ("make", _pointer), ("due", _pointer)]
 
 
 _BYTES: list[type] = [_pointer, _size]
@@ -111,9 +111,13 @@ def _load() -> tuple[ctypes.CDLL, ctypes.PyDLL]:
 #: The library, whose calls let other threads go on; and the same, for calls that are so short that this would cost more.
 library, held = _load()
 
-#: The quickest call: what it takes is not declared, so a number is handed over as an int of C, and must be less than `NEAR`.
-read_near = held["wakeluri_read_near"]
-read_near.restype = ctypes.c_int
+#: What makes a `str` of bytes, for the library to call.
+MAKE = ctypes.cast(ctypes.pythonapi.PyUnicode_DecodeLatin1, _pointer).value
+
+#: The quickest call, which gives the bases as a `str`, an empty one where it has no answer. What it takes is not declared, so a number is handed
+#: over as an int of C, and must be less than `NEAR`.
+read_text = held["wakeluri_read_text"]
+read_text.restype = ctypes.py_object
 NEAR = 1 << 31
 
 

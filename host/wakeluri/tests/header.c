@@ -368,7 +368,17 @@ static void nothing_at_null(void) {
     GIVES(wakeluri_fastq_check(NULL, 0, NULL, 0), WAKELURI_FINE);
 }
 
-/* What wakeluri_host.h has: rows, regions, words and the version. */
+/* A host's text, made of bases. */
+static char made_text[16];
+
+static void *made(const char *bases, ptrdiff_t count, const char *errors) {
+    MUST(errors == NULL && count < (ptrdiff_t)sizeof made_text);
+    memcpy(made_text, bases, (size_t)count);
+    made_text[count] = 0;
+    return made_text;
+}
+
+/* What wakeluri_host.h has: rows, regions, texts, words and the version. */
 static void around_the_calls(void) {
     uint8_t table[2 * ROW_BYTES], out[8] = "........";
     struct wakeluri_answer a = wakeluri_index_file(BYTES(fasta), table, sizeof table);
@@ -398,8 +408,15 @@ static void around_the_calls(void) {
     MUST(wakeluri_read_bases(&first, 5, 4, NULL) == WAKELURI_BAD_BOUNDS);
     MUST(wakeluri_read_bases(&first, 0, UINT64_MAX, NULL) == WAKELURI_BAD_BOUNDS);
     MUST(wakeluri_read_bases(&none, 1, 1, out) == WAKELURI_BAD_ROW);
-    MUST(wakeluri_read_near(&first, 1, 2, out) == WAKELURI_FINE && memcmp(out, "ACT.", 4) == 0);
-    MUST(wakeluri_read_near(&first, 6, 7, out) == WAKELURI_PAST_LENGTH);
+    uint64_t due = UINT64_MAX;
+    const struct wakeluri_texts texts = {first, made, &due};
+    MUST(wakeluri_read_text(&texts, 1, 5) == made_text && strcmp(made_text, "ACGTA") == 0);
+    const uint32_t none_of[][2] = {{6, 7}, {0, 1}, {2, 1}, {0, UINT32_MAX}, {1, 65537}};
+    for (size_t i = 0; i < sizeof none_of / sizeof *none_of; i++)
+        MUST(wakeluri_read_text(&texts, none_of[i][0], none_of[i][1]) == made_text && *made_text == 0);
+    MUST(wakeluri_read_text(&texts, 6, 6) == made_text && strcmp(made_text, "C") == 0);
+    due = 0;
+    MUST(wakeluri_read_text(&texts, 1, 5) == made_text && *made_text == 0);
 
     MUST(wakeluri_version() == WAKELURI_VERSION && wakeluri_form() == WAKELURI_FORM && wakeluri_fits());
     MUST(strcmp(wakeluri_words(WAKELURI_NAME_UNKNOWN), "no record has that name") == 0);
