@@ -6,7 +6,7 @@
 use output::Written;
 use refusal::Refusal;
 ghost use mathlib.Core.Path.{_≡_};
-ghost use mathlib.Core.Bool.{_&&_};
+ghost use mathlib.Core.Bool.{true, false, _&&_};
 ghost use Prim.Native.Nat.{_+_, _≤_, _<_, min};
 ghost use lib.ListN.{length};
 ghost use Rattle.definition.specs.Definition.{isSpace};
@@ -49,8 +49,21 @@ fn any_lf(s: &[u8]) -> bool
     false
 }
 
-// Is one of some bytes no base. All are looked at, which the compiler does many at once.
-fn any_barred(s: &[u8]) -> bool
+// Have all bytes the bit 64. Letters have it; LF, CR and '>' do not.
+fn all_high(s: &[u8]) -> bool
+    ensures { λ r. ⌜ (r ≡ true → anyOf barred (now (s .entry)) ≡ false) ⌝ }
+{
+    let mut low: u8 = 0;
+    let mut i = 0;
+    while i < s.len() {
+        low = low | ((s[i] & 64) ^ 64);
+        i += 1;
+    }
+    low == 0
+}
+
+// Is one of some bytes LF, CR or '>'. All are looked at, which the compiler does many at once.
+fn any_listed(s: &[u8]) -> bool
     ensures { λ r. ⌜ r ≡ anyOf barred (now (s .entry)) ⌝ }
 {
     let mut any: u8 = 0;
@@ -60,6 +73,16 @@ fn any_barred(s: &[u8]) -> bool
         i += 1;
     }
     any != 0
+}
+
+// Is one of some bytes no base. Where all are letters, one bit of each tells that none is.
+fn any_barred(s: &[u8]) -> bool
+    ensures { λ r. ⌜ r ≡ anyOf barred (now (s .entry)) ⌝ }
+{
+    if all_high(s) {
+        return false;
+    }
+    any_listed(s)
 }
 
 // Is a name empty, or has it whitespace.
