@@ -15,5 +15,6 @@ pub mod Reads
 pub mod Covers
 pub mod MendingLaws
 pub mod Mending
+pub mod MendedNames
 pub mod BadDefinition
 pub mod Described
