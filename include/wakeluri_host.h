@@ -19,13 +19,16 @@
 /* A row of a table: eight numbers of eight bytes, low byte first. */
 #define WAKELURI_ROW_BYTES 64
 
+/* The bytes of a row of a FASTQ file's table: seven numbers. */
+#define WAKELURI_FASTQ_ROW_BYTES 56
+
 /* Why a call gave no answer, and what its two numbers say, `first` and `second`, where they are named. */
 enum wakeluri_refusal {
     WAKELURI_FINE = 0, /* there is no refusal */
     WAKELURI_TOO_LONG = 1, /* an input is longer than 1,099,511,627,776 bytes */
     WAKELURI_EMPTY_DEFINITION = 2, /* a definition line is empty; offset (wakeluri_check: record, offset) */
-    WAKELURI_NO_PREFIX = 3, /* a definition line does not begin with '>'; offset (wakeluri_check: record, offset) */
-    WAKELURI_NO_NAME = 4, /* a definition line has no name after its '>'; offset (wakeluri_check: record, offset) */
+    WAKELURI_NO_PREFIX = 3, /* a definition line does not begin with '>', or in FASTQ with '@'; offset (wakeluri_check: record, offset) */
+    WAKELURI_NO_NAME = 4, /* a definition line has no name after its '>', or in FASTQ its '@'; offset (wakeluri_check: record, offset) */
     WAKELURI_NO_BASES = 5, /* a record has no bases in its first line; offset */
     WAKELURI_LINE_BASES = 6, /* a line has another number of bases than its record's lines; found, expected */
     WAKELURI_LINE_WIDTH = 7, /* a line has another number of bytes than its record's lines; found, expected */

@@ -26,8 +26,8 @@ const char *wakeluri_words(uint64_t number) {
     case WAKELURI_FINE: return "there is no refusal";
     case WAKELURI_TOO_LONG: return "an input is longer than 1,099,511,627,776 bytes";
     case WAKELURI_EMPTY_DEFINITION: return "a definition line is empty";
-    case WAKELURI_NO_PREFIX: return "a definition line does not begin with '>'";
-    case WAKELURI_NO_NAME: return "a definition line has no name after its '>'";
+    case WAKELURI_NO_PREFIX: return "a definition line does not begin with '>', or in FASTQ with '@'";
+    case WAKELURI_NO_NAME: return "a definition line has no name after its '>', or in FASTQ its '@'";
     case WAKELURI_NO_BASES: return "a record has no bases in its first line";
     case WAKELURI_LINE_BASES: return "a line has another number of bases than its record's lines";
     case WAKELURI_LINE_WIDTH: return "a line has another number of bytes than its record's lines";

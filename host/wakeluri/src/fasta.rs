@@ -1,12 +1,14 @@
 //! A FASTA file and its index as one thing that an app opens once, keeps, and shares between its threads.
 
 mod error;
+mod fastq;
 #[allow(unsafe_code)]
 mod mapped;
 mod names;
 mod watch;
 
 pub use error::Error;
+pub use fastq::{Fastq, Read};
 
 use crate::entry::{ROW_BYTES, ROW_WORDS};
 use crate::refusal::Call;
@@ -145,7 +147,22 @@ impl Options {
 
     /// Opens a FASTA file.
     pub fn open(self, path: impl AsRef<Path>) -> Result<Fasta, Error> {
-        let path = path.as_ref();
+        let found = self.found(path.as_ref())?;
+        let (table, trust) = found.rows(&Rules {
+            make: |bytes| crate::index(bytes).map(Table::into_bytes),
+            check: crate::check,
+            read: |text| crate::read_index(text).map(Table::into_bytes),
+        })?;
+        found.opened(table, trust)
+    }
+
+    /// Opens a FASTQ file, whose index has six columns.
+    pub fn open_fastq(self, path: impl AsRef<Path>) -> Result<Fastq, Error> {
+        Fastq::opened(self.found(path.as_ref())?)
+    }
+
+    /// The file's bytes, and its index where there is one.
+    fn found(self, path: &Path) -> Result<Found, Error> {
         let (bytes, watch) = mapped::open(path, if self.hold { u64::MAX } else { MAPPED_FROM })?;
         let (index_path, named) = match self.index {
             Some(path) => (path, true),
@@ -157,21 +174,47 @@ impl Options {
             Err(error) if error.kind() == io::ErrorKind::NotFound && !named => None,
             Err(error) => return Err(Error::file(&index_path, error)),
         };
+        Ok(Found { path: path.to_path_buf(), bytes, watch, index_path, text, unchecked: self.unchecked })
+    }
+}
+
+/// A file that was opened, and the index text that was found for it.
+struct Found {
+    path: PathBuf,
+    bytes: Bytes,
+    watch: Option<Watch>,
+    index_path: PathBuf,
+    text: Option<Vec<u8>>,
+    unchecked: bool,
+}
+
+/// The calls of a format: rows made of a file, an index held against it, rows read of an index.
+struct Rules {
+    make: fn(&[u8]) -> Result<Vec<u8>, Refusal>,
+    check: fn(&[u8], &[u8]) -> Result<(), Refusal>,
+    read: fn(&[u8]) -> Result<Vec<u8>, Refusal>,
+}
+
+impl Found {
+    /// The rows as bytes, and what they rest on.
+    fn rows(&self, rules: &Rules) -> Result<(Vec<u8>, Trust), Error> {
         let about = |what: &Path| {
             let what = what.display().to_string();
             move |refusal| Error::refused(what, refusal)
         };
-        let (table, trust, index) = match text {
-            None => (crate::index(&bytes).map_err(about(path))?.into_bytes(), Trust::Made, None),
-            Some(text) => {
-                if !self.unchecked {
-                    crate::check(&bytes, &text).map_err(about(&index_path))?;
-                }
-                let table = crate::read_index(&text).map_err(about(&index_path))?.into_bytes();
-                (table, if self.unchecked { Trust::Unchecked } else { Trust::Checked }, Some(text))
-            }
+        let Some(text) = &self.text else {
+            return Ok(((rules.make)(&self.bytes).map_err(about(&self.path))?, Trust::Made));
         };
-        let fasta = Fasta::of(bytes, index, table, trust, Some(path.to_path_buf()), watch);
+        if !self.unchecked {
+            (rules.check)(&self.bytes, text).map_err(about(&self.index_path))?;
+        }
+        let table = (rules.read)(text).map_err(about(&self.index_path))?;
+        Ok((table, if self.unchecked { Trust::Unchecked } else { Trust::Checked }))
+    }
+
+    /// With its rows, if the file is still what it was.
+    fn opened(self, table: Vec<u8>, trust: Trust) -> Result<Fasta, Error> {
+        let fasta = Fasta::of(self.bytes, self.text, table, trust, Some(self.path), self.watch);
         fasta.unchanged()?;
         Ok(fasta)
     }
@@ -356,13 +399,17 @@ impl Fasta {
     /// Writes the index beside the file (`ref.fa.fai`), in one step: nobody sees half of it. Tells its path.
     pub fn save_index(&self) -> Result<PathBuf, Error> {
         self.unchanged()?;
+        self.save(&self.index_text()?)
+    }
+
+    /// Puts an index text beside the file.
+    fn save(&self, text: &[u8]) -> Result<PathBuf, Error> {
         let to = beside(self.path.as_deref().unwrap_or(Path::new("")));
-        let text = self.index_text()?;
         let mut name = to.clone().into_os_string();
         name.push(format!(".{}.new", std::process::id()));
         let new = PathBuf::from(name);
         let written = fs::File::create_new(&new).and_then(|mut file| {
-            file.write_all(&text)?;
+            file.write_all(text)?;
             file.sync_all()?;
             fs::rename(&new, &to)
         });

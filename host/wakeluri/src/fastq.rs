@@ -53,7 +53,7 @@ pub enum Part {
 
 impl Part {
     /// As the entry point takes it: 0 for bases.
-    const fn number(self) -> u64 {
+    pub(crate) const fn number(self) -> u64 {
         match self {
             Self::Bases => 0,
             Self::Qualities => 1,

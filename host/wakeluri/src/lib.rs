@@ -39,13 +39,13 @@
 //! | have an index of bytes in memory, or of another's text | [`index`], [`read_index`], [`check`], [`Table`] |
 //! | read regions as people write them | [`Fasta::read`], [`region`] |
 //! | write FASTA | [`Writer`], [`write_record`] |
-//! | index FASTQ, and read its bases and qualities | [`fastq`] |
+//! | index FASTQ, and read its bases and qualities | [`Fastq`], [`fastq`] |
 //! | know why there is no answer | [`Refusal`], and [`Reason`] for a `match` |
 //! | come from noodles-fasta | [`noodles`] |
 //!
 //! # Features
 //!
-//! `std`, which is on if nothing else is said, brings [`Fasta`], [`Writer`] and [`noodles`], which need files and streams. Without it the
+//! `std`, which is on if nothing else is said, brings [`Fasta`], [`Fastq`], [`Writer`] and [`noodles`], which need files and streams. Without it the
 //! crate needs `alloc` alone.
 
 #![cfg_attr(not(feature = "std"), no_std)]
@@ -109,5 +109,5 @@ pub mod region;
 pub mod shown;
 
 #[cfg(feature = "std")]
-pub use fasta::{Error, Fasta};
+pub use fasta::{Error, Fasta, Fastq};
 pub use reason::Reason;

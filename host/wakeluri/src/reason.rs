@@ -142,8 +142,8 @@ macro_rules! reasons {
 reasons! {
     1 TooLong {} "an input is longer than 1,099,511,627,776 bytes";
     2 EmptyDefinition { record: Option<u64>, offset: u64 } "a definition line is empty";
-    3 NoPrefix { record: Option<u64>, offset: u64 } "a definition line does not begin with '>'";
-    4 NoName { record: Option<u64>, offset: u64 } "a definition line has no name after its '>'";
+    3 NoPrefix { record: Option<u64>, offset: u64 } "a definition line does not begin with '>', or in FASTQ with '@'";
+    4 NoName { record: Option<u64>, offset: u64 } "a definition line has no name after its '>', or in FASTQ its '@'";
     5 NoBases { offset: u64 } "a record has no bases in its first line";
     6 LineBases { found: u64, expected: u64 } "a line has another number of bases than its record's lines";
     7 LineWidth { found: u64, expected: u64 } "a line has another number of bytes than its record's lines";

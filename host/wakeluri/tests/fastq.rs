@@ -142,3 +142,50 @@ fn tables_that_lie() {
     assert_eq!((table.rows().len(), table.records().count()), (1, 0));
     assert_eq!(table.find(b"s").map_err(numbers), Err([25, 1, 0]));
 }
+
+#[test]
+fn a_file_is_opened_with_its_index() {
+    use wakeluri::fasta::Trust;
+    use wakeluri::{Error, Fastq};
+    let folder = std::env::temp_dir().join(format!("wakeluri-reads-{}", std::process::id()));
+    std::fs::create_dir_all(&folder).expect("a folder");
+    let (path, index) = (folder.join("reads.fq"), folder.join("reads.fq.fai"));
+    std::fs::write(&path, b"@s one\nACGT\nAC\n+\n!\"#$\n%&\n@t\nG\n+\n@\n").expect("a file");
+
+    let made = Fastq::open(&path).expect("no index is needed");
+    assert_eq!((made.trust(), made.len(), made.is_empty()), (Trust::Made, 2, false));
+    assert_eq!(made.save_index().expect("an index"), index);
+    let text = std::fs::read(&index).expect("its text");
+    assert_eq!(text, b"s\t6\t7\t4\t5\t17\nt\t1\t28\t1\t2\t32\n");
+
+    let checked = Fastq::open(&path).expect("a good index");
+    assert_eq!((checked.trust(), checked.index_text().expect("a text")), (Trust::Checked, text));
+    for (one, other) in made.records().zip(checked.records()) {
+        assert_eq!((one.name(), one.length(), one.number()), (other.name(), other.length(), other.number()));
+        for part in [Part::Bases, Part::Qualities] {
+            let row = Row::of_any_table(one.number());
+            let read = made.table().read(made.bytes(), row, part, ..).expect("bytes");
+            assert_eq!(
+                (one.read(part, ..).expect("bytes"), other.read(part, ..).expect("bytes")),
+                (read.clone(), read)
+            );
+        }
+    }
+    assert_eq!(checked.read("s:4-5", Part::Qualities).expect("qualities"), b"$%");
+    assert_eq!(checked.read("t", Part::Bases).expect("bases"), b"G");
+    assert_eq!(checked.read("u", Part::Bases).unwrap_err().refusal().map(|no| no.number), Some(15));
+    assert_eq!(checked.nth(1).map(|read| read.name()), Some(&b"t"[..]));
+
+    // the qualities of the second record are elsewhere: refused, or believed
+    std::fs::write(&index, b"s\t6\t7\t4\t5\t17\nt\t1\t28\t1\t2\t31\n").expect("an index");
+    match Fastq::open(&path).unwrap_err() {
+        Error::Refused { refusal, .. } => assert_eq!(numbers(refusal), [23, 2, 1]),
+        other => panic!("{other}"),
+    }
+    let believed = Fastq::options().unchecked().open_fastq(&path).expect("an index that is believed");
+    assert_eq!(
+        (believed.trust(), believed.read("t", Part::Qualities).expect("a byte")),
+        (Trust::Unchecked, b"\n".to_vec())
+    );
+    std::fs::remove_dir_all(&folder).expect("no folder");
+}

@@ -183,7 +183,7 @@ static void ordinary_calls(void) {
 }
 
 /* FASTQ: rows of seven numbers, index lines of six columns. */
-#define FASTQ_ROW_BYTES 56
+#define FASTQ_ROW_BYTES WAKELURI_FASTQ_ROW_BYTES
 
 static void fastq_calls(void) {
     static const char reads[] = "@s one\nACGT\nAC\n+\n@III\n+!\n@t\nG\n+\n!";
