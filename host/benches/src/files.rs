@@ -71,6 +71,37 @@ impl Lines {
     }
 }
 
+/// What qualities are made of; '@' and '+' stand among them.
+const QUALITIES: &[u8] = b"FFFFFFFF:,#@+I";
+
+/// A FASTQ file of so many reads of 150 bases, four lines each, as a sequencer writes them.
+pub fn short_reads(reads: usize) -> Vec<u8> {
+    let mut numbers = Numbers::new(8);
+    let mut file = vec![];
+    for read in 0..reads {
+        let (bases, qualities) = (numbers.letters(b"ACGT", 150), numbers.letters(QUALITIES, 150));
+        let name = format!("@A00123:45:HXXXXDSXX:1:1101:{}:{read} 1:N:0:ACGT\n", 1000 + read % 31_000);
+        file.extend([name.as_bytes(), &bases, b"\n+\n", &qualities, b"\n"].concat());
+    }
+    file
+}
+
+/// A FASTQ file of about so many bytes, of reads of some 20,000 bases in lines of 60.
+pub fn long_reads(bytes: usize) -> Vec<u8> {
+    let mut numbers = Numbers::new(9);
+    let mut file = vec![];
+    while file.len() < bytes {
+        let length = 10_000 + numbers.below(20_000) as usize;
+        file.extend(format!("@read{} made up\n", file.len()).as_bytes());
+        for letters in [&b"ACGT"[..], QUALITIES] {
+            let bytes = numbers.letters(letters, length);
+            bytes.chunks(60).for_each(|line| file.extend([line, b"\n"].concat()));
+            file.extend_from_slice(if letters == QUALITIES { b"" } else { b"+\n" });
+        }
+    }
+    file
+}
+
 /// A file of one line of so many bases.
 pub fn one_line(bases: usize) -> Vec<u8> {
     let bases = Numbers::new(3).letters(b"ACGT", bases);

@@ -17,7 +17,7 @@ mod report;
 use files::{Lines, Numbers, one_line, room};
 use measure::{Work, in_turns, limits};
 use original::{Region, Sequence, over_c, over_crate};
-use report::{Checked, Compared, Grown, HandedOut, LookedUp, Mapped, Report, Scored, Sheeted};
+use report::{Checked, Compared, Fastq, Grown, HandedOut, LookedUp, Mapped, Report, Scored, Sheeted};
 use wakeluri::Edition;
 use wakeluri::entry::ROW_BYTES;
 
@@ -110,6 +110,31 @@ fn file(plan: &Plan, report: &mut Report, what: &str, goal: f64, file: &[u8]) {
         report.compared.push(compared(format!("index, {what}, into a lent table"), into));
     }
     report.checked.push(Checked { file: what.to_string(), bytes: file.len(), index, check });
+}
+
+/// Times the indexing and the checking of a FASTQ file, beside the indexing of a FASTA file of as many bytes.
+fn fastq(plan: &Plan, report: &mut Report, what: &str, goal: Option<f64>, file: &[u8]) {
+    let table = wakeluri::fastq::index(file).expect("a good file");
+    let text = table.write_index().expect("a good table");
+    assert_eq!(wakeluri::fastq::check(file, &text), Ok(()), "{what}: the index leads to every base and quality");
+    let mut lent = room(table.as_bytes().len());
+    assert_eq!(ours::fastq_index_into(file, &mut lent), table.len() as u64, "{what}: the count of rows");
+    assert!(lent == table.as_bytes(), "{what}: the rows in a lent table");
+    let fasta = Lines { bases: 60, end: b"\n" }.genome(file.len());
+    let mut rows = room(4 * ROW_BYTES);
+    let taken = in_turns(
+        plan.rounds(),
+        &mut [
+            Box::new(|| ours::fastq_index_into(file, &mut lent)),
+            Box::new(|| ours::fastq_index(file)),
+            Box::new(|| ours::fastq_check(file, &text)),
+            Box::new(|| ours::fastq_write(&table)),
+            Box::new(|| ours::index_into(&fasta, &mut rows)),
+        ],
+    );
+    let [into, index, check, write, of_fasta] = taken[..] else { unreachable!("five works") };
+    let (bytes, fasta) = (file.len(), of_fasta / fasta.len() as f64);
+    report.fastq.push(Fastq { file: what.to_string(), bytes, into, index, check, write, fasta, goal });
 }
 
 /// Times the reading of 1,000 regions of so many bases.
@@ -468,6 +493,10 @@ fn run(plan: &Plan) -> Report {
     if part("long") {
         file(plan, &mut report, "one line of 10 million bases", 1.0, &one_line(10_000_000));
     }
+    if part("fastq") {
+        fastq(plan, &mut report, "short reads", None, &files::short_reads(bytes / 355));
+        fastq(plan, &mut report, "long reads in lines of 60", Some(0.5), &files::long_reads(bytes));
+    }
     if part("reads") {
         let fasta = lf(60).genome(bytes);
         reads(plan, &mut report, &fasta, 10_000, [2.8, 2.8]);
@@ -512,7 +541,7 @@ fn run(plan: &Plan) -> Report {
 fn main() {
     let Some(plan) = Plan::of_words(std::env::args().skip(1)) else {
         eprintln!(
-            "usage: benches [--quick] [--json] [--only lines|records|long|reads|names|complement|write|text|scores|levels|fed|growth]"
+            "usage: benches [--quick] [--json] [--only lines|records|long|fastq|reads|names|complement|write|text|scores|levels|fed|growth]"
         );
         std::process::exit(2);
     };
@@ -546,10 +575,12 @@ mod tests {
             map(&QUICK, &mut report, &lines.records(50), 20);
             scores(&QUICK, &mut report, &lines.genome(8000));
         }
+        fastq(&QUICK, &mut report, "short reads", None, &files::short_reads(20));
+        fastq(&QUICK, &mut report, "long reads", Some(0.5), &files::long_reads(1000));
         assert_eq!((report.compared.len(), report.checked.len(), report.handed_out.len()), (32, 4, 2));
         let told = report.to_string();
         assert!(told.contains("| index, records | ") && told.contains(" 50 records | 1 | "), "{told}");
-        assert_eq!(report.goals().len(), 32 + 4 + 2 + 4);
+        assert_eq!(report.goals().len(), 32 + 4 + 3 + 2 + 4);
         assert!(told.contains("| goals: ") && report.json().starts_with("{\"goals\":[{\"of\":\"index, a genome, "));
     }
 

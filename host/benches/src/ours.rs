@@ -50,6 +50,29 @@ pub fn check(file: &[u8], text: &[u8]) -> u64 {
     0
 }
 
+/// Indexes a whole FASTQ file.
+pub fn fastq_index(file: &[u8]) -> u64 {
+    black_box(wakeluri::fastq::index(black_box(file)).expect("a good file")).len() as u64
+}
+
+/// Indexes a whole FASTQ file, into a lent table.
+pub fn fastq_index_into(file: &[u8], table: &mut [u8]) -> u64 {
+    let answer = entry::fastq_index(black_box(file), table);
+    assert_eq!(answer.refusal, 0, "a good file, and a table that is long enough");
+    answer.count
+}
+
+/// Checks an index of a FASTQ file.
+pub fn fastq_check(file: &[u8], text: &[u8]) -> u64 {
+    wakeluri::fastq::check(black_box(file), black_box(text)).expect("a good index");
+    0
+}
+
+/// Writes the index of a FASTQ file.
+pub fn fastq_write(table: &wakeluri::fastq::Table<'_>) -> u64 {
+    black_box(table.write_index().expect("a good table")).len() as u64
+}
+
 /// Reads an index text.
 pub fn read_index(text: &[u8]) -> u64 {
     black_box(wakeluri::read_index(black_box(text)).expect("a good index")).len() as u64

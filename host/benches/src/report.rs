@@ -29,6 +29,29 @@ pub struct Checked {
     pub check: f64,
 }
 
+/// A FASTQ file, beside a FASTA file of as many bytes in lines of 60.
+pub struct Fastq {
+    pub file: String,
+    pub bytes: usize,
+    /// Indexing into a lent table, and into a fresh one.
+    pub into: f64,
+    pub index: f64,
+    pub check: f64,
+    /// Writing its index text.
+    pub write: f64,
+    /// Indexing the FASTA file, a byte.
+    pub fasta: f64,
+    /// So much of the speed of FASTA indexing is the goal; none for short reads.
+    pub goal: Option<f64>,
+}
+
+impl Fastq {
+    /// Its speed, as a part of that of FASTA indexing a byte.
+    fn part(&self) -> f64 {
+        self.fasta / (self.into / self.bytes as f64)
+    }
+}
+
 /// Longer and longer files.
 pub struct Grown {
     pub bytes: usize,
@@ -81,6 +104,7 @@ pub struct Report {
     pub memchrs: [f64; 2],
     pub compared: Vec<Compared>,
     pub checked: Vec<Checked>,
+    pub fastq: Vec<Fastq>,
     pub grown: Vec<Grown>,
     pub handed_out: Vec<HandedOut>,
     pub looked_up: Vec<LookedUp>,
@@ -199,6 +223,15 @@ impl Report {
             goal: CHECK_GOAL,
             found: c.index / c.check,
         });
+        let wrapped = self.fastq.iter().filter_map(|q| {
+            let of = format!("index, FASTQ, {}: part of the speed of FASTA indexing", q.file);
+            q.goal.map(|goal| Goal { of, goal, found: q.part() })
+        });
+        let fastq = self.fastq.iter().map(|q| Goal {
+            of: format!("check, FASTQ, {}: part of the speed of indexing", q.file),
+            goal: CHECK_GOAL,
+            found: q.index / q.check,
+        });
         let mapped = self.mapped.iter().map(|m| Goal {
             of: format!("{} look-ups among {} names: times the walks", number(m.look_ups), number(m.names)),
             goal: MAP_GOAL,
@@ -214,7 +247,8 @@ impl Report {
             goal: 1.0,
             found: SCORE_GOAL / s.ours,
         });
-        compared.chain(checked).chain(mapped).chain(sheeted).chain(scored).chain(self.fed.goals()).collect()
+        let compared = compared.chain(checked).chain(wrapped).chain(fastq).chain(mapped);
+        compared.chain(sheeted).chain(scored).chain(self.fed.goals()).collect()
     }
 
     /// The same for machines: each work's seconds, and each goal, as one JSON object.
@@ -288,6 +322,23 @@ impl fmt::Display for Report {
             let verdict = if part >= CHECK_GOAL { "reached" } else { "**not reached**" };
             let (index, check) = (gigabytes(*bytes, *index), gigabytes(*bytes, *check));
             writeln!(f, "| {file} | {CHECK_GOAL} | {part:.2} | {verdict} | {index} | {check} |")?;
+        }
+        if !self.fastq.is_empty() {
+            writeln!(
+                f,
+                "\n| FASTQ | index GB/s, into a lent table | into a fresh one | part of FASTA indexing | goal | check GB/s | part of indexing | goal | writing its index |"
+            )?;
+            writeln!(f, "|---|---|---|---|---|---|---|---|---|")?;
+        }
+        for fastq in &self.fastq {
+            let [into, index, check] = [fastq.into, fastq.index, fastq.check].map(|work| gigabytes(fastq.bytes, work));
+            let (part, goal) = (fastq.part(), fastq.goal.map_or(String::new(), |goal| goal.to_string()));
+            let (checked, written) = (fastq.index / fastq.check, time(fastq.write));
+            writeln!(
+                f,
+                "| {} | {into} | {index} | {part:.2} | {goal} | {check} | {checked:.2} | {CHECK_GOAL} | {written} |",
+                fastq.file
+            )?;
         }
         if !self.handed_out.is_empty() {
             writeln!(

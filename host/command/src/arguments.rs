@@ -12,6 +12,7 @@ Examples:
   wakeluri check refs/                      of every file in a folder, a line for each
   wakeluri read ref.fa chr1:101-200         exactly those hundred bases
   wakeluri read ref.fa --regions sheet.txt  all regions of a sheet, or none
+  wakeluri read --qualities reads.fq r1     bases and qualities of a read, as FASTQ
   wakeluri revcomp ref.fa chr1:101-200      their reverse complement
   wakeluri primer GARNTYC ref.fa            where a primer matches, on both strands
   wakeluri mend ref.fa chr1:1204 G          one base replaced in place; the index stays good
@@ -29,6 +30,7 @@ Examples:
   wakeluri index ref.fa -o other.fai  writes it elsewhere
   wakeluri index a.fa b.fa refs/      of several files, and of those in folders; all cores work
   zcat ref.fa.gz | wakeluri index -   of standard input, to standard output
+  wakeluri index reads.fq             of FASTQ, which begins with '@': six columns, as samtools fqidx
 
 Blank lines, and records without bases, are taken wherever an index can lead to every base, and counted. A file is refused only
 if no index can fit it.
@@ -44,7 +46,7 @@ Examples:
   wakeluri check a.fa b.fa refs/              several files, and those in folders: a line for each, and a summary
 
 Of several files each has its own index behind it (a name that ends in .fai) or beside it. In folders, and the folders in them, files
-whose names end in .fa, .fasta, .fna, .ffn, .faa, .frn, .fas or .fsa are taken. What is said of a file, good or bad, is a line on standard
+whose names end in .fa, .fasta, .fna, .ffn, .faa, .frn, .fas, .fsa, .fq or .fastq are taken. What is said of a file, good or bad, is a line on standard
 output, and is the same whatever else is in the list. The status is the worst of all.";
 
 const READ_EXAMPLES: &str = "\
@@ -60,6 +62,7 @@ Examples:
   wakeluri read ref.fa --regions sheet.txt    a region to a line; all of them, or nothing
   wakeluri read ref.fa chr1 -o chr1.fa        to a file, which is there whole or not at all
   wakeluri read ref.fa --full-header          all records, with their descriptions
+  wakeluri read --qualities reads.fq r1:1-50  of FASTQ: bases and qualities, as FASTQ
   zcat ref.fa.gz | wakeluri read - chr1:5-9
 
 A line of a sheet: a region; behind it, if you like, a strand, of which - reads the reverse complement, and a label.
@@ -314,7 +317,9 @@ pub fn command() -> Command {
         ))
         .subcommand(alone(
             Command::new("check")
-                .about("Accept an index of any program, exactly if it leads to every base of the file")
+                .about(
+                    "Accept an index of any program, exactly if it leads to every base of the file, and every quality",
+                )
                 .after_help(CHECK_EXAMPLES)
                 .arg(files())
                 .arg(each())

@@ -11,6 +11,9 @@ const ROWS: usize = 1 << 14;
 /// Room that is lent for a line; a longer one says how much it needs.
 const LINE: usize = 1 << 10;
 
+/// Most lines are shorter.
+const LIKELY: usize = 160;
+
 /// The lines of some rows, in their order, in parts. Each row is written by its number to a room that is lent.
 pub fn written(
     rows: usize,
@@ -47,7 +50,8 @@ fn lines(
     rows: std::ops::Range<usize>,
     write: &dyn Fn(usize, &mut [u8]) -> Result<usize, Refusal>,
 ) -> Result<Vec<u8>, Refusal> {
-    let (mut text, mut at) = (vec![0; LINE.max(64 * rows.len())], 0);
+    // room that is not used is not touched, and costs nothing
+    let (mut text, mut at) = (vec![0; LINE + LIKELY * rows.len()], 0);
     for row in rows {
         if text.len() - at < LINE {
             text.resize(2 * text.len() + LINE, 0);

@@ -38,14 +38,15 @@ fn is_plain(bytes: &[u8; CHUNK + 1]) -> bool {
     all
 }
 
-/// Whether some bytes are the most common letters, and nothing else.
-fn are_common(bytes: &[u8]) -> bool {
-    let mut all = true;
-    for byte in bytes {
-        let small = byte | 0x20;
-        all &= (small == b'a') | (small == b'c') | (small == b'g') | (small == b't') | (small == b'n');
+/// Whether the bytes from one place of a file to another are the most common letters and ends of lines, and nothing else.
+fn are_plain(file: &[u8], from: usize, to: usize) -> bool {
+    let is_chunk = |at: usize| file.get(at..).and_then(<[u8]>::first_chunk).is_some_and(is_plain);
+    if to < from + CHUNK {
+        let letters = b"ACGTNacgtn";
+        return file.get(from..to).is_some_and(|few| few.iter().all(|byte| letters.contains(byte)));
     }
-    all
+    // the last chunk may have some bytes of the one before it
+    (from..=to - CHUNK).step_by(CHUNK).all(is_chunk) && is_chunk(to - CHUNK)
 }
 
 /// How many bytes are no letters, and where the first lies.
@@ -134,19 +135,18 @@ impl Odd {
         let table = odd();
         let mut found = Self::default();
         for [position, length, line_bases, line_width] in records {
-            let (mut at, mut left) = (position, length);
-            while left > 0 && line_bases > 0 {
-                let bases = left.min(line_bases);
-                let (from, to) =
-                    (usize::try_from(at).unwrap_or(file.len()), usize::try_from(at + bases).unwrap_or(file.len()));
-                let line = file.get(from..to).unwrap_or_default();
-                let mut chunks = line.chunks_exact(CHUNK);
-                let plain = chunks.by_ref().all(are_common) && are_common(chunks.remainder());
-                if !plain {
-                    let odd = line.iter().enumerate().filter(|(_, byte)| table[usize::from(**byte)] == 1);
-                    odd.for_each(|(place, _)| found.add(from + place));
-                }
-                (at, left) = (at.saturating_add(line_width), left - bases);
+            let offset = |before: u64| {
+                before.checked_div(line_bases).map(|lines| position + lines * line_width + before % line_bases)
+            };
+            let last = length.checked_sub(1).and_then(offset);
+            if last.is_none_or(|last| are_plain(file, position as usize, last as usize + 1)) {
+                continue;
+            }
+            for line in 0..length.div_ceil(line_bases) {
+                let from = position + line * line_width;
+                let to = from + line_bases.min(length - line * line_bases);
+                let bases = (from as usize..).zip(file.get(from as usize..to as usize).unwrap_or_default());
+                bases.filter(|(_, byte)| table[usize::from(**byte)] == 1).for_each(|(at, _)| found.add(at));
             }
         }
         found
@@ -252,6 +252,12 @@ mod tests {
         found
     }
 
+    fn of_reads(file: &[u8]) -> (u64, Option<usize>) {
+        let rows = wakeluri::fastq::index(file).unwrap();
+        let odd = Odd::of_reads(file, rows.records().map(|r| [r.position, r.length, r.line_bases, r.line_width]));
+        (odd.bytes, odd.first)
+    }
+
     #[test]
     fn as_line_by_line() {
         let mut state = 7_u64;
@@ -270,10 +276,21 @@ mod tests {
             assert_eq!(odds.found, by_lines(&file), "{} in pieces of {piece}", file.escape_ascii());
         }
         assert_eq!(Odd::of_file(b""), Odd::default());
-        let reads = b"@s x\nAC.T\r\nA T\r\n+ 1\r\n....\r\n...\r\n@t\nNNNN\n+\n1234\n@u\nA1\n+\n!!\n";
-        let rows = wakeluri::fastq::index(reads).unwrap();
-        let records = rows.records().map(|r| [r.position, r.length, r.line_bases, r.line_width]);
-        assert_eq!(Odd::of_reads(reads, records), Odd { bytes: 3, first: Some(7) });
+        assert_eq!(
+            of_reads(b"@s x\nAC.T\r\nA T\r\n+ 1\r\n....\r\n...\r\n@t\nNNNN\n+\n1234\n@u\nA1\n+\n!!\n"),
+            (3, Some(7))
+        );
+        // each place of a long read, in lines and in one
+        for width in [7, 60, 64, 200] {
+            for place in 0..200 {
+                let mut bases = vec![b'A'; 200];
+                bases[place] = b'!';
+                let lines =
+                    |bytes: &[u8]| bytes.chunks(width).flat_map(|line| [line, b"\r\n"].concat()).collect::<Vec<u8>>();
+                let file = [b"@s\r\n", &lines(&bases)[..], b"+\r\n", &lines(&[b'!'; 200])].concat();
+                assert_eq!(of_reads(&file), (1, Some(4 + place + 2 * (place / width))), "{width} {place}");
+            }
+        }
         let letters: Vec<u8> = (0..=255).filter(|byte| odd()[usize::from(*byte)] == 0).collect();
         assert_eq!(letters, b"*-ABCDGHKMNRSTUVWYabcdghkmnrstuvwy");
     }

@@ -331,7 +331,7 @@ fn of_fasta(fasta: &Input, strict: bool) -> Result<Made, Failure> {
     let rows = work::index(fasta, if strict { Rule::Strict } else { Rule::Complete })?;
     let text = rows.write_index().map_err(|refusal| not_written(&fasta.shown, refusal))?;
     Odd::of_file(fasta.bytes()).tell(fasta, strict)?;
-    twins::warn(&fasta.shown, &twins::of(|| rows.records().map(|record| record.name)));
+    twins::warn(&fasta.shown, &twins::of(rows.len(), || rows.records().map(|record| record.name)));
     let unusual = Some(Unusual::of(fasta.bytes(), &rows));
     let bases = rows.records().map(|record| record.length).sum();
     Ok(Made { text: vec![text], records: rows.len() as u64, bases, unusual })
@@ -366,7 +366,7 @@ impl<'f> Told<'f> {
         let records =
             rows.records().map(|record| [record.position, record.length, record.line_bases, record.line_width]);
         let odd = Odd::of_reads(fastq.bytes(), records);
-        Self { odd, twins: twins::of(|| rows.records().map(|record| record.name)) }
+        Self { odd, twins: twins::of(rows.len(), || rows.records().map(|record| record.name)) }
     }
 
     fn say(self, fastq: &Input, strict: bool) -> Result<(), Failure> {
@@ -467,15 +467,17 @@ fn check_one(file: &Path, index: Option<&Path>, strict: bool, common: Common) ->
     let fasta = common.open(file, common.how)?;
     let index = open_index(&index, &fasta, common)?;
     work::check(&fasta, &index)?;
-    let rows = work::read_index(&fasta, &index)?;
-    if fasta.is_fastq() {
-        Told::of(&fasta, &work::read_reads(&fasta, &index)?).say(&fasta, strict)?;
+    let (records, bases) = if fasta.is_fastq() {
+        let rows = work::read_reads(&fasta, &index)?;
+        Told::of(&fasta, &rows).say(&fasta, strict)?;
+        (rows.len() as u64, rows.records().map(|record| record.length).sum())
     } else {
         Odd::of_file(fasta.bytes()).tell(&fasta, strict)?;
-        twins::warn(&fasta.shown, &twins::of(|| rows.records().map(|record| record.name)));
-    }
+        let rows = work::read_index(&fasta, &index)?;
+        twins::warn(&fasta.shown, &twins::of(rows.len(), || rows.records().map(|record| record.name)));
+        (rows.len() as u64, rows.records().map(|record| record.length).sum())
+    };
     fasta.unchanged()?;
-    let (records, bases) = (rows.len() as u64, rows.records().map(|record| record.length).sum());
     if common.json {
         let mut object = Object::new();
         object.truth("accepted", true).text("file", &fasta.shown).text("index", &index.shown);

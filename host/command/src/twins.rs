@@ -23,9 +23,9 @@ pub fn warn(file: &str, twins: &[Twins<'_>]) {
     }
 }
 
-/// The first two records of each name that several have, in their order.
-pub fn of<'n, N: Iterator<Item = &'n [u8]>>(names: impl Fn() -> N) -> Vec<Twins<'n>> {
-    if !are_some_alike(names().map(mixed).collect()) {
+/// The first two records of each name that several have, in their order, among the names of so many records.
+pub fn of<'n, N: Iterator<Item = &'n [u8]>>(records: usize, names: impl Fn() -> N) -> Vec<Twins<'n>> {
+    if !are_some_alike(records, names().map(mixed)) {
         return vec![];
     }
     let mut names: Vec<(u64, usize, &[u8])> =
@@ -43,11 +43,11 @@ pub fn of<'n, N: Iterator<Item = &'n [u8]>>(names: impl Fn() -> N) -> Vec<Twins<
     twins
 }
 
-/// Whether two of some numbers are alike: each is put in a free place from one on that it tells itself.
-fn are_some_alike(numbers: Vec<u64>) -> bool {
-    let bits = (2 * numbers.len() + 1).next_power_of_two().trailing_zeros();
+/// Whether two of so many numbers are alike: each is put in a free place from one on that it tells itself.
+fn are_some_alike(count: usize, numbers: impl Iterator<Item = u64>) -> bool {
+    let bits = (count + count / 2 + 2).next_power_of_two().trailing_zeros();
     let mut places = vec![0_u64; 1 << bits];
-    numbers.into_iter().map(|number| number.max(1)).any(|number| {
+    numbers.take(count).map(|number| number.max(1)).any(|number| {
         let mut place = (number >> (64 - bits)) as usize;
         while places[place] != 0 {
             if places[place] == number {
@@ -77,19 +77,19 @@ mod tests {
     #[test]
     fn first_and_second_of_each_name() {
         let rows = wakeluri::index(b">b\nA\n>a\nA\n>b\nA\n>c\nA\n>a\nA\n>b\nA\n").unwrap();
-        assert_eq!(of(|| rows.records().map(|record| record.name)), [(0, 2, &b"b"[..]), (1, 4, b"a")]);
+        assert_eq!(of(rows.len(), || rows.records().map(|record| record.name)), [(0, 2, &b"b"[..]), (1, 4, b"a")]);
         let none = wakeluri::index(b"").unwrap();
-        assert_eq!(of(|| none.records().map(|record| record.name)), []);
+        assert_eq!(of(none.len(), || none.records().map(|record| record.name)), []);
     }
 
     #[test]
     fn alike_or_not() {
         let numbers: Vec<u64> = (0..5000).map(|n: u64| n.wrapping_mul(0x1234_5678_9abc_def1)).collect();
-        assert!(!are_some_alike(numbers.clone()));
+        assert!(!are_some_alike(5000, numbers.iter().copied()));
         for twin in [0, 1, 4999] {
-            assert!(are_some_alike([&numbers[..], &[numbers[twin]]].concat()));
+            assert!(are_some_alike(5001, numbers.iter().copied().chain([numbers[twin]])));
         }
         // all tell one place, the last
-        assert!(!are_some_alike((0..100).map(|n| u64::MAX - n).collect()));
+        assert!(!are_some_alike(100, (0..100).map(|n| u64::MAX - n)));
     }
 }

@@ -72,7 +72,6 @@ fn what_differs_is_refused_with_the_reason() {
     folder.write("f.fa", FILE);
     for (words, reason) in [
         (&["-c", "f.fa", "s"][..], "all regions are read, or none"),
-        (&["-f", "f.fa", "s"], "this reads FASTA alone"),
         (&["--gzi-idx", "f.gzi", "f.fa", "s"], "packed files are not read"),
         (&["-n", "0", "f.fa", "s"], "a line of no bases can't be written"),
         (&["--mark-strand", "foo", "f.fa", "s"], "rc, no, sign or custom,PLUS,MINUS"),
@@ -82,6 +81,7 @@ fn what_differs_is_refused_with_the_reason() {
     ] {
         folder.run(&[&["faidx"], words].concat()).failed(2, &[reason]);
     }
+    folder.run(&["faidx", "-f", "f.fa", "s"]).refused("refused 3 (offset 0)", &["this is a FASTA file"]);
     assert_eq!(folder.names(), ["f.fa"]);
     folder.run(&["faidx", "f.fa", "t:4-9"]).refused("refused 17 (length 5)", &["t has 5 bases"]);
     folder.run(&["faidx", "f.fa", "s", "no"]).refused("refused 15", &["no record is named 'no'"]);

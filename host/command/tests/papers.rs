@@ -40,7 +40,9 @@ fn the_manual_names_every_word() {
     let folder = Folder::new("manual");
     let manual = fs::read_to_string(Path::new(env!("CARGO_MANIFEST_DIR")).join("man/wakeluri.1")).unwrap();
     let manual = manual.replace("\\-", "-");
-    for command in ["index", "check", "read", "list", "wrap", "faidx", "complement", "revcomp", "primer", "mend"] {
+    for command in
+        ["index", "check", "read", "list", "wrap", "faidx", "fqidx", "complement", "revcomp", "primer", "mend"]
+    {
         assert!(manual.contains(command));
         let help = folder.run(&[command, "--help"]).out;
         for word in help

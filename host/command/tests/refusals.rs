@@ -35,7 +35,7 @@ fn of_index() {
         (
             b"ACGT\n",
             "refused 3 (offset 0)",
-            "f.fa, line 1 (byte 0): a record begins with a line such as '>name', and here stands 'ACGT'",
+            "f.fa, line 1 (byte 0): a record begins with a line such as '>name' (in FASTQ '@name'), and here stands 'ACGT'",
         ),
         (b"\x1f\x8b\x08rest", "refused 3 (offset 0)", "this is a compressed file"),
         (b"\xef\xbb\xbf>s\nAC\n", "refused 3 (offset 0)", "save the file as UTF-8 without a byte order mark"),

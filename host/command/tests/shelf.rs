@@ -123,7 +123,7 @@ fn an_index_behind_its_file() {
     fs::create_dir(folder.at("empty")).unwrap();
     let told = folder.run(&["check", "empty"]);
     assert!(
-        told.status == Some(3) && told.out.starts_with("failed: empty: there is no FASTA file in this folder"),
+        told.status == Some(3) && told.out.starts_with("failed: empty: there is no FASTA or FASTQ file in this folder"),
         "{told:?}"
     );
 }

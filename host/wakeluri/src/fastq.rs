@@ -313,8 +313,10 @@ impl<'n> Table<'n> {
     /// # Ok::<(), wakeluri::Refusal>(())
     /// ```
     pub fn part(&self, part: Part) -> crate::Table<'n> {
-        let rows = self.bytes.chunks_exact(ROW_BYTES).filter_map(numbers);
-        let bytes: Vec<u8> = rows.flat_map(|row| as_fasta(row, part)).flat_map(u64::to_le_bytes).collect();
+        let mut bytes = Vec::with_capacity(self.bytes.len() / ROW_BYTES * entry::ROW_BYTES);
+        for row in self.bytes.chunks_exact(ROW_BYTES).filter_map(numbers) {
+            as_fasta(row, part).iter().for_each(|number| bytes.extend_from_slice(&number.to_le_bytes()));
+        }
         crate::Table::with_identity(self.names, bytes.into(), self.in_use, self.identity)
     }
 
