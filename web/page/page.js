@@ -132,7 +132,7 @@ function startWorker() {
         if (told.tooOld) throw new Failed(t("old"));
         document.body.dataset.module = told.simd ? "simd" : "plain";
     });
-    ready.catch(() => {});
+    ready.then(() => ask("warm")).catch(() => {});
 }
 
 // Ends what the worker does, whatever it is: it is thrown away with its memory, and another begins.

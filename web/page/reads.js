@@ -12,7 +12,7 @@ export const NOT_OPEN = { notOpen: true };
 
 const PIECE = 1 << 20; // bases that a primer is searched in at a time
 const SHEET = 200; // regions that one call takes
-const utf8 = new TextEncoder();
+export const utf8 = new TextEncoder();
 const latin1 = new TextDecoder("latin1");
 
 // The bytes of a span of some rows' names.

@@ -4,11 +4,11 @@
 // A message is { id, ask, .. }, its answer { id, .. }. Files come as bytes, part by part: the page reads them, since WebKit lets no worker
 // read a file of a page that was itself opened as a file. For the same reason no Blob is made here. Of a file in parts an answer may be
 // { id, wanted }: then the page asks again with these bytes as `windows`.
-import { FASTQ_ROW, NoRoom, Wakeluri } from "./wakeluri.js";
+import { FASTQ_ROW, NoRoom, ROW, Wakeluri } from "./wakeluri.js";
 import { Fastq, Parts, Wanted, Whole } from "./held.js";
 import { fastqLines, isOfRecord, lineRead, linesNear, linesOf, recordName } from "./faults.js";
 import { about, kindOf, lineOf, shown } from "./places.js";
-import { NOT_OPEN, READS, now, refused, rowOf, span } from "./reads.js";
+import { NOT_OPEN, READS, now, refused, rowOf, span, utf8 } from "./reads.js";
 
 // The rows that an index tells.
 function rowsIn(index) {
@@ -110,6 +110,26 @@ const FILES = {
         now.proved = new Wakeluri(new WebAssembly.Module(modules[taken]), calls);
         now.bottom = now.proved.room(0);
         return { simd: taken === 0 };
+    },
+
+    // Lets the browser compile the long loops well before a file comes: some run a loop until its end as they compiled it at first, in haste.
+    warm() {
+        const { proved } = now;
+        return proved.using(() => {
+            const lines = 17000;
+            const text = new Uint8Array(3 + 61 * lines).fill(65);
+            text.set([62, 115, 10]);
+            for (let k = 1; k <= lines; k++) text[2 + 61 * k] = 10;
+            const [file, index] = [proved.lend(text), proved.lend(utf8.encode(`s\t${60 * lines}\t3\t60\t61\n`))];
+            const table = proved.room(ROW);
+            const until = performance.now() + 200;
+            for (let k = 0; k < 20 && performance.now() < until; k++) {
+                proved.call("check", file, index);
+                proved.call("index_complete", file, table);
+                proved.call("feed_piece", proved.call("feed_start", 1n), file, table);
+            }
+            return {};
+        });
     },
 
     // Room for a FASTA file, whole or in parts, and, if there is one, its index. The memory is used again, and grows where it must.
