@@ -121,6 +121,16 @@ macro_rules! reasons {
                 }
             }
 
+            /// What it means, in words without its places.
+            ///
+            /// ```
+            /// let refusal = wakeluri::index(b">s\nACGT\n>\nAC\n").unwrap_err();
+            /// assert_eq!(refusal.reason().words(), "a definition line has no name after its '>'");
+            /// ```
+            pub fn words(&self) -> &'static str {
+                Self::words_of(self.number())
+            }
+
             /// What a number means, in words without its places: what `wakeluri_words` gives in C.
             ///
             /// ```
@@ -200,7 +210,7 @@ impl Reason {
 /// Its words, and its numbers: `the region goes past the record's bases (length 6)`.
 impl fmt::Display for Reason {
     fn fmt(&self, f: &mut fmt::Formatter<'_>) -> fmt::Result {
-        f.write_str(Self::words_of(self.number()))?;
+        f.write_str(self.words())?;
         for (at, (name, number)) in self.places().into_iter().enumerate() {
             write!(f, "{}{name} {number}", if at == 0 { " (" } else { ", " })?;
         }
@@ -209,3 +219,18 @@ impl fmt::Display for Reason {
 }
 
 impl core::error::Error for Reason {}
+
+/// So that `?` gives it where a function fails with a reason.
+///
+/// ```
+/// use wakeluri::Reason;
+/// fn rows(file: &[u8]) -> Result<usize, Reason> {
+///     Ok(wakeluri::index(file)?.len())
+/// }
+/// assert_eq!((rows(b">s\nA\n"), rows(b"A\n")), (Ok(1), Err(Reason::NoPrefix { record: None, offset: 0 })));
+/// ```
+impl From<Refusal> for Reason {
+    fn from(refusal: Refusal) -> Self {
+        refusal.reason()
+    }
+}

@@ -156,6 +156,7 @@ fn plain_bounds(text: &[u8]) -> Option<([u64; 2], &[u8])> {
 
 /// The name and the bounds of a region as most are written, `name:5-9`. Where all of it is no name, and the name exists, that is what
 /// [`meaning`] says of it.
+#[cfg(feature = "std")]
 pub(crate) fn plain(region: &[u8]) -> Option<(&[u8], Bounds)> {
     let ([start, end], before) = plain_bounds(region)?;
     let name = before.strip_suffix(b":").filter(|_| !region.starts_with(b"{"))?;
