@@ -3,8 +3,8 @@ use Prim.Native.Nat.{ℕ, suc, _+_, _≤_, _<_}
 use mathlib.Core.Path.{_≡_, refl, sym, _∙_}
 use mathlib.Core.List.{List, [], _∷_, _++_, map, reverse, append-nil, append-assoc, reverse-append, reverse-cons, map-append}
 use lib.Dec.{eqb}
-use lib.ListN.{length, take, drop, getD, set, length-map, length-append, length-drop, length-reverse, drop-of-length-le}
-use lib.Seq.{drop-cons, take-suc, set-at, length-take-le, append-snoc}
+use lib.ListN.{length, take, drop, getD, set, length-set, length-map, length-append, length-drop, length-reverse, drop-of-length-le}
+use lib.Seq.{drop-length, drop-cons, take-suc, set-at, length-take-le, append-snoc}
 use borrow.Author.Tests.{eq-eqb, ne-eqb}
 use native.Mathlib.Omega.{arith}
 use native.Mathlib.Numerals.{add-one}
@@ -87,6 +87,30 @@ module _ (s out out₀ : List ℕ) (i : ℕ) (h : i < length s) (fits : length s
       rw (inv, e)
       (one-more _ _ out₀ at (partner (getD s i 0)) (simp (length-reverse, length-map, length-drop) (omega arith)) (omega arith)
       (rw (drop-cons s i 0 h, q, reverse-cons)))
+
+-- the complements of the bases from the n-th to the m-th, from the last to the first, are written behind those that are
+pub record Reversing (s : List ℕ) (n m : ℕ) (out after : List ℕ) : Type 0 where
+  pub same : length after ≡ length out
+  pub more : (out₀ : List ℕ) → length s ≤ length out₀ → out ≡ outputOf (given (reverse (map partner (drop n s)))) out₀ → after ≡ outputOf (given (reverse (map partner (drop m s)))) out₀
+
+pub reversing-none : (s out : List ℕ) (n m : ℕ) → n ≡ m → Reversing s n m out out
+reversing-none s out n m e = record { same = refl; more = λ out₀ fits inv. rw e at inv }
+
+-- one more
+pub reversing-next : (s out mid : List ℕ) (n m i at r : ℕ) → Reversing s n m out mid → m ≡ suc i → m + at ≡ length s → r ≡ partner (getD s i 0) → Reversing s n i out (set mid at r)
+reversing-next s out mid n m i at r p q d e =
+    record {
+      same = length-set mid at r ∙ p .same;
+      more = λ out₀ fits inv. write-reversed-turn s mid out₀ i (omega (arith, q, d)) fits r e m at q d (p .more out₀ fits inv);
+    }
+
+pub reversing-on : (s out mid after : List ℕ) (n m l : ℕ) → Reversing s n m out mid → Reversing s m l mid after → Reversing s n l out after
+reversing-on s out mid after n m l p q = record { same = q .same ∙ p .same; more = λ out₀ fits inv. q .more out₀ fits (p .more out₀ fits inv) }
+
+-- all of them
+pub reversing-all : (s out after : List ℕ) → length s ≤ length out → Reversing s (length s) 0 out after → after ≡ outputOf (given (reverse (map partner s))) out
+unfolding poured
+reversing-all s out after fits p = p .more out fits (rw (drop-length s))
 
 -- ---- what a call tells
 

@@ -13,7 +13,7 @@ use refusal::Refusal;
 ghost use mathlib.Core.Path.{_≡_};
 ghost use mathlib.Core.Bool.{true, false};
 ghost use mathlib.Core.List.{map, reverse};
-ghost use Prim.Native.Nat.{_≤_};
+ghost use Prim.Native.Nat.{_+_, _≤_};
 ghost use lib.ListN.{length};
 ghost use Rattle.refusal.specs.declared.Refusal.the-variants.{NoRoom, NoComplement};
 ghost use Rattle.output.specs.Outcome.{leaves};
@@ -21,6 +21,7 @@ ghost use Rattle.letters.specs.Letters.{partner};
 ghost use Rattle.letters.specs.Table.{IsTable};
 ghost use Rattle.complement.specs.Complement.{given, complementOf, reverseComplementOf, poured, complementWritten};
 ghost use Rattle.complement.specs.Kinds.{isOf, allOf, judgedOf, answerOf, outputOf};
+ghost use Rattle.complement.specs.Laws.{Reversing};
 
 // How many bytes are judged at once.
 const BLOCK: usize = 4096;
@@ -166,14 +167,48 @@ fn write(bases: &[u8], out: &mut [u8], plain: bool)
     }
 }
 
+// The complement of any byte: one look into the table.
+fn look(table: &[u8; 256], b: u8) -> u8
+    requires { ⌜ IsTable partner (now table) ⌝ }
+    ensures { λ r. ⌜ r ≡ partner b ⌝ }
+{
+    table[b as usize]
+}
+
+// Writes the complements of 16 bases, from the last to the first. The size is constant, so that 16 looks stand side by side.
+fn reverse16(table: &[u8; 256], bases: &[u8], from: usize, out: &mut [u8], at: usize)
+    requires { ⌜ IsTable partner (now table) × (from + 16 + at ≡ length (now bases)) × (length (now bases) ≤ length (now out)) ⌝ }
+    ensures { λ _. ⌜ Reversing (now (bases .entry)) (from + 16) from (now (out .entry)) (now (out .exit)) ⌝ }
+{
+    for k in 0..16 {
+        out[at + k] = look(table, bases[from + (15 - k)]);
+    }
+}
+
+// From how many bases on they are written 16 at once: plain ones never, for they are not looked up.
+fn least_at_once(plain: bool) -> usize
+    ensures { λ r. ⌜ 16 ≤ r ⌝ }
+{
+    if plain {
+        return 18446744073709551615;
+    }
+    16
+}
+
 // Writes the complements of the bases from the last to the first.
 fn write_reversed(bases: &[u8], out: &mut [u8], plain: bool)
     requires { ⌜ (length (now bases) ≤ length (now out)) × (allOf plain (now bases) ≡ true) ⌝ }
     ensures { λ _. ⌜ now (out .exit) ≡ outputOf (given (reverse (map partner (now (bases .entry))))) (now (out .entry)) ⌝ }
 {
     let table = letters::partners();
+    let least = least_at_once(plain);
     let mut i = bases.len();
     let mut at = 0;
+    while least <= i {
+        i -= 16;
+        reverse16(&table, bases, i, out, at);
+        at += 16;
+    }
     while 0 < i {
         i -= 1;
         out[at] = complement_base(&table, bases[i], plain);

@@ -1,64 +1,107 @@
--- `complement::write_reversed` meets its contract: before each turn the output is what the reverse complement of the bases from `i` on leaves.
+-- `complement::write_reversed` meets its contract: before each turn of either loop the bases from `i` on are written, from the last.
 -- Assumes nothing.
-use Prim.Native.Nat.{_+_}
-use mathlib.Core.Path.{_≡_, refl}
-use mathlib.Core.List.{map, reverse}
+use Prim.Native.Nat.{_+_, _-_, _≤_}
+use mathlib.Core.Path.{_≡_, refl, _∙_}
 use borrow.Author.Needs.{needs}
 use native.Mathlib.Omega.{arith}
-use lib.ListN.{length, drop, length-set}
-use lib.Seq.{drop-length}
-use Rattle.letters.specs.Letters.{partner}
-use Rattle.complement.specs.Kinds.{outputOf}
-use Rattle.complement.specs.Complement.{given, poured}
-use Rattle.complement.specs.Laws.{write-reversed-turn}
+use lib.ListN.{length}
+use Rattle.complement.specs.Laws.{Reversing, reversing-none, reversing-next, reversing-on, reversing-all}
 use Rattle.complement.specs.KindLaws.{all-at}
 use Rattle.complement.proofs.write_reversed.Statement.{statement}
 use Rattle.complement.proofs.write_reversed.Tie as tie
+use Rattle.complement.proofs.least_at_once.Reads as least-at-once-reads
+use Rattle.complement.proofs.reverse16.Reads as reverse16-reads
 
 abbrev Inv-loop : tie.InvT-loop
-Inv-loop bases out₀ plain table i₀ at₀ out i at =
-    (i + at ≡ length bases) × ((length out ≡ length out₀) × (out ≡ outputOf (given (reverse (map partner (drop i bases)))) out₀))
+Inv-loop bases out₀ plain table least i₀ at₀ out i at = (i + at ≡ length bases) × Reversing bases i₀ i out₀ out
 
 abbrev μ-loop : tie.MeasureT-loop
-μ-loop bases out₀ plain table i₀ at₀ out i at = i
+μ-loop bases out₀ plain table least i₀ at₀ out i at = i
 
-partners-requires : tie.Need-partners-requires Inv-loop μ-loop
+abbrev Inv-loop2 : tie.InvT-loop2
+Inv-loop2 bases out₀ plain table least i₀ at₀ out i at = (i + at ≡ length bases) × Reversing bases i₀ i out₀ out
+
+abbrev μ-loop2 : tie.MeasureT-loop2
+μ-loop2 bases out₀ plain table least i₀ at₀ out i at = i
+
+partners-requires : tie.Need-partners-requires Inv-loop μ-loop Inv-loop2 μ-loop2
 partners-requires c κs = search needs
 
-loop-holds : tie.Need-loop-holds Inv-loop μ-loop
-unfolding poured
-loop-holds c = (search needs, (refl, rw (drop-length (c .before .before .before .args .bases .now))))
+least-at-once-requires : tie.Need-least-at-once-requires Inv-loop μ-loop Inv-loop2 μ-loop2
+least-at-once-requires c κs = search needs
 
-sub-i : tie.Need-sub-i Inv-loop μ-loop
-sub-i c = search needs
+loop-holds : tie.Need-loop-holds Inv-loop μ-loop Inv-loop2 μ-loop2
+loop-holds c = (omega arith, reversing-none _ _ _ _ refl)
 
-shared-slice-read-complement-base : tie.Need-shared-slice-read-complement-base Inv-loop μ-loop
+sub-i : tie.Need-sub-i Inv-loop μ-loop Inv-loop2 μ-loop2
+sub-i c = omega (arith, c .loop-test .taken, c .before .before .least-at-once .ensures)
+
+reverse16-requires : tie.Need-reverse16-requires Inv-loop μ-loop Inv-loop2 μ-loop2
+reverse16-requires c κs =
+    let l = c .before .before .before in (
+      l .before .before .partners .ensures,
+      omega (arith, l .loop .inv .0, c .before .before .loop-test .taken, l .before .least-at-once .ensures),
+      omega (arith, l .loop .inv .1 .same, l .before .before .before .before .before .pre .0),
+    )
+
+-- 16 bases are left in a turn
+enough : (c : tie.After-slice-known2 Inv-loop μ-loop Inv-loop2 μ-loop2) → 16 ≤ c .before .before .before .before .before .before .loop .i
+enough c = omega (arith, c .before .before .before .before .before .loop-test .taken, c .before .before .before .before .before .before .before .least-at-once .ensures)
+
+add-at : tie.Need-add-at Inv-loop μ-loop Inv-loop2 μ-loop2
+add-at c = let e = enough c in search needs
+
+loop-less : tie.Need-loop-less Inv-loop μ-loop Inv-loop2 μ-loop2
+loop-less c = omega (arith, enough c)
+
+loop-again : tie.Need-loop-again Inv-loop μ-loop Inv-loop2 μ-loop2
+loop-again c =
+    let l = c .before .before .before .before .before .before in
+    let e = enough c in
+    let q : l .loop .i - 16 + 16 ≡ l .loop .i = omega (arith, e) in
+    (omega (arith, e, l .loop .inv .0), reversing-on _ _ _ _ _ _ _ (l .loop .inv .1) (rw q at (c .before .before .reverse16 .ensures)))
+
+loop2-holds : tie.Need-loop2-holds Inv-loop μ-loop Inv-loop2 μ-loop2
+loop2-holds c = (c .before .loop .inv .0, reversing-none _ _ _ _ refl)
+
+sub-i-2 : tie.Need-sub-i-2 Inv-loop μ-loop Inv-loop2 μ-loop2
+sub-i-2 c = search needs
+
+shared-slice-read-complement-base : tie.Need-shared-slice-read-complement-base Inv-loop μ-loop Inv-loop2 μ-loop2
 shared-slice-read-complement-base c = search needs
 
-complement-base-requires : tie.Need-complement-base-requires Inv-loop μ-loop
+complement-base-requires : tie.Need-complement-base-requires Inv-loop μ-loop Inv-loop2 μ-loop2
 complement-base-requires c κs =
     let l = c .before .before .before in
-    (all-at _ _ _ (omega arith) (l .before .before .before .before .pre .1), l .before .partners .ensures)
+    let p = l .before .before .before .before in
+    (all-at _ _ _ (omega arith) (p .before .before .before .pre .1), p .partners .ensures)
 
-slice-write-out : tie.Need-slice-write-out Inv-loop μ-loop
-slice-write-out c = search needs
-
-add-at : tie.Need-add-at Inv-loop μ-loop
-add-at c = search needs
-
-loop-less : tie.Need-loop-less Inv-loop μ-loop
-loop-less c = search needs
-
-loop-again : tie.Need-loop-again Inv-loop μ-loop
-loop-again c =
+slice-write-out : tie.Need-slice-write-out Inv-loop μ-loop Inv-loop2 μ-loop2
+slice-write-out c =
     let l = c .before .before .before .before in
-    (search needs, (simp length-set (omega arith), write-reversed-turn _ _ _ _ (omega arith) (omega arith) _ (c .complement-base .ensures) (l .loop .i) (l .loop .at) (omega arith) (omega arith) (l .loop .inv .1 .1)))
+    let m = l .before .before in
+    omega (arith, l .loop2 .inv .0, l .loop2 .inv .1 .same, m .loop .inv .1 .same, m .before .before .before .before .before .pre .0)
 
-same-length : tie.Need-same-length Inv-loop μ-loop
-same-length c = search needs
+add-at-2 : tie.Need-add-at-2 Inv-loop μ-loop Inv-loop2 μ-loop2
+add-at-2 c = search needs
 
-returns : tie.Need-returns Inv-loop μ-loop
-returns c = let z : c .before .loop .i ≡ 0 = omega arith in rw z at (c .before .loop .inv .1 .1)
+loop2-less : tie.Need-loop2-less Inv-loop μ-loop Inv-loop2 μ-loop2
+loop2-less c = search needs
+
+loop2-again : tie.Need-loop2-again Inv-loop μ-loop Inv-loop2 μ-loop2
+loop2-again c =
+    let l = c .before .before .before .before in
+    (search needs, reversing-next _ _ _ _ (l .loop2 .i) _ (l .loop2 .at) _ (l .loop2 .inv .1) (omega arith) (l .loop2 .inv .0) (c .complement-base .ensures))
+
+same-length : tie.Need-same-length Inv-loop μ-loop Inv-loop2 μ-loop2
+same-length c = c .before .loop2 .inv .1 .same ∙ c .before .before .before .loop .inv .1 .same
+
+returns : tie.Need-returns Inv-loop μ-loop Inv-loop2 μ-loop2
+returns c =
+    let l = c .before in
+    let m = l .before .before in
+    let z : l .loop2 .i ≡ 0 = omega arith in
+    reversing-all _ _ _ (m .before .before .before .before .before .pre .0) (reversing-on _ _ _ _ _ _ _ (m .loop .inv .1) (rw z at (l .loop2 .inv .1)))
 
 pub write-reversed-spec : {M : Type 1} → statement M
 write-reversed-spec =
@@ -66,14 +109,23 @@ write-reversed-spec =
     (tie.spec
     Inv-loop
     μ-loop
+    Inv-loop2
+    μ-loop2
     partners-requires
+    least-at-once-requires
     loop-holds
     sub-i
-    shared-slice-read-complement-base
-    complement-base-requires
-    slice-write-out
+    reverse16-requires
     add-at
     loop-less
     loop-again
+    loop2-holds
+    sub-i-2
+    shared-slice-read-complement-base
+    complement-base-requires
+    slice-write-out
+    add-at-2
+    loop2-less
+    loop2-again
     same-length
     returns)
