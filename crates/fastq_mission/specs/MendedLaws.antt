@@ -1,16 +1,16 @@
 -- Laws for Mended.antt and Mending.antt: the records of a FASTQ file with one base replaced. Names, places and every other byte stay.
-use Prim.Native.Nat.{ℕ, _+_, _-_, _≤_, _<_}
+use Prim.Native.Nat.{ℕ, _-_, _<_}
 use mathlib.Core.Path.{_≡_, refl, ap, sym, _∙_}
-use mathlib.Core.Logic.{_⊎_, ⊎-elim}
 use mathlib.Core.List.{List}
 use mathlib.Core.Bool.{Bool, true, false}
-use lib.ListN.{length, getD, take, drop, set}
-use lib.Seq.{ext-getD, getD-set-same, getD-set-other, drop-set-lt, drop-set-add, take-set-le}
+use lib.ListN.{length, getD, set}
+use lib.Seq.{ext-getD, getD-set-same, getD-set-other}
 use lib.Dec.{eqb}
 use borrow.Author.Tests.{eqb-true, eqb-false}
 use native.Mathlib.Omega.{arith}
 use Rattle.record.specs.Bases.{byteAt}
 use Rattle.index_line.specs.IndexLine.{nameIn}
+use Rattle.mission.specs.MendedNames.{name-apart}
 use Rattle.fastq.specs.Parts.{partOf}
 use Rattle.fastq.specs.declared.Part.{Part}
 use Rattle.fastq.specs.declared.Part.the-variants.{Bases, Qualities}
@@ -27,12 +27,6 @@ use Rattle.fastq_mission.specs.TableLaws.{length-offsets}
 use Rattle.fastq_mission.specs.Extents.{file-along, part-apart, records-apart, names-apart, parts-apart}
 use Rattle.fastq_mission.specs.MendedRows.{rows-same}
 use Rattle.fastq_mission.specs.Mend.{BaseAt, Plain}
-
--- n bytes from a on, where the byte replaced lies behind them
-span-before : (f : List ℕ) (a n o b : ℕ) → a + n ≤ o → take n (drop a (set f o b)) ≡ take n (drop a f)
-span-before f a n o b h =
-    let w : a + (o - a) ≡ o = omega arith in
-    ap (λ (m : ℕ). take n (drop a (set f m b))) (sym w) ∙ ap (take n) (drop-set-add a f (o - a) b) ∙ take-set-le n (drop a f) (o - a) b (omega arith)
 
 module _ (f : List ℕ) (k j o b : ℕ) (x : BaseAt f k j o) (p : Plain b) where
   abbrev here : QualityRow
@@ -70,18 +64,7 @@ module _ (f : List ℕ) (k j o b : ℕ) (x : BaseAt f k j o) (p : Plain b) where
 
     -- the same name
     pub name-same : nameIn (set f o b) (recordAt (recordsOf f) r .«record») ≡ nameIn f (recordAt (recordsOf f) r .«record»)
-    unfolding nameIn
-    name-same = rw (← x .place) (⊎-elim before behind (names-apart (file-along f) r k h (x .record′) j (x .base)))
-      where
-        before : basePlace f k Bases j < recordAt (recordsOf f) r .«record» .«name_start»
-            → take (recordAt (recordsOf f) r .«record» .«name_length») (drop (recordAt (recordsOf f) r .«record» .«name_start») (set f (basePlace f k Bases j) b))
-            ≡ take (recordAt (recordsOf f) r .«record» .«name_length») (drop (recordAt (recordsOf f) r .«record» .«name_start») f)
-        before u = ap (take (recordAt (recordsOf f) r .«record» .«name_length»)) (drop-set-lt (recordAt (recordsOf f) r .«record» .«name_start») f (basePlace f k Bases j) b u)
-
-        behind : recordAt (recordsOf f) r .«record» .«name_start» + recordAt (recordsOf f) r .«record» .«name_length» ≤ basePlace f k Bases j
-            → take (recordAt (recordsOf f) r .«record» .«name_length») (drop (recordAt (recordsOf f) r .«record» .«name_start») (set f (basePlace f k Bases j) b))
-            ≡ take (recordAt (recordsOf f) r .«record» .«name_length») (drop (recordAt (recordsOf f) r .«record» .«name_start») f)
-        behind u = span-before f (recordAt (recordsOf f) r .«record» .«name_start») (recordAt (recordsOf f) r .«record» .«name_length») (basePlace f k Bases j) b u
+    name-same = name-apart f (recordAt (recordsOf f) r .«record») o b (rw (x .place) at (names-apart (file-along f) r k h (x .record′) j (x .base)))
 
     -- so what matched it matches
     pub matches-same : (n : ℕ) (l : List ℕ) → Matches n f (recordAt (recordsOf f) r) l → Matches n (set f o b) (recordAt (recordsOf f) r) l

@@ -4,15 +4,13 @@ use Prim.Native.Nat.{ℕ, zero, suc, _+_, _-_, _≤_, _<_}
 use mathlib.Core.Path.{_≡_, refl, ap, sym, _∙_}
 use mathlib.Core.Logic.{_⊎_, inl, inr}
 use mathlib.Core.List.{List, [], _∷_}
-use mathlib.Core.Bool.{Bool, true, false, cond}
+use mathlib.Core.Bool.{Bool, true, false}
 use lib.ListN.{length, take, drop, set, length-set}
 use lib.Seq.{drop-set-lt, drop-set-add, take-set-le}
 use lib.Dec.{ltb}
 use borrow.Author.Tests.{ltb-true, ltb-false}
 use native.Mathlib.Omega.{arith}
 use native.Mathlib.Nat.{zero-add}
-use Rattle.refusal.specs.Numbers.{overLimit}
-use Rattle.refusal.specs.declared.Refusal.the-variants.{TooLong}
 use Rattle.lines.specs.Lines.{lines, sumWidths}
 use Rattle.lines.specs.Groups.{Group, groups}
 use Rattle.lines.specs.Mending.{base-byte-within}
@@ -24,7 +22,6 @@ use Rattle.table.specs.declared.Held.{Held}
 use Rattle.table.specs.declared.Held.the-variants as held
 use Rattle.index_line.specs.IndexLine.{nameIn}
 use Rattle.index.specs.Find.{named, judged, rowFrom, rowNamed, rowRead}
-use Rattle.index.specs.declared.Found.{Found}
 use Rattle.index.specs.declared.Found.the-variants.{Refused}
 use Rattle.indexer.specs.Index.{ported}
 use Rattle.fitting.specs.Complete.{complete}
