@@ -1,6 +1,6 @@
 -- Laws of one record against its line: each way of the code through them ends with what they say.
 use Prim.Native.Nat.{ℕ, _+_, _-_, _≤_, _<_}
-use mathlib.Core.Path.{_≡_, refl, ap, sym, _∙_}
+use mathlib.Core.Path.{_≡_, refl, _∙_}
 use mathlib.Core.List.{List, [], _∷_}
 use mathlib.Core.Bool.{Bool, true, false}
 use lib.ListN.{length, drop, drop-of-length-le}
@@ -39,7 +39,6 @@ use Rattle.fastq_checker.specs.Named.{line-named}
 use Rattle.fastq_checker.specs.Steps.{partSaysOf, partsSay, judgedAs}
 use Rattle.fastq_checker.specs.declared.elsewhere.Apart.the-variants.{Never, First}
 use Rattle.fastq_checker.specs.declared.Place.{Place}
-use Rattle.fastq_checker.specs.declared.Step.{Step}
 use Rattle.fastq_checker.specs.declared.Step.the-variants as step
 
 -- ---- the parts of a record

@@ -6,3 +6,4 @@ pub mod Named
 pub mod Steps
 pub mod JudgeLaws
 pub mod WalkLaws
+pub mod Examples

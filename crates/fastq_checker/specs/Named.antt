@@ -4,7 +4,7 @@ use mathlib.Core.Path.{_≡_, refl, sym, ap, _∙_}
 use mathlib.Core.List.{List, [], _∷_}
 use mathlib.Core.Bool.{_&&_}
 use native.Mathlib.Omega.{arith}
-use lib.ListN.{length, take, drop, length-append}
+use lib.ListN.{length, take, length-append}
 use lib.Seq.{take-at, take-take}
 use Rattle.lines.specs.Lines.{contentOf}
 use Rattle.lines.specs.Laws.{content-le, content-front}
@@ -15,7 +15,6 @@ use Rattle.record.specs.declared.Record.{Record}
 use Rattle.index_line.specs.IndexLine.{plainEnd, nameIn}
 use Rattle.fastq_line.specs.SixColumns.{fieldsOf, rowOf, entryRead, fieldsSay, contentSays, onlyIf, sixLineSays, nameOf}
 use Rattle.fastq_line.specs.declared.Entry.{Entry}
-use Rattle.fastq_line.specs.declared.LineRead.{LineRead}
 use Rattle.fastq_line.specs.declared.LineRead.the-variants as read
 
 pub record Named (l : List ℕ) (x : Record) : Type 0 where

@@ -5,6 +5,8 @@ use lib.ListN.{drop}
 use Rattle.lines.specs.Lines.{lineEnd, lines}
 use Rattle.record.specs.Place.{placeIn}
 use Rattle.walking.specs.Places.{firstElsewhere}
+use Rattle.table.specs.declared.Stop.{Stop}
+use Rattle.table.specs.declared.Stop.the-variants as stop
 use Rattle.fastq.specs.Fastq.{recordAt}
 use Rattle.fastq.specs.Parts.{partOf}
 use Rattle.fastq.specs.declared.Part.{Part}
@@ -29,6 +31,11 @@ partSaysOf n x y p = placesSay n (firstElsewhere (placeIn (partOf p y)) 0 (place
 -- its bases, then its qualities
 unfoldable pub partsSay : ℕ → QualityRow → QualityRow → Verdict
 partsSay n x y = andThen (partSaysOf n x y Bases) (partSaysOf n x y Qualities)
+
+-- what the indexer refuses
+abbrev pub stopSays : Stop → Verdict
+stopSays stop.Ended = Accepted
+stopSays (stop.Refused y) = Refused y
 
 -- the place behind a record that ends at an offset, and behind its line
 abbrev pub placeBehind : List ℕ → Place → ℕ → Place

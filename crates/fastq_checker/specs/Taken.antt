@@ -1,6 +1,6 @@
 -- What is known of a record that the indexer takes: its name lies in the file, and its numbers lead to every base and to every quality.
 use Prim.Native.Nat.{ℕ, _+_, _-_, _≤_, _<_}
-use mathlib.Core.Path.{_≡_, refl, ap, sym, _∙_}
+use mathlib.Core.Path.{_≡_, refl, ap, _∙_}
 use mathlib.Core.List.{List, [], _∷_, map}
 use mathlib.Core.Bool.{Bool, true, false, cond}
 use lib.ListN.{length, drop}
@@ -18,7 +18,7 @@ use Rattle.definition.specs.declared.Parsed.the-variants.{Named, Bad}
 use Rattle.definition.specs.Definition.{markedSays, refusalAt}
 use Rattle.definition.specs.Laws.{marked-within}
 use Rattle.indexer.specs.Index.{lineOf}
-use Rattle.fastq.specs.Fastq.{linesAt, bodyOf, fromPlus, bodyAt, restOf, sequenceOf, qualitiesOf, rowFor, qualitiesJudged, sequenceJudged, sequenceSays, recordAt}
+use Rattle.fastq.specs.Fastq.{linesAt, fromPlus, bodyAt, restOf, sequenceOf, qualitiesOf, rowFor, qualitiesJudged, sequenceJudged, sequenceSays, recordAt}
 use Rattle.fastq.specs.Laws.{lines-plus}
 use Rattle.fastq.specs.RecordLaws.{record-end, record-named, record-bad, record-ends}
 use Rattle.fastq.specs.Leading.{bases-lead, qualities-lead}

@@ -1,5 +1,5 @@
 -- Laws of the checker's walk: from place to place, what the records and the lines from there on lead to stays.
-use Prim.Native.Nat.{ℕ, suc, _+_, _-_, _≤_, _<_}
+use Prim.Native.Nat.{ℕ, _+_, _-_, _≤_, _<_}
 use mathlib.Core.Path.{_≡_, refl, ap, sym, _∙_}
 use mathlib.Core.List.{List, [], _∷_}
 use mathlib.Core.Bool.{Bool, true, false}
@@ -29,7 +29,7 @@ use Rattle.checker.specs.declared.Verdict.{Verdict}
 use Rattle.checker.specs.declared.Verdict.the-variants.{Accepted, Refused}
 use Rattle.fastq_checker.specs.Check.{recordSays, recordsSay, fileSays, checkOf}
 use Rattle.fastq_checker.specs.Taken.{Taken, taken}
-use Rattle.fastq_checker.specs.Steps.{placeBehind, judgedAs, stepFrom, stepOf, checkAt}
+use Rattle.fastq_checker.specs.Steps.{stopSays, placeBehind, judgedAs, stepFrom, stepOf, checkAt}
 use Rattle.fastq_checker.specs.declared.Place.{Place}
 use Rattle.fastq_checker.specs.declared.Step.{Step}
 use Rattle.fastq_checker.specs.declared.Step.the-variants as step
@@ -40,11 +40,11 @@ module _ (f : List ℕ) (at : ℕ) (r : fastq.Step) (h : r ≡ recordAt f at) wh
   pub stop-on : (x : QualityRow) → r .answer ≡ indexed.Row x → (rowsAt f (r .next) .stop ≡ rowsAt f at .stop) × (at < length f) × (at < r .next)
   stop-on x e = let k = file-row f at r h x e in (sym (ap (λ (g : Found). g .stop) (k .0)), k .1, k .2)
 
-  pub stop-end : r .answer ≡ indexed.End → stop.Ended ≡ rowsAt f at .stop
-  stop-end e = sym (ap (λ (g : Found). g .stop) (file-end f at r h e))
+  pub stop-end : r .answer ≡ indexed.End → Accepted ≡ stopSays (rowsAt f at .stop)
+  stop-end e = sym (ap (λ (g : Found). stopSays (g .stop)) (file-end f at r h e))
 
-  pub stop-refused : (y : Refusal) → r .answer ≡ indexed.Refused y → stop.Refused y ≡ rowsAt f at .stop
-  stop-refused y e = sym (ap (λ (g : Found). g .stop) (file-refused f at r h y e))
+  pub stop-refused : (y : Refusal) → r .answer ≡ indexed.Refused y → Refused y ≡ stopSays (rowsAt f at .stop)
+  stop-refused y e = sym (ap (λ (g : Found). stopSays (g .stop)) (file-refused f at r h y e))
 
 -- ---- the record at a place
 
@@ -178,10 +178,18 @@ module _ (f i : List ℕ) where
     check-long-index k = rw (h, k)
 
     module _ (k : overLimit (length i) ≡ false) where
-      pub check-stopped : (y : Refusal) → rowsAt f 0 .stop ≡ stop.Refused y → Refused y ≡ checkOf f i
+      pub check-stopped : (y : Refusal) → stopSays (rowsAt f 0 .stop) ≡ Refused y → Refused y ≡ checkOf f i
       unfolding checkOf
-      check-stopped y e = rw (h, k, e)
+      check-stopped y e = rw (h, k) (go (rowsAt f 0 .stop) e)
+        where
+          go : (s : Stop) → stopSays s ≡ Refused y → Refused y ≡ fileSays f (lines i) (rowsAt f 0 .rows) s
+          go stop.Ended q = let z : _≡_ {A = ℕ} 0 1 = cc in absurd (omega arith)
+          go (stop.Refused x) q = sym q
 
-      pub check-taken : rowsAt f 0 .stop ≡ stop.Ended → recordsSay 0 f (rowsAt f 0 .rows) (lines i) ≡ checkOf f i
+      pub check-taken : stopSays (rowsAt f 0 .stop) ≡ Accepted → recordsSay 0 f (rowsAt f 0 .rows) (lines i) ≡ checkOf f i
       unfolding checkOf
-      check-taken e = rw (h, k, e)
+      check-taken e = rw (h, k) (go (rowsAt f 0 .stop) e)
+        where
+          go : (s : Stop) → stopSays s ≡ Accepted → recordsSay 0 f (rowsAt f 0 .rows) (lines i) ≡ fileSays f (lines i) (rowsAt f 0 .rows) s
+          go stop.Ended q = refl
+          go (stop.Refused x) q = let z : _≡_ {A = ℕ} 0 1 = cc in absurd (omega arith)

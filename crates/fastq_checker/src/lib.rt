@@ -12,7 +12,6 @@ use fastq::QualityRow;
 use fastq_line::LineRead;
 use record::Record;
 use refusal::Refusal;
-use table::Stop;
 ghost use mathlib.Core.Path.{_≡_};
 ghost use mathlib.Core.List.{[]};
 ghost use Prim.Native.Nat.{_+_, _≤_, _<_};
@@ -24,7 +23,7 @@ ghost use Rattle.checker.specs.Steps.{onlyLine};
 ghost use Rattle.fastq_index.specs.File.{rowsAt};
 ghost use Rattle.fastq_checker.specs.Check.{entrySays, recordSays, recordsSay, checkOf};
 ghost use Rattle.fastq_checker.specs.Taken.{Taken};
-ghost use Rattle.fastq_checker.specs.Steps.{partSaysOf, partsSay, placeBehind, judgedAs, stepOf};
+ghost use Rattle.fastq_checker.specs.Steps.{partSaysOf, partsSay, stopSays, placeBehind, judgedAs, stepOf};
 
 // The place behind some records: in the file and in the index, and how many they are.
 struct Place {
@@ -139,9 +138,9 @@ impl Place {
     }
 }
 
-// Why the indexer stops in the file.
-fn stop_of(fastq: &[u8]) -> Stop
-    ensures { λ r. ⌜ r ≡ rowsAt (now (fastq .entry)) 0 .stop ⌝ }
+// What the indexer refuses in the file, wherever that is.
+fn judge_file(fastq: &[u8]) -> Verdict
+    ensures { λ r. ⌜ r ≡ stopSays (rowsAt (now (fastq .entry)) 0 .stop) ⌝ }
 {
     let mut at = 0;
     loop {
@@ -152,10 +151,10 @@ fn stop_of(fastq: &[u8]) -> Stop
                 at = step.next;
             }
             Indexed::End => {
-                return Stop::Ended;
+                return Verdict::Accepted;
             }
             Indexed::Refused(r) => {
-                return Stop::Refused(r);
+                return Verdict::Refused(r);
             }
         }
     }
@@ -196,7 +195,7 @@ fn check_records(fastq: &[u8], index: &[u8]) -> Verdict
     }
 }
 
-// Checks an index against its file. What the indexer refuses comes first, wherever in the file it is.
+// Checks an index against its file. What the indexer refuses comes first.
 pub fn check(fastq: &[u8], index: &[u8]) -> Verdict
     ensures { λ r. ⌜ r ≡ checkOf (now (fastq .entry)) (now (index .entry)) ⌝ }
 {
@@ -206,8 +205,8 @@ pub fn check(fastq: &[u8], index: &[u8]) -> Verdict
     if refusal::over_limit(index.len()) {
         return Verdict::Refused(Refusal::TooLong);
     }
-    match stop_of(fastq) {
-        Stop::Refused(r) => Verdict::Refused(r),
-        Stop::Ended => check_records(fastq, index),
+    match judge_file(fastq) {
+        Verdict::Refused(r) => Verdict::Refused(r),
+        Verdict::Accepted => check_records(fastq, index),
     }
 }

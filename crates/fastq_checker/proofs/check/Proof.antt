@@ -18,8 +18,8 @@ over-limit-requires-2 c κs = search needs
 returns-2 : tie.Need-returns-2
 returns-2 c = check-long-index _ _ (sym (c .before .before .before .over-limit .ensures) ∙ c .before .before .if1 .left) (sym (c .before .over-limit2 .ensures) ∙ c .if2 .taken)
 
-stop-of-requires : tie.Need-stop-of-requires
-stop-of-requires c κs = search needs
+judge-file-requires : tie.Need-judge-file-requires
+judge-file-requires c κs = search needs
 
 enum-known-r : tie.Need-enum-known-r
 enum-known-r c = search needs
@@ -31,10 +31,10 @@ check-records-requires : tie.Need-check-records-requires
 check-records-requires c κs = search needs
 
 returns-3 : tie.Need-returns-3
-returns-3 c = check-stopped _ _ (sym (c .before .before .before .before .before .before .before .over-limit .ensures) ∙ c .before .before .before .before .before .before .if1 .left) (sym (c .before .before .before .before .before .over-limit2 .ensures) ∙ c .before .before .before .before .if2 .left) _ (sym (c .before .before .before .stop-of .ensures) ∙ c .before .r .given .1)
+returns-3 c = check-stopped _ _ (sym (c .before .before .before .before .before .before .before .over-limit .ensures) ∙ c .before .before .before .before .before .before .if1 .left) (sym (c .before .before .before .before .before .over-limit2 .ensures) ∙ c .before .before .before .before .if2 .left) _ (sym (c .before .before .before .judge-file .ensures) ∙ c .before .r .given .1)
 
 returns-4 : tie.Need-returns-4
-returns-4 c = c .check-records .ensures ∙ check-taken _ _ (sym (c .before .before .before .before .before .before .before .over-limit .ensures) ∙ c .before .before .before .before .before .before .if1 .left) (sym (c .before .before .before .before .before .over-limit2 .ensures) ∙ c .before .before .before .before .if2 .left) (sym (c .before .before .before .stop-of .ensures) ∙ c .before .enum-told .given .1)
+returns-4 c = c .check-records .ensures ∙ check-taken _ _ (sym (c .before .before .before .before .before .before .before .over-limit .ensures) ∙ c .before .before .before .before .before .before .if1 .left) (sym (c .before .before .before .before .before .over-limit2 .ensures) ∙ c .before .before .before .before .if2 .left) (sym (c .before .before .before .judge-file .ensures) ∙ c .before .enum-told .given .1)
 
 pub check-spec : {M : Type 1} → statement M
 check-spec =
@@ -44,7 +44,7 @@ check-spec =
     returns
     over-limit-requires-2
     returns-2
-    stop-of-requires
+    judge-file-requires
     enum-known-r
     enum-told
     check-records-requires

@@ -1,14 +1,15 @@
--- `fastq_checker::stop_of` meets its contract: why the indexer stops from `at` on is why it stops in the file.
+-- `fastq_checker::judge_file` meets its contract: what the indexer refuses from `at` on is what it refuses in the file.
 -- Assumes nothing.
 use Prim.Native.Nat.{_-_, _<_}
-use mathlib.Core.Path.{_≡_, refl, _∙_}
+use mathlib.Core.Path.{_≡_, refl, ap, _∙_}
 use native.Mathlib.Omega.{arith}
 use lib.ListN.{length}
 use Rattle.fastq_index.specs.File.{rowsAt}
+use Rattle.fastq_checker.specs.Steps.{stopSays}
 use Rattle.fastq_checker.specs.WalkLaws.{stop-on, stop-end, stop-refused}
 use borrow.Author.Needs.{needs}
-use Rattle.fastq_checker.proofs.stop_of.Statement.{statement}
-use Rattle.fastq_checker.proofs.stop_of.Tie as tie
+use Rattle.fastq_checker.proofs.judge_file.Statement.{statement}
+use Rattle.fastq_checker.proofs.judge_file.Tie as tie
 
 abbrev Inv-loop : tie.InvT-loop
 Inv-loop fastq at₀ at = rowsAt fastq at .stop ≡ rowsAt fastq 0 .stop
@@ -40,16 +41,16 @@ enum-told-2 : tie.Need-enum-told-2 Inv-loop μ-loop
 enum-told-2 c = search needs
 
 returns : tie.Need-returns Inv-loop μ-loop
-returns c = stop-end _ _ _ (c .before .before .index-at .ensures) (c .enum-told2 .given .1) ∙ c .before .before .before .loop .inv
+returns c = stop-end _ _ _ (c .before .before .index-at .ensures) (c .enum-told2 .given .1) ∙ ap stopSays (c .before .before .before .loop .inv)
 
 enum-known-answer : tie.Need-enum-known-answer Inv-loop μ-loop
 enum-known-answer c = search needs
 
 returns-2 : tie.Need-returns-2 Inv-loop μ-loop
-returns-2 c = stop-refused _ _ _ (c .before .before .before .index-at .ensures) _ (c .before .answer .given .1) ∙ c .before .before .before .before .loop .inv
+returns-2 c = stop-refused _ _ _ (c .before .before .before .index-at .ensures) _ (c .before .answer .given .1) ∙ ap stopSays (c .before .before .before .before .loop .inv)
 
-pub stop-of-spec : {M : Type 1} → statement M
-stop-of-spec =
+pub judge-file-spec : {M : Type 1} → statement M
+judge-file-spec =
     tie.close
     (tie.spec
     Inv-loop
