@@ -239,7 +239,7 @@ def without_its_server(c):
 
 
 def pictures_for_the_readme(c):
-    c.size(720, 700)
+    c.size(720, 770)
     with open(os.path.join(c.samples, "stale.fa"), "rb") as fasta, open(os.path.join(c.samples, "stale.fa.fai"), "rb") as index:
         c.person.open(fasta.read(), index.read(), name="stale.fa")
     c.picture("refused")
