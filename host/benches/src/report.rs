@@ -230,7 +230,7 @@ impl Report {
         let fastq = self.fastq.iter().map(|q| Goal {
             of: format!("check, FASTQ, {}: part of the speed of indexing", q.file),
             goal: CHECK_GOAL,
-            found: q.index / q.check,
+            found: q.into / q.check,
         });
         let mapped = self.mapped.iter().map(|m| Goal {
             of: format!("{} look-ups among {} names: times the walks", number(m.look_ups), number(m.names)),
@@ -333,7 +333,7 @@ impl fmt::Display for Report {
         for fastq in &self.fastq {
             let [into, index, check] = [fastq.into, fastq.index, fastq.check].map(|work| gigabytes(fastq.bytes, work));
             let (part, goal) = (fastq.part(), fastq.goal.map_or(String::new(), |goal| goal.to_string()));
-            let (checked, written) = (fastq.index / fastq.check, time(fastq.write));
+            let (checked, written) = (fastq.into / fastq.check, time(fastq.write));
             writeln!(
                 f,
                 "| {} | {into} | {index} | {part:.2} | {goal} | {check} | {checked:.2} | {CHECK_GOAL} | {written} |",
