@@ -1,9 +1,10 @@
 // count [WORK FILE ..]: does each work once on its file, so that the instructions it takes can be counted as the difference of two
-// runs (tools/dev instruction-goals). A work is `index`, by the ported rule, `fit`, by the complete one, `check`, with the index on standard
+// runs (tools/dev instruction-goals). A work is `index`, by the ported rule, `fit`, by the complete one, `arrive`, the
+// same in one piece and the end, `check`, with the index on standard
 // input, `reverse`, the reverse complement of the whole file, `primer`, the first place of the primer on standard input, `score`, what
 // was typed on standard input against the whole file by edition 1, `edition`, by edition 2, or `drill`, the same against bases 1 to
-// 10,000 of the file's record s, asked for by an exercise; `twice` scores them once more. It writes a line for each, as `index 1` or
-// `fit 1`, the count of rows, `check 0`, `primer 3`, the place, or `nothing 0`, `score 490`, or `reverse 60`, the count of bytes, and then
+// 10,000 of the file's record s, asked for by an exercise; `twice` scores them once more. It writes a line for each, as `index 1`,
+// `fit 1` or `arrive 1`, the count of rows, `check 0`, `primer 3`, the place, or `nothing 0`, `score 490`, or `reverse 60`, the count of bytes, and then
 // those bytes: a buffer that nobody reads, the compiler would not write. Where it is refused, `refused 24 3 45`. A file, or what is on
 // standard input, has at most 65,536 bytes; what is behind them is not read.
 ghost use Prim.Native.Nat.{_≤_};

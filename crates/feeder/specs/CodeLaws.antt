@@ -236,7 +236,7 @@ module _ (out : Out) (n : ℕ) (t : List ℕ) where
 
 -- ---- a line behind what waits
 
-fed-same : {a b : Filling} {h k : Waiting} → a ≡ b → h ≡ k → _≡_ {A = FedSum Filling Waiting} (record { state = a; held = h }) (record { state = b; held = k })
+pub fed-same : {a b : Filling} {h k : Waiting} → a ≡ b → h ≡ k → _≡_ {A = FedSum Filling Waiting} (record { state = a; held = h }) (record { state = b; held = k })
 fed-same e q = rw (e, q)
 
 module _ (rule : Rule) (x : FedSum Filling Waiting) (l : List ℕ) where

@@ -91,7 +91,7 @@ says-sum l =
     ∙ ap (λ (st : old.State). saidOf (st .phase)) (judged-line l)
     ∙ said-back (sumOf l .line .width) (sumSays (sumOf l))
 
-says-line : (l : List ℕ) → sumSays (unpack (waitingOf l)) ≡ definitionSays l
+pub says-line : (l : List ℕ) → sumSays (unpack (waitingOf l)) ≡ definitionSays l
 unfolding waitingOf
 says-line l = slim-says (sumOf l) ∙ sym (says-sum l)
 

@@ -19,3 +19,5 @@ pub mod Split
 pub mod Whole
 pub mod Fitted
 pub mod Ends
+pub mod Records
+pub mod Turns

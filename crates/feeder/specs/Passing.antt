@@ -70,11 +70,11 @@ pub record PassDone (f : Fed) (p : List ℕ) (i : ℕ) (g : Fed) (j : ℕ) : Typ
 abbrev pub heldLike : Numbers → Waiting
 heldLike n = record { width = n .width; bases = n .bases; whole = true; starts = false; name = 0; text = 0; kept = 0 }
 
-seven : (a b c d f g h : Bool) → ((((((a && b) && c) && d) && f) && g) && h) ≡ true
+pub seven : (a b c d f g h : Bool) → ((((((a && b) && c) && d) && f) && g) && h) ≡ true
     → (a ≡ true) × (b ≡ true) × (c ≡ true) × (d ≡ true) × (f ≡ true) × (g ≡ true) × (h ≡ true)
 seven a b c d f g h e = let x = two (((((a && b) && c) && d) && f) && g) h e in let y = six a b c d f g (x .0) in (y .0, y .1, y .2, y .3, y .4, y .5, x .1)
 
-off : (b : Bool) → not b ≡ true → b ≡ false
+pub off : (b : Bool) → not b ≡ true → b ≡ false
 off true e = sym e
 off false e = refl
 
@@ -88,7 +88,7 @@ same-held t n e =
         → record { width = w; bases = b; whole = u; starts = v; name = x; text = y; kept = z } ≡ heldLike n
     same w b u v x y z p q r s i j k = rw (p, q, r, s, i, j, k)
 
-like-waiting : (n : Numbers) (l : List ℕ) → isLike (lineBy n) l ≡ true → begins l ≡ false → waitingOf l ≡ heldLike n
+pub like-waiting : (n : Numbers) (l : List ℕ) → isLike (lineBy n) l ≡ true → begins l ≡ false → waitingOf l ≡ heldLike n
 unfolding waitingOf sumOf isLike
 like-waiting n l e g = rw (g, both-left (ends 10 l) _ (both-left (ends 10 l && eqb (length l) (n .width)) _ e), like-width (lineBy n) l e, like-bases (lineBy n) l e)
 
@@ -108,13 +108,50 @@ seq-line s i l ls h e = go (begins (part s i (lineEnd s i))) refl (rw (linesAt-c
 pub next-times : (k a : ℕ) → suc k * a ≡ k * a + a
 next-times k a = rw (← add-one k, add-mul k 1 a, one-mul a)
 
--- ---- behind k of them
+-- ---- lines that are like the one that waits, whatever is awaited behind k of them
+
+module _ (rule : Rule) (n : Numbers) (some : 0 < n .width) (F : ℕ → Phase) (c : ℕ) (on : (k : ℕ) → k * n .width ≤ c → outOf rule (F k) (heldLike n) false ≡ Keeps (F (suc k))) (r : ℕ) (b p : List ℕ) where
+  abbrev pub fedAt : ℕ → FedSum Filling Waiting
+  fedAt k = record { state = filling (F k) r b; held = heldLike n }
+
+  pub step-on : (k : ℕ) → k * n .width ≤ c → stepBy rule (filling (F k) r b) (heldLike n) false ≡ filling (F (suc k)) r b
+  unfolding stepBy applied
+  step-on k h = rw (on k h)
+
+  absorb-on : (k : ℕ) (l : List ℕ) → k * n .width ≤ c → isLike (lineBy n) l ≡ true → begins l ≡ false → absorbSum (machine rule) (fedAt k) l ≡ fedAt (suc k)
+  unfolding absorbSum
+  absorb-on k l h e g = rw (g, step-on k h, like-waiting n l e g)
+
+  turn-on : (k i : ℕ) (l : List ℕ) → LineLike p (lineBy n) i l → k * n .width ≤ c
+      → absorbSums (machine rule) (fedAt (suc k)) (lines (drop (i + n .width) p)) ≡ absorbSums (machine rule) (fedAt k) (lines (drop i p))
+  turn-on k i l y h =
+      let q = seq-line p i l _ (omega (arith, y .within, some)) (y .here) in
+      sym (ap (absorbSums (machine rule) (fedAt k)) (rw (y .width) at (q .1)) ∙ again l (lines (drop (i + n .width) p)) ∙ ap (λ (x : FedSum Filling Waiting). absorbSums (machine rule) x (lines (drop (i + n .width) p))) (absorb-on k l h (y .like) (q .0)))
+    where
+      again : (l : List ℕ) (ls : List (List ℕ)) → absorbSums (machine rule) (fedAt k) (l ∷ ls) ≡ absorbSums (machine rule) (absorbSum (machine rule) (fedAt k) l) ls
+      again l ls = unfold absorbSums in refl
+
+  pub record Behind (i : ℕ) (k j : ℕ) : Type 0 where
+    pub far : k * n .width ≤ j
+    pub is : absorbSums (machine rule) (fedAt k) (lines (drop j p)) ≡ absorbSums (machine rule) (fedAt 0) (lines (drop i p))
+
+  -- all of them
+  pub all-on : (i : ℕ) → i ≤ length p → length p ≤ c → Behind i (alike (lineBy n) (seqAt p i)) (i + alike (lineBy n) (seqAt p i) * n .width)
+  all-on i h v =
+      alike-passes p (lineBy n) (Behind i)
+      (λ k j l y q. record {
+        far = rw (next-times k (n .width)) (omega (arith, q .far));
+        is = turn-on k j l y (omega (arith, q .far, y .within, v)) ∙ q .is;
+      })
+      i h (record { far = rw (zero-mul (n .width)) (omega arith); is = refl })
+
+-- ---- behind k of a record's rows
 
 module _ (d : Opened) (n : Numbers) (m z : ℕ) (some : 0 < n .bases) (apart : n .bases < n .width) (column : m % n .bases ≡ 0) (place : z ≡ placeBy n m) where
-  column-on : (k : ℕ) → (m + k * n .bases) % n .bases ≡ 0
+  pub column-on : (k : ℕ) → (m + k * n .bases) % n .bases ≡ 0
   column-on k = add-mul-mod-self-right m k (n .bases) ∙ column
 
-  place-on : (k : ℕ) → z + k * n .width ≡ placeBy n (m + k * n .bases)
+  pub place-on : (k : ℕ) → z + k * n .width ≡ placeBy n (m + k * n .bases)
   unfolding placeOf
   place-on k = rw (add-mul-div-right m k some, add-mul-mod-self-right m k (n .bases), add-mul (m / n .bases) k (n .width)) (omega (arith, place))
 
@@ -131,43 +168,11 @@ module _ (d : Opened) (n : Numbers) (m z : ℕ) (some : 0 < n .bases) (apart : n
       there = bases-there n (m + k * n .bases) (z + k * n .width) (n .bases) some apart some h (eqb (z + k * n .width) (placeBy n (m + k * n .bases))) refl
           (eq-eqb _ _ (place-on k)) (omega (arith, column-on k))
 
-  module _ (rule : Rule) (r : ℕ) (b p : List ℕ) where
-    abbrev rowsFed : ℕ → FedSum Filling Waiting
-    rowsFed k = record { state = filling (rowsAt k) r b; held = heldLike n }
-
-    even-step : (k : ℕ) → z + k * n .width + n .bases < 2 ^ 62 → stepBy rule (filling (rowsAt k) r b) (heldLike n) false ≡ filling (rowsAt (suc k)) r b
-    unfolding stepBy applied
-    even-step k h = rw (even-out rule k h, next-times k (n .bases), next-times k (n .width)) (rw (next-sum m k (n .bases), next-sum z k (n .width)))
-      where
-        next-sum : (a k c : ℕ) → a + k * c + c ≡ a + (k * c + c)
-        next-sum a k c = omega arith
-
-    even-absorb : (k : ℕ) (l : List ℕ) → z + k * n .width + n .bases < 2 ^ 62 → isLike (lineBy n) l ≡ true → begins l ≡ false → absorbSum (machine rule) (rowsFed k) l ≡ rowsFed (suc k)
-    unfolding absorbSum
-    even-absorb k l h e g = rw (g, even-step k h, like-waiting n l e g)
-
-    even-on : (k i : ℕ) (l : List ℕ) → LineLike p (lineBy n) i l → z + k * n .width + n .bases < 2 ^ 62
-        → absorbSums (machine rule) (rowsFed (suc k)) (lines (drop (i + n .width) p)) ≡ absorbSums (machine rule) (rowsFed k) (lines (drop i p))
-    even-on k i l y h =
-        let q = seq-line p i l _ (omega (arith, y .within, apart)) (y .here) in
-        sym (ap (absorbSums (machine rule) (rowsFed k)) (rw (y .width) at (q .1)) ∙ again l (lines (drop (i + n .width) p)) ∙ ap (λ (x : FedSum Filling Waiting). absorbSums (machine rule) x (lines (drop (i + n .width) p))) (even-absorb k l h (y .like) (q .0)))
-      where
-        again : (l : List ℕ) (ls : List (List ℕ)) → absorbSums (machine rule) (rowsFed k) (l ∷ ls) ≡ absorbSums (machine rule) (absorbSum (machine rule) (rowsFed k) l) ls
-        again l ls = unfold absorbSums in refl
-
-    record Behind (i : ℕ) (k j : ℕ) : Type 0 where
-      far : k * n .width ≤ j
-      is : absorbSums (machine rule) (rowsFed k) (lines (drop j p)) ≡ absorbSums (machine rule) (rowsFed 0) (lines (drop i p))
-
-    -- all of them
-    even-all : (i : ℕ) → i ≤ length p → z + length p + n .bases < 2 ^ 62 → Behind i (alike (lineBy n) (seqAt p i)) (i + alike (lineBy n) (seqAt p i) * n .width)
-    even-all i h v =
-        alike-passes p (lineBy n) (Behind i)
-        (λ k j l y q. record {
-          far = rw (next-times k (n .width)) (omega (arith, q .far));
-          is = even-on k j l y (omega (arith, q .far, y .within, v)) ∙ q .is;
-        })
-        i h (record { far = rw (zero-mul (n .width)) (omega arith); is = refl })
+  pub even-next : (rule : Rule) (k : ℕ) → z + k * n .width + n .bases < 2 ^ 62 → outOf rule (rowsAt k) (heldLike n) false ≡ Keeps (rowsAt (suc k))
+  even-next rule k h = even-out rule k h ∙ rw (next-times k (n .bases), next-times k (n .width)) (rw (next-sum m k (n .bases), next-sum z k (n .width)))
+    where
+      next-sum : (a k c : ℕ) → a + k * c + c ≡ a + (k * c + c)
+      next-sum a k c = omega arith
 
 -- ---- the pass
 
@@ -226,10 +231,19 @@ module _ (f : Fed) (p : List ℕ) (i : ℕ) (h : i ≤ length p) (fits : FitsWit
         both = omega (arith, fits .both);
       }
 
-      start-is : (rule : Rule) (t : List ℕ) → fedIn f (numbersIn t) ≡ rowsFed d n m z (numbers-small .some) (numbers-small .apart) (e .column) (e .place) rule (f .rows) (numbersIn t) p 0
+      abbrev rows : ℕ → Phase
+      rows = rowsAt d n m z (numbers-small .some) (numbers-small .apart) (e .column) (e .place)
+
+      rows-next : (rule : Rule) (j : ℕ) → j * n .width ≤ 2 ^ 40 → outOf rule (rows j) (heldLike n) false ≡ Keeps (rows (suc j))
+      rows-next rule j q = even-next d n m z (numbers-small .some) (numbers-small .apart) (e .column) (e .place) rule j (omega (arith, q, place-small, fits .both, v, numbers-small .bases, h))
+
+      abbrev rowsFed : Rule → List ℕ → ℕ → FedSum Filling Waiting
+      rowsFed rule t = fedAt rule n (rows-some .1) rows (2 ^ 40) (rows-next rule) (f .rows) (numbersIn t) p
+
+      start-is : (rule : Rule) (t : List ℕ) → fedIn f (numbersIn t) ≡ rowsFed rule t 0
       start-is rule t = rw (awaits, same-held (f .held) n (e .same), zero-mul (n .bases), zero-mul (n .width), add-zero m, add-zero z)
 
-      end-is : (rule : Rule) (t : List ℕ) → fedIn behind (numbersIn t) ≡ rowsFed d n m z (numbers-small .some) (numbers-small .apart) (e .column) (e .place) rule (f .rows) (numbersIn t) p k
+      end-is : (rule : Rule) (t : List ℕ) → fedIn behind (numbersIn t) ≡ rowsFed rule t k
       end-is rule t = rw (same-held (f .held) n (e .same))
 
       pub pass-some : PassDone f p i behind (i + k * n .width)
@@ -237,7 +251,7 @@ module _ (f : Fed) (p : List ℕ) (i : ℕ) (h : i ≤ length p) (fits : FitsWit
         on = omega arith;
         turn = λ rule t. record {
           is =
-              let r = rw (← e .count) at (even-all d n m z (numbers-small .some) (numbers-small .apart) (e .column) (e .place) rule (f .rows) (numbersIn t) p i h (omega (arith, place-small, fits .both, v, numbers-small .bases, h))) in
+              let r = rw (← e .count) at (all-on rule n (rows-some .1) rows (2 ^ 40) (rows-next rule) (f .rows) (numbersIn t) p i h v) in
               ap (λ (x : FedSum Filling Waiting). absorbSums (machine rule) x (lines (drop (i + k * n .width) p))) (end-is rule t)
               ∙ r .is
               ∙ ap (λ (x : FedSum Filling Waiting). absorbSums (machine rule) x (lines (drop i p))) (sym (start-is rule t));

@@ -8,6 +8,7 @@ mod growing;
 mod judging;
 mod opening;
 mod passing;
+mod records;
 mod sound;
 mod strict;
 mod taking;
@@ -15,6 +16,7 @@ mod taking;
 use definition::Definition;
 use fitting::Numbers;
 use fitting::Rule;
+use lines::Line;
 use record::Record;
 use refusal::Refusal;
 ghost use mathlib.Core.Path.{_≡_};
@@ -80,6 +82,20 @@ struct Fed {
 // What a part of a piece leaves, and where the piece goes on.
 struct Turn {
     fed: Fed,
+    at: usize,
+}
+
+// The sequence of a record that lies whole in a piece: its first line, its bases, and where the next record begins; 0 where it is none.
+struct Sequence {
+    line: Line,
+    bases: usize,
+    next: usize,
+}
+
+// Where the next record begins in the file, how many rows are written, and where the piece goes on.
+struct Reached {
+    next: usize,
+    rows: usize,
     at: usize,
 }
 

@@ -1,4 +1,4 @@
--- `feeder::taking::turn` meets its contract: a line behind what waits, and then a pass over the lines that are like it.
+-- `feeder::taking::take_line` meets its contract: a line behind what waits, and then a pass over the lines that are like it.
 -- Assumes nothing.
 use Prim.Native.Nat.{_+_, _^_}
 use borrow.Author.Needs.{needs}
@@ -6,8 +6,8 @@ use native.Mathlib.Omega.{arith}
 use Rattle.lines.specs.Laws.{lineEnd-le, lineEnd-gt}
 use Rattle.feeder.specs.SmallLaws.{fits-small}
 use Rattle.feeder.specs.Passing.{turn-line, turn-passed}
-use Rattle.feeder.proofs.taking.turn.Statement.{statement}
-use Rattle.feeder.proofs.taking.turn.Tie as tie
+use Rattle.feeder.proofs.taking.take_line.Statement.{statement}
+use Rattle.feeder.proofs.taking.take_line.Tie as tie
 use Rattle.feeder.proofs.passing.pass_alike.Reads as pass-alike-reads
 use Rattle.feeder.proofs.taking.absorb.Reads as absorb-reads
 use Rattle.lines.proofs.ends.line_end.Reads as line-end-reads
@@ -27,6 +27,6 @@ same-length c = search needs
 returns : tie.Need-returns
 returns c = let a = c .before .before .before .before .before .before .before .before in (omega (arith, c .before .before .before .before .before .line-end .ensures, lineEnd-gt (a .args .p .now) (a .args .i) (a .pre .0), c .pass-alike .ensures .on), turn-passed _ _ _ _ _ _ _ _ _ _ (turn-line _ _ _ _ _ _ _ _ (a .pre .0) (c .before .before .before .before .before .line-end .ensures) (a .pre .2) (c .before .before .before .absorb .ensures)) (c .pass-alike .ensures))
 
-pub turn-spec : {M : Type 1} → statement M
-turn-spec =
+pub take-line-spec : {M : Type 1} → statement M
+take-line-spec =
     tie.close (tie.spec line-end-requires absorb-requires pass-alike-requires same-length returns)
