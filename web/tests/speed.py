@@ -1,6 +1,6 @@
 #!/usr/bin/python3
-"""speed.py PAGE NATIVE: index and check in the page's worker beside the native library (host/wakeluri/examples/speed.rs), in turns: a file
-of 200 MB, 11 times each. Tells the best and the middle of each, and the page's share of the native speed; with SIMD both have to be 0.8."""
+"""speed.py PAGE NATIVE [ROUNDS]: index and check in the page's worker beside the native library (host/wakeluri/examples/speed.rs), in turns: a file
+of 200 MB, ROUNDS (11) times each. Tells the best and the middle of each, and the page's share of the native speed; with SIMD both have to be 0.8."""
 import base64
 import json
 import os
@@ -15,7 +15,7 @@ from person import Person
 from selenium.webdriver.common.by import By
 
 page, native = sys.argv[1:3]
-ROUNDS, GOAL = 11, 0.8
+ROUNDS, GOAL = int(sys.argv[3]) if len(sys.argv) > 3 else 11, 0.8
 room = tempfile.TemporaryDirectory()
 fasta, index = os.path.join(room.name, "speed.fa"), os.path.join(room.name, "speed.fa.fai")
 random.seed(1)
