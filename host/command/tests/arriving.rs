@@ -18,6 +18,15 @@ fn started(folder: &Folder, words: &[&str]) -> (Child, ChildStdin) {
     (child, pipe)
 }
 
+/// Makes a pipe that has a name, if that can be done here.
+fn has_pipe(folder: &Folder, name: &str) -> bool {
+    let made = Command::new("mkfifo").arg(folder.at(name)).status().is_ok_and(|status| status.success());
+    if !made {
+        eprintln!("skipped: there is no `mkfifo` here");
+    }
+    made
+}
+
 /// Waits for something, for 20 seconds at most.
 fn wait_for(what: &str, mut is_there: impl FnMut() -> bool) {
     let begun = Instant::now();
@@ -129,8 +138,7 @@ fn a_stop_in_the_middle_changes_nothing() {
 #[test]
 fn a_stop_between_the_file_and_its_index() {
     let folder = Folder::new("arriving-between");
-    if !Command::new("mkfifo").arg(folder.at("slow.fai")).status().is_ok_and(|status| status.success()) {
-        eprintln!("skipped: there is no `mkfifo` here");
+    if !has_pipe(&folder, "slow.fai") {
         return;
     }
     let (mut child, mut pipe) = started(&folder, &["index", "-", "--save", "ref.fa", "-o", "slow.fai"]);
@@ -166,8 +174,7 @@ fn memory_for_the_rows_the_names_and_a_piece() {
 #[test]
 fn a_pipe_with_a_name() {
     let folder = Folder::new("arriving-named");
-    if !Command::new("mkfifo").arg(folder.at("f.pipe")).status().is_ok_and(|status| status.success()) {
-        eprintln!("skipped: there is no `mkfifo` here");
+    if !has_pipe(&folder, "f.pipe") {
         return;
     }
     for (bytes, status) in [(FASTA, 0), (b">s\nACGT\nAC\nA\n", 1)] {

@@ -329,11 +329,11 @@ impl Fasta {
         part(self.named(), self.number(row, 0), self.number(row, 1))
     }
 
-    /// The first row of a name: the map guesses, and the proved look-up has to find the name in a table of that row alone.
+    /// The first row of a name: the map guesses, and the proved look-up has to find the name in a table of that row alone. It is asked once
+    /// for each row: its answer is about the row and a name that is the row's own.
     fn row(&self, name: &[u8]) -> Option<usize> {
-        let row = self.names.find(name, |row| self.name(row))?;
-        let found = entry::find(self.named(), self.row_bytes(row), 1, name);
-        (found.refusal == 0).then_some(row)
+        let is_found = |row| entry::find(self.named(), self.row_bytes(row), 1, name).refusal == 0;
+        self.names.find(name, |row| self.name(row), is_found)
     }
 
     /// A record by its name: the first that has it. Refuses 15 where none has.

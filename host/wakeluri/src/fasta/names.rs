@@ -1,6 +1,7 @@
 //! A map from names to rows that keeps no name: only the numbers of rows, by the hashes of their names.
 
 use std::hash::{BuildHasher, RandomState};
+use std::sync::atomic::{AtomicBool, Ordering};
 
 /// The first row of each name. The names themselves stay where they are; whoever asks tells them.
 #[derive(Debug, Default)]
@@ -11,6 +12,8 @@ pub(super) struct NameMap {
     /// A bit for each length that a name has; the last for all from there on. A region's text is asked for as a name too, and most often no
     /// name is as long.
     lengths: u64,
+    /// For each row whether the proved look-up has found its name in it.
+    confirmed: Vec<AtomicBool>,
 }
 
 /// A number for a name, by keys that nobody knows beforehand: a file can't be made so that its names fall on one place. It is a
@@ -47,7 +50,8 @@ impl NameMap {
     /// The map of so many rows, from the first on: a name that is there stays as it is.
     pub(super) fn of<'n>(rows: usize, name: impl Fn(usize) -> &'n [u8]) -> Self {
         let size = rows.saturating_mul(2).next_power_of_two().max(2);
-        let mut map = Self { hash: Hash::fresh(), places: vec![0; size], lengths: 0 };
+        let mut map = Self { hash: Hash::fresh(), places: vec![0; size], lengths: 0, confirmed: vec![] };
+        map.confirmed.resize_with(rows, AtomicBool::default);
         for row in 0..rows {
             map.lengths |= bit(name(row));
             let (place, there) = map.place(name(row), &name);
@@ -58,9 +62,22 @@ impl NameMap {
         map
     }
 
-    /// The first row of a name, if there is one.
-    pub(super) fn find<'n>(&self, wanted: &[u8], name: impl Fn(usize) -> &'n [u8]) -> Option<usize> {
-        if self.lengths & bit(wanted) == 0 { None } else { self.place(wanted, &name).1 }
+    /// The first row of a name, if there is one, and it is found in the row: that is asked the first time.
+    pub(super) fn find<'n>(
+        &self,
+        wanted: &[u8],
+        name: impl Fn(usize) -> &'n [u8],
+        is_found: impl Fn(usize) -> bool,
+    ) -> Option<usize> {
+        let row = if self.lengths & bit(wanted) == 0 { None } else { self.place(wanted, &name).1 }?;
+        let confirmed = self.confirmed.get(row)?;
+        if !confirmed.load(Ordering::Relaxed) {
+            if !is_found(row) {
+                return None;
+            }
+            confirmed.store(true, Ordering::Relaxed);
+        }
+        Some(row)
     }
 
     /// The place of a name, and its row; or the free place where it would be put.
