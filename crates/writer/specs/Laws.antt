@@ -3,7 +3,7 @@ use Prim.Native.Nat.{ℕ, zero, suc, _+_, _-_, _*_, _/_, _≤_, _<_, min}
 use mathlib.Core.Path.{_≡_, refl, ap, sym, _∙_}
 use mathlib.Core.List.{List, [], _∷_, _++_, append-assoc}
 use mathlib.Core.Bool.{Bool, true, false, _||_, true≢false}
-use lib.ListN.{length, take, drop, getD, set, length-append, length-drop, length-take, drop-of-length-le}
+use lib.ListN.{length, take, drop, getD, set, take-append-drop, length-append, length-drop, length-take, drop-of-length-le}
 use lib.Seq.{drop-cons, drop-drop, take-suc, take-all, length-take-le}
 use lib.Dec.{ltb}
 use borrow.Author.Tests.{lt-ltb, le-ltb, ltb-true, ltb-false}
@@ -44,6 +44,19 @@ any-append p (x ∷ a) b = go (p x) (any-append p a b)
     go : (t : Bool) → anyOf p (a ++ b) ≡ (anyOf p a || anyOf p b) → (t || anyOf p (a ++ b)) ≡ (t || anyOf p a || anyOf p b)
     go true h = refl
     go false h = h
+
+-- a block of some bytes, and those behind it
+module _ (p : ℕ → Bool) (s : List ℕ) (i e : ℕ) (h : i ≤ e) where
+  block : anyOf p (drop i s) ≡ (anyOf p (take (e - i) (drop i s)) || anyOf p (drop e s))
+  block =
+      let q : i + (e - i) ≡ e = omega arith in
+      ap (anyOf p) (sym (take-append-drop (e - i) (drop i s))) ∙ any-append p (take (e - i) (drop i s)) (drop (e - i) (drop i s)) ∙ rw (drop-drop (e - i) i s, q)
+
+  pub block-hit : (v : Bool) → v ≡ anyOf p (take (e - i) (drop i s)) → v ≡ true → anyOf p (drop i s) ≡ true
+  block-hit v q t = block ∙ rw (← q, t)
+
+  pub block-none : (v : Bool) → v ≡ anyOf p (take (e - i) (drop i s)) → v ≡ false → anyOf p (drop i s) ≡ anyOf p (drop e s)
+  block-none v q t = block ∙ rw (← q, t)
 
 -- one byte more
 pub any-none : (p : ℕ → Bool) (s : List ℕ) → anyOf p (take 0 s) ≡ false

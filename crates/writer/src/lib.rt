@@ -14,6 +14,9 @@ ghost use Rattle.columns.specs.Bytes.{is, overlaid};
 ghost use Rattle.output.specs.Outcome.{leaves};
 ghost use Rattle.writer.specs.Text.{anyOf, nameUnfit, descriptionUnfit, barred, describedText, definitionText, sequenceText, tooLong, recordWritten, sequenceWritten, Put};
 
+// How many bases are looked at at once.
+const BLOCK: usize = 1024;
+
 // Is a byte no base: LF, CR or '>'.
 fn is_barred(b: u8) -> bool
     ensures { λ r. ⌜ r ≡ barred b ⌝ }
@@ -76,13 +79,28 @@ fn any_listed(s: &[u8]) -> bool
 }
 
 // Is one of some bytes no base. Where all are letters, one bit of each tells that none is.
-fn any_barred(s: &[u8]) -> bool
+fn block_barred(s: &[u8]) -> bool
     ensures { λ r. ⌜ r ≡ anyOf barred (now (s .entry)) ⌝ }
 {
     if all_high(s) {
         return false;
     }
     any_listed(s)
+}
+
+// The same by blocks, so that a gap, which is no letter, costs a second look at its block alone.
+fn any_barred(s: &[u8]) -> bool
+    ensures { λ r. ⌜ r ≡ anyOf barred (now (s .entry)) ⌝ }
+{
+    let mut i = 0;
+    while BLOCK <= s.len() - i {
+        let e = i + BLOCK;
+        if block_barred(&s[i..e]) {
+            return true;
+        }
+        i = e;
+    }
+    block_barred(&s[i..])
 }
 
 // Is a name empty, or has it whitespace.
