@@ -51,7 +51,7 @@ pub fn is_space(b: u8) -> bool
 }
 
 // The end of the run of whitespace, or of bytes that are none, from `at` on.
-fn run_end(l: &[u8], at: usize, space: bool) -> usize
+pub fn run_end(l: &[u8], at: usize, space: bool) -> usize
     ensures { λ r. ⌜ r ≡ at + run (spaced space) (drop at (now (l .entry))) ⌝ }
 {
     let mut i = at;

@@ -13,21 +13,6 @@ ghost use Rattle.definition.specs.Definition.{isSpace, spaced, run, keep};
 ghost use Rattle.indexer.specs.LineSums.{grow, sumSays, blank};
 ghost use Rattle.feeder.specs.Waiting.{unpack, noLine, growBy};
 
-// The end of the run of whitespace, or of bytes that are none, from `at` on.
-fn run_end(l: &[u8], at: usize, space: bool) -> usize
-    ensures { λ r. ⌜ r ≡ at + run (spaced space) (drop at (now (l .entry))) ⌝ }
-{
-    let mut i = at;
-    while i < l.len() {
-        if definition::is_space(l[i]) == space {
-            i += 1;
-        } else {
-            return i;
-        }
-    }
-    i
-}
-
 // How many bytes there are up to the last that is no whitespace.
 fn kept_end(l: &[u8]) -> usize
     ensures { λ r. ⌜ r ≡ keep isSpace (now (l .entry)) ⌝ }
@@ -106,10 +91,10 @@ fn grown_name(t: Waiting, l: &[u8]) -> usize
     ensures { λ r. ⌜ r ≡ grow (unpack t) (now (l .entry)) .name ⌝ }
 {
     if t.width == 0 {
-        return run_end(l, 1, false) - 1;
+        return definition::run_end(l, 1, false) - 1;
     }
     if t.name + 1 == t.width {
-        return t.name + run_end(l, 0, false);
+        return t.name + definition::run_end(l, 0, false);
     }
     t.name
 }
@@ -120,13 +105,13 @@ fn grown_text(t: Waiting, l: &[u8]) -> usize
     ensures { λ r. ⌜ r ≡ grow (unpack t) (now (l .entry)) .text ⌝ }
 {
     if t.width == 0 {
-        return run_end(l, run_end(l, 1, false), true);
+        return definition::run_end(l, definition::run_end(l, 1, false), true);
     }
     if t.name + 1 == t.width {
-        return t.width + run_end(l, run_end(l, 0, false), true);
+        return t.width + definition::run_end(l, definition::run_end(l, 0, false), true);
     }
     if t.text == t.width {
-        return t.width + run_end(l, 0, true);
+        return t.width + definition::run_end(l, 0, true);
     }
     t.text
 }

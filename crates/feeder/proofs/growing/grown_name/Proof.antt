@@ -10,7 +10,6 @@ use native.Mathlib.Omega.{arith}
 use borrow.Author.Needs.{needs}
 use Rattle.feeder.proofs.growing.grown_name.Statement.{statement}
 use Rattle.feeder.proofs.growing.grown_name.Tie as tie
-use Rattle.feeder.proofs.growing.run_end.Reads as run-end-reads
 
 run-end-requires : tie.Need-run-end-requires
 run-end-requires c κs = search needs

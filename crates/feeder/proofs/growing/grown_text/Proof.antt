@@ -12,7 +12,6 @@ use native.Mathlib.Omega.{arith}
 use borrow.Author.Needs.{needs}
 use Rattle.feeder.proofs.growing.grown_text.Statement.{statement}
 use Rattle.feeder.proofs.growing.grown_text.Tie as tie
-use Rattle.feeder.proofs.growing.run_end.Reads as run-end-reads
 
 run-end-requires : tie.Need-run-end-requires
 run-end-requires c κs = search needs
