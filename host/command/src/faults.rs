@@ -217,15 +217,17 @@ fn packed(program: &str, unpack: &str, form: &str) -> (String, String) {
 /// A line that should be a definition line.
 fn bad_definition(input: &Input, line: Line, number: u64) -> (String, String) {
     let (form, mark) = if input.is_fastq() { ("FASTQ", '@') } else { ("FASTA", '>') };
+    // a packed file may hold either
+    let needed = if input.is_fastq() { "FASTQ" } else { "FASTA or FASTQ" };
     match (number, place::text(input.bytes(), line)) {
         (3, [0x1f, 0x8b, ..]) => (
-            format!("this is a compressed file, and {form} text is needed"),
+            format!("this is a compressed file, and {needed} text is needed"),
             "unpack it first: `gzip -dc FILE | wakeluri .. -`".to_string(),
         ),
-        (3, [b'B', b'Z', b'h', ..]) => packed("bzip2", "bzip2 -dc", form),
-        (3, [0xfd, b'7', b'z', b'X', b'Z', ..]) => packed("xz", "xz -dc", form),
-        (3, [0x28, 0xb5, 0x2f, 0xfd, ..]) => packed("zstd", "zstd -dc", form),
-        (3, [b'P', b'K', 3, 4, ..]) => packed("zip", "unzip -p", form),
+        (3, [b'B', b'Z', b'h', ..]) => packed("bzip2", "bzip2 -dc", needed),
+        (3, [0xfd, b'7', b'z', b'X', b'Z', ..]) => packed("xz", "xz -dc", needed),
+        (3, [0x28, 0xb5, 0x2f, 0xfd, ..]) => packed("zstd", "zstd -dc", needed),
+        (3, [b'P', b'K', 3, 4, ..]) => packed("zip", "unzip -p", needed),
         (3, [0xef, 0xbb, 0xbf, ..]) => (
             format!("three bytes that some editors put before a text (EF BB BF) stand before the first '{mark}'"),
             "save the file as UTF-8 without a byte order mark".to_string(),
