@@ -32,10 +32,10 @@ partSaysOf n x y p = placesSay n (firstElsewhere (placeIn (partOf p y)) 0 (place
 unfoldable pub partsSay : ℕ → QualityRow → QualityRow → Verdict
 partsSay n x y = andThen (partSaysOf n x y Bases) (partSaysOf n x y Qualities)
 
--- what the indexer refuses
-abbrev pub stopSays : Stop → Verdict
-stopSays stop.Ended = Accepted
-stopSays (stop.Refused y) = Refused y
+-- what the indexer refuses, or what the index says
+unfoldable pub stopThen : Stop → Verdict → Verdict
+stopThen stop.Ended v = v
+stopThen (stop.Refused y) v = Refused y
 
 -- the place behind a record that ends at an offset, and behind its line
 abbrev pub placeBehind : List ℕ → Place → ℕ → Place
@@ -46,15 +46,15 @@ unfoldable pub judgedAs : Verdict → Place → Step
 judgedAs Accepted next = step.Next next
 judgedAs (Refused x) next = step.Refused x
 
--- what the indexer finds at a place, against the lines from the place on; what it refuses is no record
+-- what the indexer finds at a place, against the lines from the place on
 abbrev pub stepFrom : List ℕ → List ℕ → Place → Indexed → ℕ → Step
 stepFrom f i w (indexed.Row x) next = judgedAs (recordSays (w .records + 1) f x (lines (drop (w .index) i))) (placeBehind i w next)
 stepFrom f i w indexed.End next = step.End
-stepFrom f i w (indexed.Refused y) next = step.End
+stepFrom f i w (indexed.Refused y) next = step.Stopped y
 
 unfoldable pub stepOf : List ℕ → List ℕ → Place → Step
 stepOf f i w = stepFrom f i w (recordAt f (w .fastq) .answer) (recordAt f (w .fastq) .next)
 
--- what the records and the lines from a place on lead to
+-- what the file and the lines from a place on lead to
 unfoldable pub checkAt : List ℕ → List ℕ → Place → Verdict
-checkAt f i w = recordsSay (w .records) f (rowsAt f (w .fastq) .rows) (lines (drop (w .index) i))
+checkAt f i w = stopThen (rowsAt f (w .fastq) .stop) (recordsSay (w .records) f (rowsAt f (w .fastq) .rows) (lines (drop (w .index) i)))

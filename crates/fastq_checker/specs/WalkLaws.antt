@@ -21,7 +21,7 @@ use Rattle.fastq.specs.declared.QualityRow.{QualityRow}
 use Rattle.fastq.specs.declared.Indexed.{Indexed}
 use Rattle.fastq.specs.declared.Indexed.the-variants as indexed
 use Rattle.fastq.specs.declared.Step as fastq
-use Rattle.fastq_table.specs.Fill.{Found}
+use Rattle.fastq_table.specs.Fill.{Found, nothing, withFirst}
 use Rattle.fastq_index.specs.File.{rowsAt}
 use Rattle.fastq_index.specs.FileLaws.{file-row, file-end, file-refused}
 use Rattle.checker.specs.Check.{andThen}
@@ -29,22 +29,34 @@ use Rattle.checker.specs.declared.Verdict.{Verdict}
 use Rattle.checker.specs.declared.Verdict.the-variants.{Accepted, Refused}
 use Rattle.fastq_checker.specs.Check.{recordSays, recordsSay, fileSays, checkOf}
 use Rattle.fastq_checker.specs.Taken.{Taken, taken}
-use Rattle.fastq_checker.specs.Steps.{stopSays, placeBehind, judgedAs, stepFrom, stepOf, checkAt}
+use Rattle.fastq_checker.specs.Steps.{stopThen, placeBehind, judgedAs, stepFrom, stepOf, checkAt}
 use Rattle.fastq_checker.specs.declared.Place.{Place}
 use Rattle.fastq_checker.specs.declared.Step.{Step}
 use Rattle.fastq_checker.specs.declared.Step.the-variants as step
 
--- ---- the first walk: why the indexer stops
+-- ---- what the indexer refuses
 
 module _ (f : List ℕ) (at : ℕ) (r : fastq.Step) (h : r ≡ recordAt f at) where
   pub stop-on : (x : QualityRow) → r .answer ≡ indexed.Row x → (rowsAt f (r .next) .stop ≡ rowsAt f at .stop) × (at < length f) × (at < r .next)
   stop-on x e = let k = file-row f at r h x e in (sym (ap (λ (g : Found). g .stop) (k .0)), k .1, k .2)
 
-  pub stop-end : r .answer ≡ indexed.End → Accepted ≡ stopSays (rowsAt f at .stop)
-  stop-end e = sym (ap (λ (g : Found). stopSays (g .stop)) (file-end f at r h e))
+  pub stop-end : r .answer ≡ indexed.End → Accepted ≡ stopThen (rowsAt f at .stop) Accepted
+  unfolding stopThen
+  stop-end e = sym (ap (λ (g : Found). stopThen (g .stop) Accepted) (file-end f at r h e))
 
-  pub stop-refused : (y : Refusal) → r .answer ≡ indexed.Refused y → Refused y ≡ stopSays (rowsAt f at .stop)
-  stop-refused y e = sym (ap (λ (g : Found). stopSays (g .stop)) (file-refused f at r h y e))
+  pub stop-refused : (y : Refusal) → r .answer ≡ indexed.Refused y → Refused y ≡ stopThen (rowsAt f at .stop) Accepted
+  unfolding stopThen
+  stop-refused y e = sym (ap (λ (g : Found). stopThen (g .stop) Accepted) (file-refused f at r h y e))
+
+pub rest-refused : (s : Stop) (r : Refusal) (v : Verdict) → stopThen s Accepted ≡ Refused r → Refused r ≡ stopThen s v
+unfolding stopThen
+rest-refused stop.Ended r v e = let z : _≡_ {A = ℕ} 0 1 = cc in absurd (omega arith)
+rest-refused (stop.Refused y) r v e = sym e
+
+pub rest-taken : (s : Stop) (v : Verdict) → stopThen s Accepted ≡ Accepted → v ≡ stopThen s v
+unfolding stopThen
+rest-taken stop.Ended v e = refl
+rest-taken (stop.Refused y) v e = let z : _≡_ {A = ℕ} 0 1 = cc in absurd (omega arith)
 
 -- ---- the record at a place
 
@@ -61,9 +73,9 @@ module _ (f i : List ℕ) (w : Place) (r : fastq.Step) (h : r ≡ recordAt f (w 
   unfolding stepOf
   step-end e = rw (← h, e)
 
-  pub step-refused : (y : Refusal) → r .answer ≡ indexed.Refused y → step.End ≡ stepOf f i w
+  pub step-stopped : (y : Refusal) → r .answer ≡ indexed.Refused y → step.Stopped y ≡ stepOf f i w
   unfolding stepOf
-  step-refused y e = rw (← h, e)
+  step-stopped y e = rw (← h, e)
 
 -- ---- from place to place
 
@@ -85,30 +97,43 @@ records-none k f (l ∷ ls) = refl
 abbrev after : List ℕ → List ℕ → Place → Step → Verdict
 after f i w (step.Next n) = checkAt f i n
 after f i w step.End = recordsSay (w .records) [] [] (lines (drop (w .index) i))
-after f i w (step.Refused x) = Refused x
+after f i w (step.Stopped y) = Refused y
+after f i w (step.Refused x) = stopThen (rowsAt f (w .fastq) .stop) (Refused x)
 
 module _ (f i : List ℕ) (w : Place) where
+  -- what is found from the place on, with what is found behind its record
+  check-found : (g : Found) → rowsAt f (w .fastq) ≡ g → checkAt f i w ≡ stopThen (g .stop) (recordsSay (w .records) f (g .rows) (lines (drop (w .index) i)))
+  unfolding checkAt
+  check-found g e = rw e
+
+  -- a record that is judged
+  check-judged : (g : Found) (v : Verdict) (n : Place) → rowsAt f (w .fastq) .stop ≡ g .stop → rowsAt f (n .fastq) ≡ g
+      → stopThen (g .stop) (andThen v (recordsSay (n .records) f (g .rows) (lines (drop (n .index) i)))) ≡ after f i w (judgedAs v n)
+  unfolding judgedAs checkAt
+  check-judged g Accepted n s e = rw e
+  check-judged g (Refused x) n s e = rw s
+
   check-step : checkAt f i w ≡ after f i w (stepOf f i w)
-  unfolding checkAt stepOf recordsSay judgedAs
+  unfolding stepOf recordsSay stopThen
   check-step = go (recordAt f (w .fastq) .answer) refl
     where
-      judged : (v : Verdict) (n : Place) → andThen v (checkAt f i n) ≡ after f i w (judgedAs v n)
-      judged Accepted n = refl
-      judged (Refused x) n = refl
+      next : ℕ
+      next = recordAt f (w .fastq) .next
 
-      rows : (g : Found) → rowsAt f (w .fastq) ≡ g → rowsAt f (w .fastq) .rows ≡ g .rows
-      rows g q = ap (λ (h : Found). h .rows) q
-
-      go : (a : Indexed) → recordAt f (w .fastq) .answer ≡ a
-          → recordsSay (w .records) f (rowsAt f (w .fastq) .rows) (lines (drop (w .index) i)) ≡ after f i w (stepFrom f i w a (recordAt f (w .fastq) .next))
+      go : (a : Indexed) → recordAt f (w .fastq) .answer ≡ a → checkAt f i w ≡ after f i w (stepFrom f i w a (recordAt f (w .fastq) .next))
       go (indexed.Row x) e =
-          rw (rows _ (file-row f (w .fastq) (recordAt f (w .fastq)) refl x e .0), lines-tail i (w .index), ← add-one (w .records))
-          (judged (recordSays (w .records + 1) f x (lines (drop (w .index) i))) (placeBehind i w (recordAt f (w .fastq) .next)))
-      go indexed.End e = rw (rows _ (file-end f (w .fastq) (recordAt f (w .fastq)) refl e)) (records-none (w .records) f (lines (drop (w .index) i)))
-      go (indexed.Refused y) e = rw (rows _ (file-refused f (w .fastq) (recordAt f (w .fastq)) refl y e)) (records-none (w .records) f (lines (drop (w .index) i)))
+          let k = file-row f (w .fastq) (recordAt f (w .fastq)) refl x e .0 in
+          check-found (withFirst x (rowsAt f next)) k
+          ∙ rw (lines-tail i (w .index), ← add-one (w .records))
+          (check-judged (rowsAt f next) (recordSays (w .records + 1) f x (lines (drop (w .index) i))) (placeBehind i w next) (ap (λ (g : Found). g .stop) k) refl)
+      go indexed.End e = check-found (nothing stop.Ended) (file-end f (w .fastq) (recordAt f (w .fastq)) refl e) ∙ records-none (w .records) f (lines (drop (w .index) i))
+      go (indexed.Refused y) e = check-found (nothing (stop.Refused y)) (file-refused f (w .fastq) (recordAt f (w .fastq)) refl y e)
 
-  pub check-refused : (x : Refusal) → stepOf f i w ≡ step.Refused x → Refused x ≡ checkAt f i w
+  pub check-refused : (x : Refusal) → stepOf f i w ≡ step.Refused x → stopThen (rowsAt f (w .fastq) .stop) (Refused x) ≡ checkAt f i w
   check-refused x e = sym (check-step ∙ ap (after f i w) e)
+
+  pub check-stopped : (y : Refusal) → stepOf f i w ≡ step.Stopped y → Refused y ≡ checkAt f i w
+  check-stopped y e = sym (check-step ∙ ap (after f i w) e)
 
   pub check-over : stepOf f i w ≡ step.End → recordsSay (w .records) [] [] (lines (drop (w .index) i)) ≡ checkAt f i w
   check-over e = sym (check-step ∙ ap (after f i w) e)
@@ -150,9 +175,13 @@ check-next f i w n h e =
       leads = sym (check-step f i w ∙ ap (after f i w) e);
     }
 
-pub check-start : (f i : List ℕ) → checkAt f i (record { fastq = 0; index = 0; records = 0 }) ≡ recordsSay 0 f (rowsAt f 0 .rows) (lines i)
-unfolding checkAt
-check-start f i = refl
+pub check-start : (f i : List ℕ) → checkAt f i (record { fastq = 0; index = 0; records = 0 }) ≡ fileSays f (lines i) (rowsAt f 0 .rows) (rowsAt f 0 .stop)
+unfolding checkAt stopThen
+check-start f i = go (rowsAt f 0 .stop)
+  where
+    go : (s : Stop) → stopThen s (recordsSay 0 f (rowsAt f 0 .rows) (lines i)) ≡ fileSays f (lines i) (rowsAt f 0 .rows) s
+    go stop.Ended = refl
+    go (stop.Refused y) = refl
 
 -- ---- what is left of the index
 
@@ -177,19 +206,6 @@ module _ (f i : List ℕ) where
     unfolding checkOf
     check-long-index k = rw (h, k)
 
-    module _ (k : overLimit (length i) ≡ false) where
-      pub check-stopped : (y : Refusal) → stopSays (rowsAt f 0 .stop) ≡ Refused y → Refused y ≡ checkOf f i
-      unfolding checkOf
-      check-stopped y e = rw (h, k) (go (rowsAt f 0 .stop) e)
-        where
-          go : (s : Stop) → stopSays s ≡ Refused y → Refused y ≡ fileSays f (lines i) (rowsAt f 0 .rows) s
-          go stop.Ended q = let z : _≡_ {A = ℕ} 0 1 = cc in absurd (omega arith)
-          go (stop.Refused x) q = sym q
-
-      pub check-taken : stopSays (rowsAt f 0 .stop) ≡ Accepted → recordsSay 0 f (rowsAt f 0 .rows) (lines i) ≡ checkOf f i
-      unfolding checkOf
-      check-taken e = rw (h, k) (go (rowsAt f 0 .stop) e)
-        where
-          go : (s : Stop) → stopSays s ≡ Accepted → recordsSay 0 f (rowsAt f 0 .rows) (lines i) ≡ fileSays f (lines i) (rowsAt f 0 .rows) s
-          go stop.Ended q = refl
-          go (stop.Refused x) q = let z : _≡_ {A = ℕ} 0 1 = cc in absurd (omega arith)
+    pub check-within : overLimit (length i) ≡ false → fileSays f (lines i) (rowsAt f 0 .rows) (rowsAt f 0 .stop) ≡ checkOf f i
+    unfolding checkOf
+    check-within k = rw (h, k)

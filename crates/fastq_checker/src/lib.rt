@@ -20,10 +20,11 @@ ghost use Rattle.lines.specs.Lines.{lines};
 ghost use Rattle.lines.specs.Same.{sameBytes};
 ghost use Rattle.index_line.specs.IndexLine.{nameIn};
 ghost use Rattle.checker.specs.Steps.{onlyLine};
+ghost use Rattle.checker.specs.declared.Verdict.the-variants.{Accepted, Refused};
 ghost use Rattle.fastq_index.specs.File.{rowsAt};
-ghost use Rattle.fastq_checker.specs.Check.{entrySays, recordSays, recordsSay, checkOf};
+ghost use Rattle.fastq_checker.specs.Check.{entrySays, recordSays, recordsSay, fileSays, checkOf};
 ghost use Rattle.fastq_checker.specs.Taken.{Taken};
-ghost use Rattle.fastq_checker.specs.Steps.{partSaysOf, partsSay, stopSays, placeBehind, judgedAs, stepOf};
+ghost use Rattle.fastq_checker.specs.Steps.{partSaysOf, partsSay, stopThen, placeBehind, judgedAs, stepOf};
 
 // The place behind some records: in the file and in the index, and how many they are.
 struct Place {
@@ -32,10 +33,11 @@ struct Place {
     records: u64,
 }
 
-// The place behind one record more; or that there is none; or why it is refused.
+// The place behind one record more; or that there is none; or what the indexer refuses there; or why the line is refused.
 enum Step {
     Next(Place),
     End,
+    Stopped(Refusal),
     Refused(Refusal),
 }
 
@@ -133,22 +135,22 @@ impl Place {
         match answer {
             Indexed::Row(x) => self.check_row(fastq, index, x, step.next),
             Indexed::End => Step::End,
-            Indexed::Refused(_) => Step::End,
+            Indexed::Refused(r) => Step::Stopped(r),
         }
     }
 }
 
-// What the indexer refuses in the file, wherever that is.
-fn judge_file(fastq: &[u8]) -> Verdict
-    ensures { λ r. ⌜ r ≡ stopSays (rowsAt (now (fastq .entry)) 0 .stop) ⌝ }
+// What the indexer refuses from `at` on.
+fn judge_file(fastq: &[u8], at: usize) -> Verdict
+    ensures { λ r. ⌜ r ≡ stopThen (rowsAt (now (fastq .entry)) at .stop) Accepted ⌝ }
 {
-    let mut at = 0;
+    let mut i = at;
     loop {
-        let step = fastq::index_at(fastq, at);
+        let step = fastq::index_at(fastq, i);
         let answer = step.answer;
         match answer {
             Indexed::Row(_) => {
-                at = step.next;
+                i = step.next;
             }
             Indexed::End => {
                 return Verdict::Accepted;
@@ -157,6 +159,16 @@ fn judge_file(fastq: &[u8]) -> Verdict
                 return Verdict::Refused(r);
             }
         }
+    }
+}
+
+// What the indexer refuses from `at` on comes before a fault of the index.
+fn judge_rest(fastq: &[u8], at: usize, fault: Refusal) -> Verdict
+    ensures { λ r. ⌜ r ≡ stopThen (rowsAt (now (fastq .entry)) at .stop) (Refused fault) ⌝ }
+{
+    match judge_file(fastq, at) {
+        Verdict::Refused(x) => Verdict::Refused(x),
+        Verdict::Accepted => Verdict::Refused(fault),
     }
 }
 
@@ -171,9 +183,9 @@ fn judge_left(index: &[u8], at: usize, records: u64) -> Verdict
     Verdict::Accepted
 }
 
-// Every record of the file that the indexer takes, against the lines of the index.
+// Every record of the file against the lines of the index, in one walk. Behind the first fault of the index only what the indexer refuses is of interest.
 fn check_records(fastq: &[u8], index: &[u8]) -> Verdict
-    ensures { λ r. ⌜ r ≡ recordsSay 0 (now (fastq .entry)) (rowsAt (now (fastq .entry)) 0 .rows) (lines (now (index .entry))) ⌝ }
+    ensures { λ r. ⌜ r ≡ fileSays (now (fastq .entry)) (lines (now (index .entry))) (rowsAt (now (fastq .entry)) 0 .rows) (rowsAt (now (fastq .entry)) 0 .stop) ⌝ }
 {
     let mut w = Place {
         fastq: 0,
@@ -188,14 +200,17 @@ fn check_records(fastq: &[u8], index: &[u8]) -> Verdict
             Step::End => {
                 return judge_left(index, w.index, w.records);
             }
-            Step::Refused(r) => {
+            Step::Stopped(r) => {
                 return Verdict::Refused(r);
+            }
+            Step::Refused(r) => {
+                return judge_rest(fastq, w.fastq, r);
             }
         }
     }
 }
 
-// Checks an index against its file. What the indexer refuses comes first.
+// Checks an index against its file. What the indexer refuses comes first, wherever in the file it is.
 pub fn check(fastq: &[u8], index: &[u8]) -> Verdict
     ensures { λ r. ⌜ r ≡ checkOf (now (fastq .entry)) (now (index .entry)) ⌝ }
 {
@@ -205,8 +220,5 @@ pub fn check(fastq: &[u8], index: &[u8]) -> Verdict
     if refusal::over_limit(index.len()) {
         return Verdict::Refused(Refusal::TooLong);
     }
-    match judge_file(fastq) {
-        Verdict::Refused(r) => Verdict::Refused(r),
-        Verdict::Accepted => check_records(fastq, index),
-    }
+    check_records(fastq, index)
 }

@@ -1,4 +1,4 @@
--- `fastq_checker::check_records` meets its contract: what the records and lines from a place on lead to stays what they lead to as a whole.
+-- `fastq_checker::check_records` meets its contract: what the file and the lines from a place on lead to stays what they lead to as a whole.
 -- Assumes nothing.
 use Prim.Native.Nat.{_-_, _≤_}
 use mathlib.Core.Path.{_≡_, sym, _∙_}
@@ -6,15 +6,15 @@ use native.Mathlib.Omega.{arith}
 use lib.ListN.{length}
 use Rattle.lines.specs.Lines.{lines}
 use Rattle.fastq_index.specs.File.{rowsAt}
-use Rattle.fastq_checker.specs.Check.{recordsSay}
+use Rattle.fastq_checker.specs.Check.{fileSays}
 use Rattle.fastq_checker.specs.Steps.{checkAt}
-use Rattle.fastq_checker.specs.WalkLaws.{Moved, check-start, check-next, check-over, check-refused}
+use Rattle.fastq_checker.specs.WalkLaws.{Moved, check-start, check-next, check-over, check-stopped, check-refused}
 use borrow.Author.Needs.{needs}
 use Rattle.fastq_checker.proofs.check_records.Statement.{statement}
 use Rattle.fastq_checker.proofs.check_records.Tie as tie
 
 abbrev Inv-loop : tie.InvT-loop
-Inv-loop fastq index w₀ w = (w .records ≤ w .fastq) × (w .index ≤ length index) × (checkAt fastq index w ≡ recordsSay 0 fastq (rowsAt fastq 0 .rows) (lines index))
+Inv-loop fastq index w₀ w = (w .records ≤ w .fastq) × (w .index ≤ length index) × (checkAt fastq index w ≡ fileSays fastq (lines index) (rowsAt fastq 0 .rows) (rowsAt fastq 0 .stop))
 
 abbrev μ-loop : tie.MeasureT-loop
 μ-loop fastq index w₀ w = length fastq - w .fastq
@@ -51,7 +51,16 @@ enum-known-r : tie.Need-enum-known-r Inv-loop μ-loop
 enum-known-r c = search needs
 
 returns-2 : tie.Need-returns-2 Inv-loop μ-loop
-returns-2 c = check-refused _ _ _ _ (sym (c .before .before .before .check-record .ensures) ∙ c .before .r .given .1) ∙ c .before .before .before .before .loop .inv .2
+returns-2 c = check-stopped _ _ _ _ (sym (c .before .before .before .check-record .ensures) ∙ c .before .r .given .1) ∙ c .before .before .before .before .loop .inv .2
+
+enum-known-r-2 : tie.Need-enum-known-r-2 Inv-loop μ-loop
+enum-known-r-2 c = search needs
+
+judge-rest-requires : tie.Need-judge-rest-requires Inv-loop μ-loop
+judge-rest-requires c κs = search needs
+
+returns-3 : tie.Need-returns-3 Inv-loop μ-loop
+returns-3 c = c .judge-rest .ensures ∙ check-refused _ _ _ _ (sym (c .before .before .before .before .check-record .ensures) ∙ c .before .before .r2 .given .1) ∙ c .before .before .before .before .before .loop .inv .2
 
 pub check-records-spec : {M : Type 1} → statement M
 check-records-spec =
@@ -68,4 +77,7 @@ check-records-spec =
     judge-left-requires
     returns
     enum-known-r
-    returns-2)
+    returns-2
+    enum-known-r-2
+    judge-rest-requires
+    returns-3)

@@ -2,7 +2,7 @@
 -- Assumes nothing.
 use mathlib.Core.Path.{_∙_}
 use native.Mathlib.Omega.{arith}
-use Rattle.fastq_checker.specs.WalkLaws.{row-taken, step-row, step-end, step-refused}
+use Rattle.fastq_checker.specs.WalkLaws.{row-taken, step-row, step-end, step-stopped}
 use borrow.Author.Needs.{needs}
 use Rattle.fastq_checker.proofs.Place.check_record.Statement.{statement}
 use Rattle.fastq_checker.proofs.Place.check_record.Tie as tie
@@ -21,8 +21,8 @@ check-row-requires c κs =
 enum-told : tie.Need-enum-told
 enum-told c = search needs
 
-enum-told-2 : tie.Need-enum-told-2
-enum-told-2 c = search needs
+enum-known-answer-2 : tie.Need-enum-known-answer-2
+enum-known-answer-2 c = search needs
 
 returns : tie.Need-returns
 returns c = c .check-row .ensures ∙ step-row _ _ _ _ (c .before .before .before .before .index-at .ensures) _ (c .before .before .answer .given .1)
@@ -31,7 +31,7 @@ returns-2 : tie.Need-returns-2
 returns-2 c = step-end _ _ _ _ (c .before .before .index-at .ensures) (c .enum-told .given .1)
 
 returns-3 : tie.Need-returns-3
-returns-3 c = step-refused _ _ _ _ (c .before .before .index-at .ensures) _ (c .enum-told2 .given .1)
+returns-3 c = step-stopped _ _ _ _ (c .before .before .before .index-at .ensures) _ (c .before .answer2 .given .1)
 
 pub check-record-spec : {M : Type 1} → statement M
 check-record-spec =
@@ -41,7 +41,7 @@ check-record-spec =
     enum-known-answer
     check-row-requires
     enum-told
-    enum-told-2
+    enum-known-answer-2
     returns
     returns-2
     returns-3)
