@@ -104,9 +104,9 @@ pub fn not_wrapped(fasta: &Input, line: Line, refusal: Refusal) -> Failure {
 }
 
 /// A file that some program has packed, and how to unpack it.
-fn packed(program: &str, unpack: &str, form: &Form) -> (String, String) {
+fn packed(program: &str, unpack: &str, needed: &str) -> (String, String) {
     (
-        format!("this is a compressed file (of {program}), and {} text is needed", form.name),
+        format!("this is a compressed file (of {program}), and {needed} text is needed"),
         format!("unpack it first: `{unpack} FILE | wakeluri .. -`"),
     )
 }
@@ -114,15 +114,17 @@ fn packed(program: &str, unpack: &str, form: &Form) -> (String, String) {
 /// A line that should be a definition line.
 fn what_is_bad(form: &Form, (line, text): (Line, &[u8]), number: u64) -> (String, String) {
     let Form { name, mark } = form;
+    // a packed file may hold either
+    let needed = if *form == FASTQ { "FASTQ" } else { "FASTA or FASTQ" };
     match (number, text) {
         (3, [0x1f, 0x8b, ..]) => (
-            format!("this is a compressed file, and {name} text is needed"),
+            format!("this is a compressed file, and {needed} text is needed"),
             "unpack it first: `gzip -dc FILE | wakeluri .. -`".to_string(),
         ),
-        (3, [b'B', b'Z', b'h', ..]) => packed("bzip2", "bzip2 -dc", form),
-        (3, [0xfd, b'7', b'z', b'X', b'Z', ..]) => packed("xz", "xz -dc", form),
-        (3, [0x28, 0xb5, 0x2f, 0xfd, ..]) => packed("zstd", "zstd -dc", form),
-        (3, [b'P', b'K', 3, 4, ..]) => packed("zip", "unzip -p", form),
+        (3, [b'B', b'Z', b'h', ..]) => packed("bzip2", "bzip2 -dc", needed),
+        (3, [0xfd, b'7', b'z', b'X', b'Z', ..]) => packed("xz", "xz -dc", needed),
+        (3, [0x28, 0xb5, 0x2f, 0xfd, ..]) => packed("zstd", "zstd -dc", needed),
+        (3, [b'P', b'K', 3, 4, ..]) => packed("zip", "unzip -p", needed),
         (3, [0xef, 0xbb, 0xbf, ..]) => (
             format!("three bytes that some editors put before a text (EF BB BF) stand before the first '{mark}'"),
             "save the file as UTF-8 without a byte order mark".to_string(),

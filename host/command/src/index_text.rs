@@ -1,5 +1,6 @@
 //! The lines of a long index, written by all cores: each line is of one row alone, and they are put together in the order of the rows.
 
+use std::ops::Range;
 use std::sync::atomic::{AtomicUsize, Ordering};
 use std::sync::mpsc;
 use std::thread;
@@ -14,11 +15,11 @@ const LINE: usize = 1 << 10;
 /// Most lines are shorter.
 const LIKELY: usize = 160;
 
-/// The lines of some rows, in their order, in parts. Each row is written by its number to a room that is lent.
-pub fn written(
-    rows: usize,
-    write: &(dyn Fn(usize, &mut [u8]) -> Result<usize, Refusal> + Sync),
-) -> Result<Vec<Vec<u8>>, Refusal> {
+/// Writes the line of a row, by its number, to the front of a room that is lent; tells how many bytes.
+pub type Write<'w> = &'w (dyn Fn(usize, &mut [u8]) -> Result<usize, Refusal> + Sync);
+
+/// The lines of some rows, in their order, in parts.
+pub fn written(rows: usize, write: Write<'_>) -> Result<Vec<Vec<u8>>, Refusal> {
     let parts = rows.div_ceil(ROWS);
     let part = |number: usize| lines(number * ROWS..rows.min((number + 1) * ROWS), write);
     let cores = thread::available_parallelism().map_or(1, usize::from).min(parts);
@@ -46,10 +47,7 @@ pub fn written(
     texts.into_iter().map(|(_, text)| text).collect()
 }
 
-fn lines(
-    rows: std::ops::Range<usize>,
-    write: &dyn Fn(usize, &mut [u8]) -> Result<usize, Refusal>,
-) -> Result<Vec<u8>, Refusal> {
+fn lines(rows: Range<usize>, write: Write<'_>) -> Result<Vec<u8>, Refusal> {
     // room that is not used is not touched, and costs nothing
     let (mut text, mut at) = (vec![0; LINE + LIKELY * rows.len()], 0);
     for row in rows {

@@ -62,7 +62,7 @@ fn fault_13_packed_files_are_named() {
     ] {
         folder.write("f.fa", [start, b"rest\n"].concat());
         for words in [&["index", "f.fa"][..], &["read", "f.fa", "s"], &["wrap", "f.fa"]] {
-            let of = format!("this is a compressed file (of {name}), and FASTA text is needed");
+            let of = format!("this is a compressed file (of {name}), and FASTA or FASTQ text is needed");
             folder.run(words).failed(1, &[&of, unpack]);
         }
     }
