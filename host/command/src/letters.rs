@@ -224,7 +224,7 @@ pub fn of_rna(mut turned: Vec<u8>, rna: bool) -> Vec<u8> {
 }
 
 /// Where a line ends, its LF with it.
-fn line_end(file: &[u8], at: usize) -> usize {
+pub fn line_end(file: &[u8], at: usize) -> usize {
     let rest = file.get(at..).unwrap_or_default();
     // SAFETY: the call only reads the bytes of `rest`.
     let found = unsafe { libc::memchr(rest.as_ptr().cast(), i32::from(b'\n'), rest.len()) };

@@ -1,7 +1,7 @@
 //! What is kept of a file that goes by, beside its rows: which line is on its way, a few lines of the record on its way, what was odd. So
 //! warnings and refusals are told of it as of a file that is at hand.
 
-use crate::letters::{First, Odds};
+use crate::letters::{First, Odds, line_end};
 use crate::place::{Line, line_number};
 use crate::scene::Seen;
 use crate::unusual::Unusual;
@@ -51,7 +51,7 @@ impl Trail {
     pub fn go_on(&mut self, piece: &[u8]) {
         self.look_for_odd(piece);
         self.held = self.held_of(piece);
-        for part in piece.split_inclusive(|byte| *byte == b'\n') {
+        for part in parts(piece) {
             self.add(part);
         }
     }
@@ -63,7 +63,7 @@ impl Trail {
         if is_met(self) {
             return std::mem::take(&mut self.held);
         }
-        for part in piece.split_inclusive(|byte| *byte == b'\n') {
+        for part in parts(piece) {
             let is_next = self.open.width == 0 && self.open.start > 0 && part.first() == Some(&b'>');
             if is_next && self.seen.number > rows {
                 return vec![];
@@ -172,4 +172,14 @@ impl Trail {
             (true, false) => {}
         }
     }
+}
+
+/// The bytes of a piece line by line, each with its LF, the last perhaps without.
+fn parts(piece: &[u8]) -> impl Iterator<Item = &[u8]> {
+    let mut at = 0;
+    std::iter::from_fn(move || {
+        let start = at;
+        at = line_end(piece, start);
+        piece.get(start..at).filter(|part| !part.is_empty())
+    })
 }
