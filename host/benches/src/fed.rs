@@ -163,3 +163,22 @@ impl fmt::Display for AllFed {
         Ok(())
     }
 }
+
+#[cfg(test)]
+mod tests {
+    use super::*;
+
+    #[test]
+    fn small_files_are_fed() {
+        let plan = Plan { quick: true, only: String::new(), json: false };
+        let lines = Lines { bases: 7, end: b"\r\n" };
+        let by_piece: Vec<Fed> =
+            [lines.genome(4000), lines.records(50)].iter().flat_map(|f| file(&plan, "f", f)).collect();
+        let fed = AllFed {
+            by_piece,
+            by_byte: vec![ByByte { bytes: 10, seconds: 2.0 }, ByByte { bytes: 100, seconds: 20.0 }],
+        };
+        assert_eq!((fed.by_piece.len(), fed.goals().len()), (6, 5));
+        assert!(fed.goals().last().is_some_and(Goal::met) && fed.to_string().contains("| f, the complete rule | "));
+    }
+}
