@@ -1,5 +1,6 @@
 """A person at the page in Chromium, with what Chromium alone lets a test do: its own protocol, keys, files that are chosen and saved."""
 import os
+import shutil
 import tempfile
 import time
 
@@ -19,6 +20,10 @@ class Chrome:
         os.mkdir(self.saved)
         self.browser = Chromium(saved=self.saved)
         self.person = Person(self.browser, self.page)
+
+    def close(self):
+        self.browser.close()
+        shutil.rmtree(self.room, ignore_errors=True)
 
     def check(self, what, good, told=""):
         if not good:

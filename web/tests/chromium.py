@@ -287,4 +287,4 @@ except Failed as failed:
     c.picture("failed")
     sys.exit(f"FAILED in {c.browser.name}: {failed}")
 finally:
-    c.browser.close()
+    c.close()
