@@ -34,12 +34,22 @@ fn may_end(l: Line, first: Line) -> bool
 }
 
 // Does it look as if many lines like the first were behind it: then the record's end may not have come, and its lines are passed at once by
-// those that take them line by line. It is only a guess, and so promises nothing.
+// those that take them line by line. It is only a guess, and so promises nothing. A '>' in front of one of the next three tells short records
+// apart whose definition lines are as wide as their lines of bases.
 fn is_long(p: &[u8], i: usize, first: Line) -> bool
     requires { ⌜ (i ≤ length (now p)) × (length (now p) ≤ 2 ^ 40) × (first .width ≤ length (now p)) × (0 < first .width) ⌝ }
 {
     let far = i + 128 * first.width;
     if p.len() <= far {
+        return false;
+    }
+    if p[i] == b'>' {
+        return false;
+    }
+    if p[i + first.width] == b'>' {
+        return false;
+    }
+    if p[i + 2 * first.width] == b'>' {
         return false;
     }
     (p[far - 1] == b'\n')
