@@ -153,7 +153,7 @@ impl Mend {
         let mut there = [0];
         file.read_exact_at(&mut there, self.offset)?;
         if there != [self.old] {
-            return Err(io::Error::new(ErrorKind::Other, "another program has changed it meanwhile"));
+            return Err(io::Error::other("another program has changed it meanwhile"));
         }
         file.write_all_at(&[self.new], self.offset)?;
         file.sync_all()

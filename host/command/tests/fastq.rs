@@ -196,8 +196,13 @@ fn what_is_of_fasta_alone_says_so() {
     folder.run(&["index", "--fastq", "-", "--save", "s.fq"]).failed(2, &["--save indexes FASTA alone"]);
     folder
         .piped(&["index", "-", "--save", "s.fq"], READS.as_bytes(), 9)
-        .refused("refused 3 (offset 0)", &["FASTQ is not indexed as it arrives"]);
-    assert_eq!(folder.names(), ["r.fq"]);
+        .failed(2, &["--save indexes FASTA alone"]);
+    // without --save a pipe of FASTQ is read whole
+    let index = folder.piped(&["index", "-"], READS.as_bytes(), 9);
+    assert_eq!((index.status, index.err.as_str()), (Some(0), ""));
+    folder.run(&["index", "r.fq", "-o", "r.fai"]);
+    assert_eq!(index.out.as_bytes(), folder.read("r.fai"));
+    assert_eq!(folder.names(), ["r.fai", "r.fq"]);
 }
 
 #[test]
