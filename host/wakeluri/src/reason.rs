@@ -125,7 +125,7 @@ macro_rules! reasons {
             ///
             /// ```
             /// let refusal = wakeluri::index(b">s\nACGT\n>\nAC\n").unwrap_err();
-            /// assert_eq!(refusal.reason().words(), "a definition line has no name after its '>'");
+            /// assert_eq!(refusal.reason().words(), "a definition line has no name after its '>', or in FASTQ its '@'");
             /// ```
             pub fn words(&self) -> &'static str {
                 Self::words_of(self.number())
