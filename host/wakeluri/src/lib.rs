@@ -64,6 +64,8 @@ mod feeder;
 mod level;
 mod list;
 mod names;
+#[allow(unsafe_code)]
+mod pages;
 mod primer;
 mod refusal;
 mod row;

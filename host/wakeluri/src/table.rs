@@ -3,7 +3,7 @@
 use crate::entry::{ROW_BYTES, ROW_WORDS};
 use crate::refusal::Call;
 use crate::row::{Identity, Row};
-use crate::{Bounds, Refusal, entry};
+use crate::{Bounds, Refusal, entry, pages};
 use alloc::borrow::Cow;
 use alloc::vec::Vec;
 
@@ -194,6 +194,7 @@ fn filled(
     let mut rows = most.min(FIRST_ROWS);
     loop {
         let mut bytes = vec![0; rows * ROW_BYTES];
+        pages::large(&mut bytes);
         let answer = fill(text, &mut bytes);
         let in_use = answer.count as usize;
         if answer.refusal == 8 && rows < most {
@@ -520,5 +521,7 @@ pub(crate) fn room(bytes: u64) -> Option<Vec<u8>> {
     // the compiler may not drop the trial
     core::hint::black_box(&tried);
     drop(tried);
-    Some(vec![0; bytes])
+    let mut room = vec![0; bytes];
+    pages::large(&mut room);
+    Some(room)
 }
