@@ -2,12 +2,16 @@
 //! refused, and the reason is told.
 
 use crate::arguments::{file, flag, output, regions};
+use crate::beside::index_of;
 use crate::failure::Failure;
+use crate::fastq;
 use crate::header::{Header, Mark};
 use crate::input::is_placeless;
 use crate::output::Output;
 use crate::read::Turn;
-use crate::{Common, fastq, index_of, index_one, path, read_as, write};
+use crate::verbs::index::index_one;
+use crate::verbs::read::read_as;
+use crate::words::{Common, path, write};
 use clap::{Arg, ArgMatches, Command, ValueHint, value_parser};
 use std::path::{Path, PathBuf};
 

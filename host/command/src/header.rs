@@ -5,7 +5,7 @@ use crate::input::Input;
 use crate::json::Object;
 use crate::place::{count, quoted};
 use crate::read::{Form, Region};
-use crate::report;
+use crate::words::report;
 use std::borrow::Cow;
 use std::os::unix::ffi::OsStrExt;
 use wakeluri::Record;

@@ -1,7 +1,8 @@
 //! A FASTQ file and its index as one thing that an app opens once, keeps, and shares between its threads.
 
 use super::mapped::Bytes;
-use super::{Error, Fasta, Found, Options, Rules, Trust};
+use super::options::{Found, Rules};
+use super::{Error, Fasta, Options, Trust};
 use crate::fastq::{self, Part, Table};
 use crate::refusal::Call;
 use crate::table::{counted, with_room};
