@@ -144,7 +144,7 @@ impl Arriving<'_> {
         if let Some((first, odd)) = self.trail.odd() {
             Odd::tell_of(odd, self.shown, first, self.strict).map_err(Stopped::Refused)?;
         }
-        twins::warn(self.shown, &twins::of(rows.len(), || rows.records().map(|record| record.name)));
+        twins::warn(self.shown, &twins::of(|| rows.records().map(|record| record.name)));
         drop(rows);
         Ok(Arrived { fed, unusual: self.trail.unusual() })
     }
@@ -185,7 +185,7 @@ mod tests {
             let input = Input::held("f", file.to_vec());
             let rows = work::index(&input, rule).map_err(without_advice)?;
             Odd::of_file(file).tell(&input, rule == Rule::Strict).map_err(without_advice)?;
-            twins::warn("f", &twins::of(rows.len(), || rows.records().map(|record| record.name)));
+            twins::warn("f", &twins::of(|| rows.records().map(|record| record.name)));
             Ok((rows.write_index().expect("names without tabs"), Unusual::of(file, &rows)))
         })
     }

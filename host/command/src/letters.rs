@@ -25,17 +25,26 @@ fn odd() -> &'static [u8; 256] {
 /// So many bytes are looked at together.
 const CHUNK: usize = 64;
 
+/// Whether a byte is one of the most common letters, in either case. C and G differ in one bit.
+fn is_common(byte: u8) -> bool {
+    let small = byte | 0x20;
+    (small == b'a') | (small | 4 == b'g') | (small == b't') | (small == b'n')
+}
+
 /// Whether some bytes are the most common letters and ends of lines, and nothing else; one more is looked at, which may follow a CR.
 /// It is written so that the machine does many bytes at once.
 fn is_plain(bytes: &[u8; CHUNK + 1]) -> bool {
     let mut all = true;
     for place in 0..CHUNK {
         let (byte, next) = (bytes[place], bytes[place + 1]);
-        let small = byte | 0x20;
-        let letter = (small == b'a') | (small == b'c') | (small == b'g') | (small == b't') | (small == b'n');
-        all &= letter | (byte == b'\n') | ((byte == b'\r') & (next == b'\n'));
+        all &= is_common(byte) | (byte == b'\n') | ((byte == b'\r') & (next == b'\n'));
     }
     all
+}
+
+/// Whether some bytes of one line are the most common letters. All are looked at, many at once.
+fn are_common(line: &[u8]) -> bool {
+    line.iter().fold(true, |all, byte| all & is_common(*byte))
 }
 
 /// Whether the bytes from one place of a file to another are the most common letters and ends of lines, and nothing else.
@@ -135,6 +144,11 @@ impl Odd {
         let table = odd();
         let mut found = Self::default();
         for [position, length, line_bases, line_width] in records {
+            if length <= line_bases
+                && file.get(position as usize..position.saturating_add(length) as usize).is_some_and(are_common)
+            {
+                continue;
+            }
             let offset = |before: u64| {
                 before.checked_div(line_bases).map(|lines| position + lines * line_width + before % line_bases)
             };

@@ -23,13 +23,35 @@ pub fn warn(file: &str, twins: &[Twins<'_>]) {
     }
 }
 
-/// The first two records of each name that several have, in their order, among the names of so many records.
-pub fn of<'n, N: Iterator<Item = &'n [u8]>>(records: usize, names: impl Fn() -> N) -> Vec<Twins<'n>> {
-    if !are_some_alike(records, names().map(mixed)) {
-        return vec![];
+/// Names that were seen, one for each record. They can be added on another's walk over the records, while their bytes are at hand.
+pub struct Seen(Vec<u64>);
+
+impl Seen {
+    /// None yet, of so many records.
+    pub fn none(records: usize) -> Self {
+        Self(Vec::with_capacity(records))
     }
+
+    /// Adds the next record's name.
+    pub fn add(&mut self, name: &[u8]) {
+        self.0.push(mixed(name));
+    }
+
+    /// The first two records of each name that several have, in their order; the names are those that were seen.
+    pub fn twins<'n>(self, names: impl Iterator<Item = &'n [u8]>) -> Vec<Twins<'n>> {
+        if are_some_alike(self.0) { among(names) } else { vec![] }
+    }
+}
+
+/// The first two records of each name that several have, in their order.
+pub fn of<'n, N: Iterator<Item = &'n [u8]>>(names: impl Fn() -> N) -> Vec<Twins<'n>> {
+    Seen(names().map(mixed).collect()).twins(names())
+}
+
+/// The same, where there likely are some.
+fn among<'n>(names: impl Iterator<Item = &'n [u8]>) -> Vec<Twins<'n>> {
     let mut names: Vec<(u64, usize, &[u8])> =
-        names().enumerate().map(|(number, name)| (mixed(name), number, name)).collect();
+        names.enumerate().map(|(number, name)| (mixed(name), number, name)).collect();
     // alike names come together, and those of one name in their order
     names.sort_unstable_by(|one, two| (one.0, one.2, one.1).cmp(&(two.0, two.2, two.1)));
     let alike = names.chunk_by(|one, two| one.0 == two.0 && one.2 == two.2);
@@ -43,21 +65,11 @@ pub fn of<'n, N: Iterator<Item = &'n [u8]>>(records: usize, names: impl Fn() -> 
     twins
 }
 
-/// Whether two of so many numbers are alike: each is put in a free place from one on that it tells itself.
-fn are_some_alike(count: usize, numbers: impl Iterator<Item = u64>) -> bool {
-    let bits = (count + count / 2 + 2).next_power_of_two().trailing_zeros();
-    let mut places = vec![0_u64; 1 << bits];
-    numbers.take(count).map(|number| number.max(1)).any(|number| {
-        let mut place = (number >> (64 - bits)) as usize;
-        while places[place] != 0 {
-            if places[place] == number {
-                return true;
-            }
-            place = (place + 1) & ((1 << bits) - 1);
-        }
-        places[place] = number;
-        false
-    })
+/// Whether two numbers are alike: once they are sorted, two such stand side by side. A table of places, one look for each number, takes four times as
+/// long, since nearly every look is at memory far away.
+fn are_some_alike(mut numbers: Vec<u64>) -> bool {
+    numbers.sort_unstable();
+    numbers.windows(2).any(|two| two[0] == two[1])
 }
 
 /// A number for a name, so that most names are told apart by one comparison.
@@ -77,19 +89,17 @@ mod tests {
     #[test]
     fn first_and_second_of_each_name() {
         let rows = wakeluri::index(b">b\nA\n>a\nA\n>b\nA\n>c\nA\n>a\nA\n>b\nA\n").unwrap();
-        assert_eq!(of(rows.len(), || rows.records().map(|record| record.name)), [(0, 2, &b"b"[..]), (1, 4, b"a")]);
+        assert_eq!(of(|| rows.records().map(|record| record.name)), [(0, 2, &b"b"[..]), (1, 4, b"a")]);
         let none = wakeluri::index(b"").unwrap();
-        assert_eq!(of(none.len(), || none.records().map(|record| record.name)), []);
+        assert_eq!(of(|| none.records().map(|record| record.name)), []);
     }
 
     #[test]
     fn alike_or_not() {
         let numbers: Vec<u64> = (0..5000).map(|n: u64| n.wrapping_mul(0x1234_5678_9abc_def1)).collect();
-        assert!(!are_some_alike(5000, numbers.iter().copied()));
+        assert!(!are_some_alike(numbers.clone()));
         for twin in [0, 1, 4999] {
-            assert!(are_some_alike(5001, numbers.iter().copied().chain([numbers[twin]])));
+            assert!(are_some_alike(numbers.iter().copied().chain([numbers[twin]]).collect()));
         }
-        // all tell one place, the last
-        assert!(!are_some_alike(100, (0..100).map(|n| u64::MAX - n)));
     }
 }

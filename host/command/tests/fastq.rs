@@ -194,9 +194,7 @@ fn what_is_of_fasta_alone_says_so() {
     folder.run(&["mend", "r.fq", "r1:1", "T"]).failed(2, &["`mend` takes FASTA alone"]);
     assert_eq!(folder.read("r.fq"), READS.as_bytes());
     folder.run(&["index", "--fastq", "-", "--save", "s.fq"]).failed(2, &["--save indexes FASTA alone"]);
-    folder
-        .piped(&["index", "-", "--save", "s.fq"], READS.as_bytes(), 9)
-        .failed(2, &["--save indexes FASTA alone"]);
+    folder.piped(&["index", "-", "--save", "s.fq"], READS.as_bytes(), 9).failed(2, &["--save indexes FASTA alone"]);
     // without --save a pipe of FASTQ is read whole
     let index = folder.piped(&["index", "-"], READS.as_bytes(), 9);
     assert_eq!((index.status, index.err.as_str()), (Some(0), ""));

@@ -52,7 +52,7 @@ fn check_one(file: &Path, index: Option<&Path>, strict: bool, common: Common) ->
     } else {
         Odd::of_file(fasta.bytes()).tell(&fasta, strict)?;
         let rows = work::read_index(&fasta, &index)?;
-        twins::warn(&fasta.shown, &twins::of(rows.len(), || rows.records().map(|record| record.name)));
+        twins::warn(&fasta.shown, &twins::of(|| rows.records().map(|record| record.name)));
         (rows.len() as u64, rows.records().map(|record| record.length).sum())
     };
     fasta.unchanged()?;

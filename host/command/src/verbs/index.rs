@@ -152,7 +152,7 @@ fn of_fasta(fasta: &Input, strict: bool) -> Result<Made, Failure> {
     let rows = work::index(fasta, if strict { Rule::Strict } else { Rule::Complete })?;
     let text = rows.write_index().map_err(|refusal| not_written(&fasta.shown, refusal))?;
     Odd::of_file(fasta.bytes()).tell(fasta, strict)?;
-    twins::warn(&fasta.shown, &twins::of(rows.len(), || rows.records().map(|record| record.name)));
+    twins::warn(&fasta.shown, &twins::of(|| rows.records().map(|record| record.name)));
     let unusual = Some(Unusual::of(fasta.bytes(), &rows));
     let bases = rows.records().map(|record| record.length).sum();
     Ok(Made { text: vec![text], records: rows.len() as u64, bases, unusual })

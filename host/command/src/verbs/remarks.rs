@@ -13,12 +13,15 @@ pub struct Remarks<'f> {
 }
 
 impl<'f> Remarks<'f> {
-    /// Looks for them.
+    /// Looks for them, in one walk: a record's name lies beside its bases.
     pub fn of(fastq: &Input, rows: &Table<'f>) -> Self {
-        let records =
-            rows.records().map(|record| [record.position, record.length, record.line_bases, record.line_width]);
+        let mut seen = twins::Seen::none(rows.len());
+        let records = rows.records().map(|record| {
+            seen.add(record.name);
+            [record.position, record.length, record.line_bases, record.line_width]
+        });
         let odd = Odd::of_reads(fastq.bytes(), records);
-        Self { odd, twins: twins::of(rows.len(), || rows.records().map(|record| record.name)) }
+        Self { odd, twins: seen.twins(rows.records().map(|record| record.name)) }
     }
 
     /// Warns of them; strictly, bytes that are no letters are a failure.
