@@ -166,6 +166,11 @@ impl Odd {
         found
     }
 
+    /// These, and those of what lies behind.
+    pub fn and(self, later: Self) -> Self {
+        Self { bytes: self.bytes + later.bytes, first: self.first.or(later.first) }
+    }
+
     fn add(&mut self, at: usize) {
         self.bytes += 1;
         self.first = self.first.or(Some(at));

@@ -7,6 +7,7 @@ mod arguments;
 mod arriving;
 mod beside;
 mod colour;
+mod cores;
 mod course;
 mod faidx;
 mod failure;

@@ -37,6 +37,11 @@ impl Seen {
         self.0.push(mixed(name));
     }
 
+    /// Adds those of the records behind them.
+    pub fn extend(&mut self, later: Self) {
+        self.0.extend(later.0);
+    }
+
     /// The first two records of each name that several have, in their order; the names are those that were seen.
     pub fn twins<'n>(self, names: impl Iterator<Item = &'n [u8]>) -> Vec<Twins<'n>> {
         if are_some_alike(self.0) { among(names) } else { vec![] }

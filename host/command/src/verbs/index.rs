@@ -3,6 +3,7 @@
 use crate::apart::Outputs;
 use crate::arriving;
 use crate::beside::{index_of, named_index};
+use crate::cores;
 use crate::failure::Failure;
 use crate::faults;
 use crate::index_text;
@@ -14,13 +15,12 @@ use crate::place::{self, count};
 use crate::shelf::{self, Item, Named, Shelf, Work};
 use crate::twins;
 use crate::unusual::Unusual;
-use crate::verbs::remarks::Remarks;
+use crate::verbs::remarks::{Glance, Remarks};
 use crate::words::{Common, path, report, said};
 use crate::work::{self, Rule};
 use clap::ArgMatches;
 use std::os::unix::ffi::OsStrExt;
 use std::path::Path;
-use std::thread;
 use wakeluri::{Call, Refusal};
 
 /// Indexes a file, or each of a list.
@@ -158,7 +158,7 @@ fn of_fasta(fasta: &Input, strict: bool) -> Result<Made, Failure> {
     Ok(Made { text: vec![text], records: rows.len() as u64, bases, unusual })
 }
 
-/// The index of a FASTQ file, of six columns.
+/// The index of a FASTQ file, of six columns. While a core writes the lines of some records, it looks at these.
 fn of_fastq(fastq: &Input, strict: bool) -> Result<Made, Failure> {
     let rows = work::reads(fastq)?;
     // a row that isn't there is refused with 25
@@ -166,12 +166,12 @@ fn of_fastq(fastq: &Input, strict: bool) -> Result<Made, Failure> {
         Some(row) => rows.write_line_into(row, out),
         None => Err(Refusal::new(Call::WriteIndex, 25, number as u64, 0)),
     };
-    let (text, remarks) = thread::scope(|scope| {
-        let remarks = scope.spawn(|| Remarks::of(fastq, &rows));
-        (index_text::written(rows.len(), &write), remarks.join())
-    });
+    let parts =
+        cores::in_parts(rows.len(), |part| (index_text::lines(part.clone(), write), Glance::at(fastq, &rows, part)));
+    let (texts, glances): (Vec<_>, Vec<_>) = parts.into_iter().unzip();
+    let text: Result<_, _> = texts.into_iter().collect();
     let text = text.map_err(|refusal| not_written(&fastq.shown, refusal))?;
-    remarks.unwrap_or_else(|_| Remarks::of(fastq, &rows)).say(fastq, strict)?;
+    Remarks::seen(&rows, glances).say(fastq, strict)?;
     let bases = rows.records().map(|record| record.length).sum();
     Ok(Made { text, records: rows.len() as u64, bases, unusual: None })
 }

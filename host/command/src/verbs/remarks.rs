@@ -1,27 +1,52 @@
 //! What `index` and `check` say of a FASTQ file that they take.
 
+use crate::cores;
 use crate::failure::Failure;
 use crate::input::Input;
 use crate::letters::Odd;
-use crate::twins;
+use crate::twins::{self, Seen, Twins};
+use std::ops::Range;
 use wakeluri::fastq::Table;
 
 /// Bytes among the bases that are no letters, and names that several records have.
 pub struct Remarks<'f> {
     odd: Odd,
-    twins: Vec<twins::Twins<'f>>,
+    twins: Vec<Twins<'f>>,
 }
 
-impl<'f> Remarks<'f> {
-    /// Looks for them, in one walk: a record's name lies beside its bases.
-    pub fn of(fastq: &Input, rows: &Table<'f>) -> Self {
-        let mut seen = twins::Seen::none(rows.len());
-        let records = rows.records().map(|record| {
-            seen.add(record.name);
+/// What is seen of some records.
+pub struct Glance {
+    odd: Odd,
+    names: Seen,
+}
+
+impl Glance {
+    /// Looks at the records of some rows, in one walk: a record's name lies beside its bases.
+    pub fn at(fastq: &Input, rows: &Table<'_>, part: Range<usize>) -> Self {
+        let mut names = Seen::none(part.len());
+        let records = part.map_while(|number| rows.record(rows.row(number)?)).map(|record| {
+            names.add(record.name);
             [record.position, record.length, record.line_bases, record.line_width]
         });
         let odd = Odd::of_reads(fastq.bytes(), records);
-        Self { odd, twins: seen.twins(rows.records().map(|record| record.name)) }
+        Self { odd, names }
+    }
+}
+
+impl<'f> Remarks<'f> {
+    /// Looks at all records.
+    pub fn of(fastq: &Input, rows: &Table<'f>) -> Self {
+        Self::seen(rows, cores::in_parts(rows.len(), |part| Glance::at(fastq, rows, part)))
+    }
+
+    /// Puts together what was seen of all records, in their order.
+    pub fn seen(rows: &Table<'f>, glances: Vec<Glance>) -> Self {
+        let (mut odd, mut names) = (Odd::default(), Seen::none(rows.len()));
+        for glance in glances {
+            odd = odd.and(glance.odd);
+            names.extend(glance.names);
+        }
+        Self { odd, twins: names.twins(rows.records().map(|record| record.name)) }
     }
 
     /// Warns of them; strictly, bytes that are no letters are a failure.

@@ -1,0 +1,48 @@
+//! Work on the rows of a table, in parts and on all cores. A part is some rows that follow each other; nothing is shared between two parts, so that
+//! the answers are the same however many cores there are.
+
+use std::ops::Range;
+use std::sync::atomic::{AtomicUsize, Ordering};
+use std::thread;
+
+/// So many rows are a part.
+const ROWS: usize = 1 << 14;
+
+/// What a work gives for each part of so many rows, in the order of the parts.
+pub fn in_parts<T: Send>(rows: usize, work: impl Fn(Range<usize>) -> T + Sync) -> Vec<T> {
+    let parts = rows.div_ceil(ROWS);
+    let part = |number: usize| work(number * ROWS..rows.min((number + 1) * ROWS));
+    let cores = thread::available_parallelism().map_or(1, usize::from).min(parts);
+    if cores < 2 {
+        return (0..parts).map(part).collect();
+    }
+    let next = AtomicUsize::new(0);
+    let own = || {
+        let numbers =
+            std::iter::from_fn(|| Some(next.fetch_add(1, Ordering::Relaxed)).filter(|number| *number < parts));
+        numbers.map(|number| (number, part(number))).collect::<Vec<_>>()
+    };
+    let mut given = thread::scope(|scope| {
+        let others: Vec<_> = (1..cores).map(|_| scope.spawn(own)).collect();
+        let mut given = own();
+        for other in others {
+            given.extend(other.join().unwrap_or_else(|panic| std::panic::resume_unwind(panic)));
+        }
+        given
+    });
+    given.sort_unstable_by_key(|(number, _)| *number);
+    given.into_iter().map(|(_, given)| given).collect()
+}
+
+#[cfg(test)]
+mod tests {
+    use super::*;
+
+    #[test]
+    fn each_row_once_and_in_order() {
+        for rows in [0, 1, ROWS - 1, ROWS, ROWS + 1, 5 * ROWS + 7] {
+            let given: Vec<usize> = in_parts(rows, |part| part.collect::<Vec<_>>()).concat();
+            assert!(given.into_iter().eq(0..rows), "{rows}");
+        }
+    }
+}
