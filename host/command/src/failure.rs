@@ -23,9 +23,9 @@ pub enum Failure {
         /// What to do next.
         next: String,
     },
-    /// All is told already, and this is the status.
+    /// All is said already, and this is the status.
     Told(u8),
-    /// There is nobody to tell: whoever read the answer has gone, or words would be written to a file that is read. Status 3.
+    /// There is nobody to speak to: the reader of the answer has gone, or words would be written to an input. Status 3.
     Gone,
 }
 
@@ -70,7 +70,7 @@ pub struct Unreadable {
     pub words: String,
     /// What to write.
     pub next: String,
-    /// The file, if it was looked at.
+    /// The file, if it was opened.
     pub file: Option<String>,
     /// The region.
     pub region: Vec<u8>,

@@ -2,7 +2,7 @@
 //! accepted, and that only reads that cover the base change, if the new byte is no LF, CR or '>'.
 //!
 //! Before the byte is written, a note beside the file says what is done, and is brought to the disk. A byte is written whole or not at all:
-//! after a crash the file has the old byte or the new one, and the note tells which.
+//! after a crash the file has the old byte or the new one, and the note says which.
 
 use crate::apart::folder;
 use crate::failure::{Failure, Refused};
@@ -121,7 +121,7 @@ impl Mend {
         object
     }
 
-    /// Warns of a new byte that is no letter, or with `--strict` refuses it: it is looked at as if it were in the file.
+    /// Warns of a new byte that is no letter, or with `--strict` refuses it, as if it were in the file.
     pub fn judge(&self, fasta: &Input, strict: bool) -> Result<(), Failure> {
         let mut odd = Odd::default();
         odd.of_bases(&[self.new], None, 1);
