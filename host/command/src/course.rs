@@ -54,16 +54,7 @@ impl<'r> Asked<'r> {
 }
 
 fn refused(words: String, next: &str, refusal: Refusal, file: &str) -> Failure {
-    Failure::Refused(Box::new(Refused {
-        words,
-        shown: String::new(),
-        next: next.to_string(),
-        refusal,
-        file: file.to_string(),
-        place: None,
-        region: None,
-        sheet: None,
-    }))
+    Refused::of(file, words, next, refusal).into()
 }
 
 /// The rule of an edition, in words.

@@ -51,16 +51,9 @@ pub fn base(word: &[u8]) -> Result<u8, Failure> {
         return Err(Failure::Usage(format!("'{}' has {} bytes, and a base is one byte", quoted(word), word.len())));
     };
     let Some(why) = barred(*byte) else { return Ok(*byte) };
-    Err(Failure::Refused(Box::new(Refused {
-        words: format!("'{}' can't be written as a base: {why}", byte.escape_ascii()),
-        shown: String::new(),
-        next: "nothing was changed; write the file anew if its lines are to change".to_string(),
-        refusal: Refusal::new(Call::WriteRecord, 30, 0, 0),
-        file: String::new(),
-        place: None,
-        region: None,
-        sheet: None,
-    })))
+    let words = format!("'{}' can't be written as a base: {why}", byte.escape_ascii());
+    let next = "nothing was changed; write the file anew if its lines are to change";
+    Err(Refused::of("", words, next, Refusal::new(Call::WriteRecord, 30, 0, 0)).into())
 }
 
 /// The base that NAME:POSITION means. What stands before the last colon is the name.
