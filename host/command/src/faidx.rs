@@ -1,5 +1,5 @@
-//! `wakeluri faidx` and `wakeluri fqidx`: called as those of samtools are, so that a script has to change one word. What would differ is
-//! refused, and the reason is told.
+//! `wakeluri faidx` and `wakeluri fqidx`: called as in samtools, so that a script changes one word. What would differ is refused, with the
+//! reason.
 
 use crate::arguments::{file, flag, output, regions};
 use crate::beside::index_of;
@@ -103,7 +103,7 @@ fn other(words: &ArgMatches) -> Result<(), Failure> {
     Ok(())
 }
 
-/// As samtools: without a region the index is written; else the regions are read, and an index that isn't there is written first.
+/// As samtools: without a region it writes the index; else it reads the regions, and first writes an index if there is none.
 pub fn faidx(words: &ArgMatches, common: Common<'_>) -> Result<(), Failure> {
     other(words)?;
     let named = words.get_one::<String>("mark-strand").map_or("rc", String::as_str);

@@ -1,4 +1,4 @@
-//! The definition line of an answer: the region, and what is said of it. And what is told of answers that went to a file.
+//! The definition line of an answer: the region, and what is said of it. And the summary of answers that went to a file.
 
 use crate::failure::Failure;
 use crate::input::Input;

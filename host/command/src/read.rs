@@ -17,7 +17,7 @@ use pieces::sheets;
 use std::ops::Range;
 use wakeluri::{Refusal, Table, Writer};
 
-/// What is read is kept up to so many bytes until it is written; what is more is read once more.
+/// Up to so many bytes are kept from reading to writing; the rest is read once more.
 pub const KEPT: u64 = 1 << 30;
 
 /// What is done with the bases.
@@ -161,7 +161,7 @@ impl Source<'_> {
         writer.end().map_err(said)
     }
 
-    /// What is told of a region, with its bases.
+    /// A region as an object, with its bases.
     pub fn object(self, region: Region<'_>, form: Form<'_>, bases: &[u8]) -> Object {
         let record = self.rows.record(region.row);
         let mut object = Object::new();
@@ -181,7 +181,7 @@ impl Source<'_> {
         object
     }
 
-    /// Bases of a region, and its text as a name, are judged before anything is written.
+    /// Judges bases of a region, and its text as a name, before anything is written.
     fn writable(self, region: Region<'_>, bases: &[u8], form: Form<'_>) -> Result<(), Failure> {
         let (name, description) = form.header.of(region, form, self.rows.record(region.row));
         let description = (!description.is_empty()).then_some(&*description);

@@ -3,7 +3,7 @@
 use crate::place::{commas, count, short};
 use crate::warning::Warning;
 
-/// So many names are told one by one.
+/// So many names are named one by one.
 const TOLD: usize = 10;
 
 /// The first two records of a name, counted from 0, and the name.
@@ -77,7 +77,7 @@ fn are_some_alike(mut numbers: Vec<u64>) -> bool {
     numbers.windows(2).any(|two| two[0] == two[1])
 }
 
-/// A number for a name, so that most names are told apart by one comparison.
+/// A number for a name, so that one comparison tells most names apart.
 fn mixed(name: &[u8]) -> u64 {
     let parts = name.chunks_exact(8);
     let rest = parts.remainder().iter().fold(0, |number, byte| number << 8 | u64::from(*byte));

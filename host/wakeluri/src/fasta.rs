@@ -66,17 +66,17 @@ use watch::Watch;
 ///
 /// # A file that changes
 ///
-/// The file's length, its time of change, its inode and its device are kept when it is opened. [`Fasta::unchanged`] holds them against
-/// what the file has now, and so does a read that comes ten milliseconds or more after the last such look; from then on every read fails with
+/// Opening keeps the file's length, its time of change, its inode and its device. [`Fasta::unchanged`] compares them with what the file has
+/// now, and so does a read that comes ten milliseconds or more after the last such look. Once they differ, every read fails with
 /// [`Error::Changed`]. What is not seen:
 ///
 /// - a change since the last look, for ten milliseconds and the few that the clock is off;
 /// - a change after which the file's time was set back, and its length is the same.
 ///
-/// A file that was read into memory gives the bytes that it had, whatever becomes of it. Of a mapped file, bytes that another program
-/// writes are seen at once; and if it is cut shorter, the system ends a program that reads behind its end (SIGBUS), as it does with every
-/// map. Where others may cut a file in place, open it with [`Options::hold`]. To put another file in its place by renaming is always safe:
-/// the map keeps the old one, and the look tells.
+/// A file that was read into memory gives the bytes that it had, whatever becomes of it. A mapped file gives the bytes that another program
+/// writes at once; and if it is cut shorter, the system ends a program that reads behind its end (SIGBUS), as with every map. If others may
+/// cut a file in place, open it with [`Options::hold`]. It is always safe to put another file in its place by renaming: the map keeps the
+/// old one, and the next look sees it.
 #[derive(Debug)]
 pub struct Fasta {
     bytes: Bytes,
@@ -93,7 +93,7 @@ pub struct Fasta {
 }
 
 impl Fasta {
-    /// Opens a file with the index that stands beside it (`ref.fa.fai`), or makes one in memory where there is none.
+    /// Opens a file with the index that stands beside it (`ref.fa.fai`), or makes one in memory if there is none.
     ///
     /// An index that is there is checked against every base, and refused if it does not lead to each: an old index is never used. To do
     /// otherwise there is [`Fasta::options`].
@@ -101,7 +101,7 @@ impl Fasta {
         Self::options().open(path)
     }
 
-    /// How it is to be opened.
+    /// How to open it.
     pub fn options() -> Options {
         Options::default()
     }
@@ -201,7 +201,7 @@ impl Fasta {
         self.names.find(name, |row| self.name(row), is_found)
     }
 
-    /// A record by its name: the first that has it. Refuses 15 where none has.
+    /// A record by its name: the first that has it. Refuses 15 if none has.
     pub fn record(&self, name: impl AsRef<[u8]>) -> Result<Record<'_>, Error> {
         let name = name.as_ref();
         self.row(name).map(|row| self.numbered(row)).ok_or_else(|| self.no_record(name))
@@ -316,7 +316,7 @@ fn numbers(row: &[u8]) -> [u64; ROW_WORDS] {
     numbers
 }
 
-/// A part of some bytes; nothing where it isn't there.
+/// A part of some bytes; nothing if it isn't there.
 fn part(bytes: &[u8], start: u64, length: u64) -> &[u8] {
     let part = || bytes.get(usize::try_from(start).ok()?..)?.get(..usize::try_from(length).ok()?);
     part().unwrap_or_default()

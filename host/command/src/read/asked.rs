@@ -12,9 +12,9 @@ pub struct Asked<'a> {
     pub text: &'a [u8],
     /// The sheet and the line.
     pub sheet: Option<(&'a str, u64)>,
-    /// The row, where a record is meant and not a region in words.
+    /// The row, if a record is meant and not a region in words.
     pub row: Option<Row>,
-    /// The name and the bases, where they stand apart.
+    /// The name and the bases, if they stand apart.
     pub named: Option<Named<'a>>,
     /// What a sheet says behind the region.
     pub label: Option<&'a [u8]>,
@@ -74,7 +74,7 @@ pub struct Region<'a> {
 }
 
 impl Region<'_> {
-    /// How many bases it has: none for a record without any, where all records are meant.
+    /// How many bases it has: none for a record without any, if all records are meant.
     pub fn bases(self) -> u64 {
         if self.end < self.start { 0 } else { (self.end - self.start).saturating_add(1) }
     }

@@ -17,19 +17,9 @@ impl Source<'_> {
 
     fn refused(self, asked: Asked<'_>, what: String, next: String, refusal: Refusal) -> Failure {
         let words = self.words(asked, &what);
-        let file = self.fasta.shown.clone();
         let region = Some(quoted(asked.text));
         let sheet = asked.sheet.map(|(sheet, line)| (sheet.to_string(), line));
-        Failure::Refused(Box::new(Refused {
-            words,
-            shown: String::new(),
-            next,
-            refusal,
-            file,
-            place: None,
-            region,
-            sheet,
-        }))
+        Refused { region, sheet, ..Refused::of(&self.fasta.shown, words, next, refusal) }.into()
     }
 
     /// What follows a record's name is no region of it.

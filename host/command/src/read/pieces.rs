@@ -18,7 +18,7 @@ impl Source<'_> {
         self.turned(region, from, self.bases(region.row, from, to)?, turn)
     }
 
-    /// Bases of a record, or the refusal of the read. Of a file that is read in parts only the bytes between them are read.
+    /// Bases of a record, or the refusal of the read. From a file in parts it reads only the bytes between them.
     fn bases(self, row: Row, from: u64, to: u64) -> Result<Result<Vec<u8>, Refusal>, Failure> {
         if !self.fasta.is_in_parts() {
             return Ok(self.rows.read_exact(self.fasta.bytes(), row, from..=to));
@@ -36,7 +36,7 @@ impl Source<'_> {
         turn: Turn,
     ) -> Result<Vec<u8>, Failure> {
         bases.and_then(|bases| turn.turned(bases)).map_err(|refusal| {
-            // places are told as places in the region
+            // a place in the piece becomes a place in the region
             let before = if refusal.number == 24 { from - region.start } else { 0 };
             let Refusal { call, number, first, second, .. } = refusal;
             let refusal = Refusal::new(call, number, first.saturating_add(before), second);
@@ -65,7 +65,7 @@ impl Source<'_> {
         Ok(read.map(|read| bases.extend(read)))
     }
 
-    /// Several regions in one call. Where one of them is refused each is read for itself instead, so that all that is wrong is told.
+    /// Several regions in one call. If one of them is refused, each is read for itself instead, so that all faults are found.
     pub(super) fn sheet(self, regions: &[Region<'_>]) -> Option<Sheet> {
         if regions.len() < 2 || self.fasta.is_in_parts() {
             return None;
@@ -98,8 +98,8 @@ impl Source<'_> {
     }
 }
 
-/// Regions that are read in one call: as many as a sheet may have, and no more bases than are read at a time. One without bases, or with
-/// more, is alone.
+/// Regions for one call: as many as a sheet may have, and no more bases than are read at a time. A region without bases, or with more, is
+/// alone.
 pub(super) fn sheets<'r, 'a>(mut regions: &'r [Region<'a>]) -> impl Iterator<Item = &'r [Region<'a>]> {
     std::iter::from_fn(move || {
         let mut bases = 0;

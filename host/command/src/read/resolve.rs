@@ -8,10 +8,10 @@ use crate::warning::Warning;
 use wakeluri::region::{Meaning, Number, Written, meaning};
 use wakeluri::{Bounds, Call, Names, Refusal, Row, Window};
 
-/// So many names that several records have are told one by one.
+/// So many names that several records have are named one by one.
 const TWINS: usize = 10;
 
-/// Of so many regions that are refused it is looked for what may have been meant.
+/// For so many refused regions it looks for what may have been meant.
 const LOOKED_FOR: usize = 20;
 
 impl Source<'_> {
@@ -51,7 +51,7 @@ impl Source<'_> {
             return Err(self.two_in_a_line(asked));
         }
         let length = self.rows.record(row).map_or(0, |record| record.length);
-        // of all records, one without bases is none the less one of them
+        // when all records are asked for, one without bases is still one of them
         if asked.row.is_some() && length == 0 {
             return Ok(Region { asked, row, start: 1, end: 0 });
         }
@@ -76,7 +76,7 @@ impl Source<'_> {
         }
     }
 
-    /// Says it aloud where a name could mean another record too.
+    /// Warns if a name could mean another record too.
     fn warn_of_twins(self, regions: &[Region<'_>], names: &Names<'_, '_>) {
         let mut rows: Vec<Row> =
             regions.iter().filter(|region| region.asked.row.is_none()).map(|region| region.row).collect();

@@ -51,18 +51,8 @@ pub fn complement(words: &ArgMatches, turn: Turn, common: Common) -> Result<(), 
     for (line, bases) in sequences {
         let turned = turn.turned(bases).map(|bases| letters::of_rna(bases, said(words, "rna"))).map_err(|refusal| {
             let words = format!("{}, line {line}: {}", fasta.shown, refusal.words());
-            let next = "the letters that have one are ACGTU and MRWSYKVHDBN, small ones too".to_string();
-            let place = None;
-            Failure::Refused(Box::new(Refused {
-                words,
-                shown: String::new(),
-                next,
-                refusal,
-                file: fasta.shown.clone(),
-                place,
-                region: None,
-                sheet: None,
-            }))
+            let next = "the letters that have one are ACGTU and MRWSYKVHDBN, small ones too";
+            Failure::from(Refused::of(&fasta.shown, words, next, refusal))
         })?;
         if common.json {
             let mut object = Object::new();

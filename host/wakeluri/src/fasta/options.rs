@@ -14,9 +14,9 @@ use std::{fs, io};
 pub enum Trust {
     /// An index was found, and it was checked that it leads to every base of the file.
     Checked,
-    /// No index was found, or none was wanted: the rows were made of the file itself.
+    /// No index was found, or none was wanted: the rows were made from the file itself.
     Made,
-    /// An index was found, and [`Options::unchecked`] asked that it is believed: bases may be wrong where it is.
+    /// An index was found, and [`Options::unchecked`] asked to use it as it is: if it is wrong, so are the bases.
     Unchecked,
 }
 
@@ -47,13 +47,13 @@ impl Options {
         self
     }
 
-    /// An index is believed: opening takes no look at the bases. [`Fasta::trust`] says so then.
+    /// Uses an index without checking the bases. [`Fasta::trust`] says so then.
     pub fn unchecked(mut self) -> Self {
         self.unchecked = true;
         self
     }
 
-    /// No index is looked for: the rows are made of the file.
+    /// Looks for no index: the rows are made from the file.
     pub fn no_index(mut self) -> Self {
         self.no_index = true;
         self
@@ -81,7 +81,7 @@ impl Options {
         Fastq::opened(self.found(path.as_ref())?)
     }
 
-    /// The file's bytes, and its index where there is one.
+    /// The file's bytes, and its index if there is one.
     fn found(self, path: &Path) -> Result<Found, Error> {
         let (bytes, watch) = mapped::open(path, if self.hold { u64::MAX } else { MAPPED_FROM })?;
         let (index_path, named) = match self.index {
@@ -108,7 +108,7 @@ pub(super) struct Found {
     unchecked: bool,
 }
 
-/// The calls of a format: rows made of a file, an index held against it, rows read of an index.
+/// The calls of a format: rows made from a file, an index checked with it, rows read from an index.
 pub(super) struct Rules {
     pub make: fn(&[u8]) -> Result<Vec<u8>, Refusal>,
     pub check: fn(&[u8], &[u8]) -> Result<(), Refusal>,

@@ -73,7 +73,7 @@ impl<'f> Record<'f> {
         self.answered(bases)
     }
 
-    /// As [`Record::read`], to the front of a room that is lent; tells how many bytes. A refusal leaves the room as it was.
+    /// As [`Record::read`], to the front of a room that is lent; returns how many bytes. A refusal leaves the room as it was.
     ///
     /// ```
     /// let fasta = wakeluri::Fasta::from_bytes(b">s\nACGT\nAC\n".to_vec())?;
