@@ -8,7 +8,7 @@ use lib.Dec.{ltb}
 use borrow.Author.Tests.{eq-eqb, ne-eqb, ltb-true, ltb-false}
 use native.Mathlib.Omega.{arith}
 use native.Mathlib.Numerals.{add-one}
-use native.Mathlib.Nat.{add-zero, add-sub-cancel-left}
+use native.Mathlib.Nat.{add-zero}
 use lib.Seq.{take-nil}
 use Rattle.refusal.specs.declared.Refusal.{Refusal}
 use Rattle.refusal.specs.declared.Refusal.the-variants.{TooLong, LineAbsent, BytesLeft, LengthDiffers, NameDiffers, BaseElsewhere}
@@ -18,7 +18,6 @@ use Rattle.lines.specs.Laws.{linesAt-cut, part-length, lineEnd-le, lineEnd-gt}
 use Rattle.lines.specs.Groups.{Group, groups}
 use Rattle.lines.specs.GroupLaws.{groups-cut, lines-next}
 use Rattle.lines.specs.Same.{sameBytes}
-use Rattle.lines.specs.declared.Span.{Span}
 use Rattle.definition.specs.Definition.{refusalIn}
 use Rattle.definition.specs.Definition as definition
 use Rattle.definition.specs.declared.Definition.{Definition}
@@ -290,11 +289,3 @@ check-long f i h = rw h
 pub check-long-index : (f i : List ℕ) → overLimit (length f) ≡ false → overLimit (length i) ≡ true → Refused TooLong ≡ checkOf f i
 unfolding checkOf
 check-long-index f i h k = rw (h, k)
-
--- ---- names as the code cuts them from their lines
-
-pub same-cut : (def : List ℕ) (name : Span) (l : List ℕ) (x : Record)
-    → sameBytes (part def (name .start) (name .start + name .length)) (part l (x .«name_start») (x .«name_start» + x .«name_length»))
-    ≡ sameBytes (spanOf def name) (nameIn l x)
-unfolding nameIn
-same-cut def name l x = rw (add-sub-cancel-left (name .start) (name .length), add-sub-cancel-left (x .«name_start») (x .«name_length»))

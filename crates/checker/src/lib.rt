@@ -12,7 +12,6 @@ ghost use mathlib.Core.Path.{_≡_};
 ghost use Prim.Native.Nat.{_+_, _≤_, _<_};
 ghost use lib.ListN.{length};
 ghost use Rattle.lines.specs.Lines.{seqAt};
-ghost use Rattle.lines.specs.Same.{sameBytes};
 ghost use Rattle.index_line.specs.IndexLine.{nameIn};
 ghost use Rattle.checker.specs.Check.{spanOf, sequenceSays, entrySays, againstLines, recordSays, checkOf};
 ghost use Rattle.checker.specs.Steps.{groupOf, onlyLine, behindAt, judgedAs, stepOf};
@@ -40,18 +39,6 @@ struct Place {
 enum Step {
     Next(Place),
     Refused(Refusal),
-}
-
-// Is the name of a definition line that of an index line's record.
-fn same_name(def: &[u8], name: Span, line: &[u8], x: Record) -> bool
-    requires { ⌜ (name .start + name .length ≤ length (now def)) × (x .«name_start» + x .«name_length» ≤ length (now line)) ⌝ }
-    ensures { λ r. ⌜ r ≡ sameBytes (spanOf (now (def .entry)) name) (nameIn (now (line .entry)) x) ⌝ }
-{
-    let a = name.start;
-    let b = a + name.length;
-    let c = x.name_start as usize;
-    let d = c + x.name_length as usize;
-    check::same(&def[a..b], &line[c..d])
 }
 
 // The sequence from `start` on against a record: 22, 23.
@@ -83,7 +70,9 @@ fn judge_entry(
     requires { ⌜ (name .start + name .length ≤ length (now def)) × (x .«name_start» + x .«name_length» ≤ length (now line)) × (0 < x .«line_bases») ⌝ }
     ensures { λ r. ⌜ r ≡ judgedAs (entrySays «record» start (spanOf (now (def .entry)) name) (seqAt (now (fasta .entry)) start) (nameIn (now (line .entry)) x) x) (behindAt (now (fasta .entry)) start) ⌝ }
 {
-    if same_name(def, name, line, x) {
+    let from = x.name_start as usize;
+    let n = x.name_length as usize;
+    if comparing::same_spans(def, name.start, name.length, line, from, n) {
         return judge_sequence(fasta, start, x, record);
     }
     Judged::Refused(Refusal::NameDiffers { record })

@@ -8,14 +8,12 @@ use lib.Dec.{ltb}
 use lib.Seq.{take-nil}
 use borrow.Author.Tests.{eq-eqb, ne-eqb, ltb-true, ltb-false}
 use native.Mathlib.Omega.{arith}
-use native.Mathlib.Nat.{add-sub-cancel-left}
 use Rattle.refusal.specs.declared.Refusal.{Refusal}
 use Rattle.refusal.specs.declared.Refusal.the-variants.{LineAbsent, LengthDiffers, NameDiffers, BaseElsewhere}
 use Rattle.lines.specs.Lines.{part, lineLen, lineEnd, lines}
 use Rattle.lines.specs.Laws.{linesAt-cut, part-length, lineEnd-le, lineEnd-gt}
 use Rattle.lines.specs.Same.{sameBytes}
 use Rattle.record.specs.Place.{placeIn}
-use Rattle.record.specs.declared.Record.{Record}
 use Rattle.record.specs.declared.Position.{Position}
 use Rattle.index_line.specs.IndexLine.{nameIn}
 use Rattle.walking.specs.Places.{firstElsewhere}
@@ -146,11 +144,3 @@ module _ (n : ℕ) (f : List ℕ) (x : QualityRow) where
         → step.Next (record { fastq = b; index = e; records = n }) ≡ judgedAs (recordSays n f x (lines (drop a i))) (record { fastq = b; index = lineEnd i a; records = n })
     unfolding judgedAs
     row-next b g = rw (← is-here, g, q)
-
--- ---- names as the code cuts them
-
-pub same-cut : (f : List ℕ) (x : Record) (l : List ℕ) (y : Record)
-    → sameBytes (part f (x .«name_start») (x .«name_start» + x .«name_length»)) (part l (y .«name_start») (y .«name_start» + y .«name_length»))
-    ≡ sameBytes (nameIn f x) (nameIn l y)
-unfolding nameIn
-same-cut f x l y = rw (add-sub-cancel-left (x .«name_start») (x .«name_length»), add-sub-cancel-left (y .«name_start») (y .«name_length»))

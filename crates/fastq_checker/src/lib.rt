@@ -10,14 +10,12 @@ use fastq::Indexed;
 use fastq::Part;
 use fastq::QualityRow;
 use fastq_line::LineRead;
-use record::Record;
 use refusal::Refusal;
 ghost use mathlib.Core.Path.{_≡_};
 ghost use mathlib.Core.List.{[]};
 ghost use Prim.Native.Nat.{_+_, _≤_, _<_};
 ghost use lib.ListN.{length, drop};
 ghost use Rattle.lines.specs.Lines.{lines};
-ghost use Rattle.lines.specs.Same.{sameBytes};
 ghost use Rattle.index_line.specs.IndexLine.{nameIn};
 ghost use Rattle.checker.specs.Steps.{onlyLine};
 ghost use Rattle.checker.specs.declared.Verdict.the-variants.{Accepted, Refused};
@@ -39,18 +37,6 @@ enum Step {
     End,
     Stopped(Refusal),
     Refused(Refusal),
-}
-
-// Is the name of a record of the file that of a line's row.
-fn same_name(fastq: &[u8], x: Record, line: &[u8], y: Record) -> bool
-    requires { ⌜ (x .«name_start» + x .«name_length» ≤ length (now fastq)) × (y .«name_start» + y .«name_length» ≤ length (now line)) ⌝ }
-    ensures { λ r. ⌜ r ≡ sameBytes (nameIn (now (fastq .entry)) x) (nameIn (now (line .entry)) y) ⌝ }
-{
-    let a = x.name_start as usize;
-    let b = a + x.name_length as usize;
-    let c = y.name_start as usize;
-    let d = c + y.name_length as usize;
-    check::same(&fastq[a..b], &line[c..d])
 }
 
 // One part of a record against that of its line's row: 23.
@@ -80,7 +66,11 @@ fn judge_entry(fastq: &[u8], x: QualityRow, line: &[u8], y: QualityRow, record: 
 {
     let a = x.record;
     let b = y.record;
-    if !same_name(fastq, a, line, b) {
+    let start = a.name_start as usize;
+    let n = a.name_length as usize;
+    let from = b.name_start as usize;
+    let m = b.name_length as usize;
+    if !comparing::same_spans(fastq, start, n, line, from, m) {
         return Verdict::Refused(Refusal::NameDiffers { record });
     }
     if a.length != b.length {

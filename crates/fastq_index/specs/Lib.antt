@@ -1,3 +1,4 @@
+pub mod Taken
 pub mod File
 pub mod FileLaws
 pub mod Text

@@ -4,10 +4,9 @@ ghost use mathlib.Core.Path.{_≡_};
 ghost use Prim.Native.Nat.{_+_, _≤_, _<_};
 ghost use lib.ListN.{length};
 ghost use Rattle.table.specs.Numbers.{numbersIn};
-ghost use Rattle.fastq_table.specs.Rows.{rowCount};
-ghost use Rattle.fastq_table.specs.Fill.{NextOf};
-ghost use Rattle.fastq_table.specs.Bytes.{FilledBytes};
-ghost use Rattle.fastq_table.specs.ByteLaws.{FilledRows, heldBy};
+ghost use Rattle.table.specs.KindLaws.{FilledRows, heldBy};
+ghost use Rattle.fastq_table.specs.Rows.{rowCount, qualityRows};
+ghost use Rattle.fastq_table.specs.Fill.{NextOf, FilledBytes};
 ghost use Rattle.fastq_index.specs.File.{rowsAt, fileIn};
 ghost use Rattle.fastq_index.specs.Text.{rowAt, indexAt, indexIn};
 use fastq::Indexed;
@@ -35,7 +34,7 @@ fn next_row(s: &[u8], at: usize) -> Next
 
 // A row for each record of the file, from the table's first row on.
 fn index_rows(s: &[u8], table: &mut [u8]) -> Filled
-    ensures { λ r. ⌜ FilledRows (heldBy (now (table .entry)) (rowsAt (now (s .entry)) 0)) (now (table .entry)) (now (table .exit)) r ⌝ }
+    ensures { λ r. ⌜ FilledRows qualityRows (heldBy qualityRows (now (table .entry)) (rowsAt (now (s .entry)) 0)) (now (table .entry)) (now (table .exit)) r ⌝ }
 {
     let mut at = 0;
     let mut n = 0;
@@ -107,7 +106,7 @@ fn next_line(text: &[u8], at: usize, line: u64) -> Next
 
 // A row for each line of the text, from the table's first row on.
 fn read_rows(text: &[u8], table: &mut [u8]) -> Filled
-    ensures { λ r. ⌜ FilledRows (heldBy (now (table .entry)) (indexAt (now (text .entry)) 1 0)) (now (table .entry)) (now (table .exit)) r ⌝ }
+    ensures { λ r. ⌜ FilledRows qualityRows (heldBy qualityRows (now (table .entry)) (indexAt (now (text .entry)) 1 0)) (now (table .entry)) (now (table .exit)) r ⌝ }
 {
     let mut at = 0;
     let mut n = 0;

@@ -1,3 +1,4 @@
 pub mod SixColumns
 pub mod Laws
 pub mod RoundTrip
+pub mod Sound

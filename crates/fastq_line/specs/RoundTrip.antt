@@ -1,24 +1,22 @@
 -- A line of six columns that is written reads back as the same name and numbers, and what a plain line says is written as the same bytes.
 use Prim.Native.Nat.{ℕ, zero, suc, _+_, _^_, _≤_, _<_}
 use mathlib.Core.Path.{_≡_, refl, sym, ap, _∙_}
-use mathlib.Core.List.{List, [], _∷_, _++_, map, append-assoc}
+use mathlib.Core.List.{List, [], _∷_, _++_, append-assoc}
 use mathlib.Core.Bool.{Bool, true, false, _&&_, and-false}
 use native.Mathlib.Omega.{arith}
 use lib.ListN.{length, getD, take, length-append}
-use lib.Seq.{take-at}
 use lib.Dec.{eqb}
 use borrow.Author.Tests.{ne-eqb}
 use Rattle.lines.specs.Lines.{contentOf}
 use Rattle.columns.specs.Bytes.{is}
-use Rattle.columns.specs.Decimal.{decimalOf}
 use Rattle.columns.specs.Fields.{cutAt, tabbed, Numbers, numbersFrom, numbersText, textOf}
 use Rattle.columns.specs.Fields.Numbers.{Are, Not}
 use Rattle.columns.specs.Lacks.{Lacks}
-use Rattle.columns.specs.Numbers.{Allowed, Reads, both, numbers-read, text-reads, reads-say, reads-text, reads-count}
-use Rattle.columns.specs.Cut.{text-cut, cut-text, cut-most}
+use Rattle.columns.specs.Numbers.{Allowed, Reads, numbers-read, text-reads, reads-say, reads-count}
+use Rattle.columns.specs.Cut.{text-cut}
 use Rattle.index_line.specs.IndexLine.{plainEnd}
-use Rattle.index_line.specs.Ends.{content-lf, plain-lf, plain-content}
-use Rattle.index_line.specs.Laws.{Lined}
+use Rattle.index_line.specs.Ends.{content-lf, plain-lf}
+use Rattle.index_line.specs.AnyColumns.{Lined, name-front, plain-text}
 use Rattle.index_line.specs.RoundTripLaws.{ends-digit}
 use Rattle.fastq.specs.declared.QualityRow.{QualityRow}
 use Rattle.fastq_line.specs.SixColumns.{fieldsOf, rowOf, entryRead, fieldsSay, contentSays, onlyIf, sixLineSays, sixColumnsOf}
@@ -121,20 +119,13 @@ five (a ∷ b ∷ c ∷ d ∷ []) n h = absurd (omega arith)
 five (a ∷ b ∷ c ∷ d ∷ e ∷ []) n h = refl
 five (a ∷ b ∷ c ∷ d ∷ e ∷ f ∷ r) n h = absurd (omega arith)
 
-line-text : (name vs : List ℕ) (n : ℕ) (fs : List (List ℕ)) → length vs ≡ 5 → map decimalOf vs ≡ fs → sixLineOf name (rowOf n vs) ≡ name ++ (tabbed fs ++ (10 ∷ []))
-unfolding sixLineOf textOf
-line-text name vs n fs h e = ap (textOf name) (five vs n h) ∙ rw e
-
 -- the line of what a plain line says has the same bytes
 pub plain-writes : (line : ℕ) (l : List ℕ) (e : Entry) → sixLineSays line l ≡ read.Row e → e .plain ≡ true
     → sixLineOf (take (e .row .«record» .«name_length») l) (e .row) ≡ l
+unfolding sixLineOf
 plain-writes line l e h p =
     let k = line-known line l e h in
     let c = k .known in
-    let t = both (plainEnd l) (k .content .plain) (sym (k .plain) ∙ p) in
     let cut = fields-cut (contentOf l) (c .name) (c .fields) (c .cut) in
-    let few : length (c .fields) ≤ 5 = omega (arith, cut-most 5 (contentOf l), ap length cut) in
-    let text : map decimalOf (c .numbers) ≡ c .fields = reads-text (c .reads) (t .1) few in
-    let whole : l ≡ c .name ++ (tabbed (c .fields) ++ (10 ∷ [])) = plain-content l (t .0) ∙ rw (cut-text 5 (contentOf l) (c .name) (c .fields) cut, append-assoc) in
-    let name : take (length (c .name)) l ≡ c .name = ap (take (length (c .name))) whole ∙ take-at (c .name) (tabbed (c .fields) ++ (10 ∷ [])) (length (c .name)) refl in
-    rw (k .same, c .same, name) (line-text (c .name) (c .numbers) (length (c .name)) (c .fields) (reads-count (c .reads)) text ∙ sym whole)
+    rw (k .same, c .same, name-front 5 l (c .name) (c .fields) cut .0)
+    (ap (textOf (c .name)) (five (c .numbers) (length (c .name)) (reads-count (c .reads))) ∙ plain-text 5 l (c .name) (c .fields) cut (c .numbers) (k .content .plain) (c .reads) (sym (k .plain) ∙ p))

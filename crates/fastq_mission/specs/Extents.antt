@@ -22,7 +22,7 @@ use Rattle.fastq.specs.declared.Indexed.the-variants as indexed
 use Rattle.fastq_index.specs.File.{onwards, rowsOf, rowsAt}
 use Rattle.fastq_checker.specs.Check.{partLines, offsetsOf}
 use Rattle.fastq_checker.specs.Accepts.{recordsOf, recordAt}
-use Rattle.fastq_mission.specs.Taken.{Taken, record-taken}
+use Rattle.fastq_index.specs.Taken.{Taken, record-taken}
 use Rattle.fastq_mission.specs.Leads.{start, position-is, qualities-at, bases-are, qualities-are, name-within}
 
 -- where base, or quality, j + 1 of record x of a file lies, and how many there are

@@ -1,18 +1,14 @@
 -- Lines at the front of those from an offset of a file on: their bases lie in the file, and the bytes there are those bases. A FASTQ record's sequence
 -- lines are such lines, and so are its quality lines; both may begin with '>', so FASTA's law of a sequence does not serve.
-use Prim.Native.Nat.{ℕ, _+_, _-_, _≤_, _<_}
-use mathlib.Core.Path.{_≡_, refl, ap, sym, _∙_}
-use mathlib.Core.List.{List, [], _∷_, _++_, map, map-append}
+use Prim.Native.Nat.{ℕ, _+_, _≤_, _<_}
+use mathlib.Core.Path.{_≡_, ap, _∙_}
+use mathlib.Core.List.{List, [], _∷_, _++_, map}
 use lib.ListN.{length, take, drop, getD, length-drop}
-use lib.Seq.{drop-drop, take-take}
 use native.Mathlib.Omega.{arith}
-use Rattle.lines.specs.Lines.{lines, chop, basesOf, allBases, sumBases, sumWidths, upFrom, basesAt}
-use Rattle.lines.specs.Laws.{chop-le, bases-front}
-use Rattle.lines.specs.GroupLaws.{lines-behind}
+use Rattle.lines.specs.Lines.{lines, allBases, sumBases, sumWidths, basesAt}
 use Rattle.lines.specs.Sums.{widths-lines}
-use Rattle.record.specs.Bases.{byteAt, bytes-row}
+use Rattle.record.specs.Bases.{byteAt, front-bytes}
 use Rattle.record.specs.EvenLines.{length-basesAt}
-use Rattle.mission.specs.IndexedLaws.{line-front}
 use Rattle.mission.specs.ReadsLaws.{taken-same, map-part, bases-below}
 
 -- some lines are the first of those from an offset on, and others follow
@@ -29,27 +25,6 @@ widths-append (l ∷ ls) ms = omega (arith, widths-append ls ms)
 -- they end in the file
 pub front-within : (f : List ℕ) (at : ℕ) (ls : List (List ℕ)) → Front f at ls → at + sumWidths ls ≤ length f
 front-within f at ls h = omega (arith, h .inside, length-drop at f, widths-lines (drop at f), ap sumWidths (h .here), widths-append ls (h .others))
-
--- the bytes at the offsets of their bases
-front-bytes : (f : List ℕ) (ls : List (List ℕ)) (at : ℕ) (others : List (List ℕ)) → lines (drop at f) ≡ ls ++ others → at + sumWidths ls ≤ length f → map (byteAt f) (basesAt at ls) ≡ allBases ls
-unfolding basesAt allBases sumWidths
-front-bytes f [] at others e h = refl
-front-bytes f (l ∷ ls) at others e h =
-    let behind : lines (drop (at + length l) f) ≡ ls ++ others = rw (drop-drop (length l) at f) at (lines-behind (drop at f) l (ls ++ others) e) in
-    rw map-append (joined front (front-bytes f ls (at + length l) others behind (omega arith)))
-  where
-    few : length (basesOf l) ≤ length l
-    few = omega (arith, chop-le 13 (chop 10 l), chop-le 10 l)
-
-    front : map (byteAt f) (upFrom at (length (basesOf l))) ≡ basesOf l
-    front =
-        bytes-row f (length (basesOf l)) at (omega (arith, few))
-        ∙ sym (take-take (length (basesOf l)) (length l) (drop at f) few)
-        ∙ ap (take (length (basesOf l))) (line-front (drop at f) l (ls ++ others) e)
-        ∙ bases-front l
-
-    joined : {a b c d : List ℕ} → a ≡ b → c ≡ d → a ++ c ≡ b ++ d
-    joined p q = cc
 
 module _ (f : List ℕ) (at : ℕ) (ls : List (List ℕ)) (h : Front f at ls) where
   -- each of their bases lies in the file

@@ -27,14 +27,14 @@ use Rattle.fastq_line.specs.SixColumns.{lineWritten}
 use Rattle.fastq_line.specs.RoundTrip.{fiveOf, sixLineOf}
 use Rattle.fastq_table.specs.Rows.{rowCount, withRows, usedAt, qualitiesAt}
 use Rattle.fastq_table.specs.Fill.{Found, nothing, heldIn}
-use Rattle.fastq_table.specs.Laws.{held-all}
+use Rattle.table.specs.KindLaws.{held-all}
 use Rattle.fastq_index.specs.File.{onwards, rowsOf, rowsAt, fileIn}
 use Rattle.checker.specs.Accepts.{limit}
 use Rattle.checker.specs.declared.Verdict.the-variants.{Accepted}
 use Rattle.fastq_checker.specs.Check.{checkOf}
 use Rattle.fastq_checker.specs.Accepts.{recordsOf, recordAt, Accepts}
 use Rattle.fastq_mission.specs.Exactly.{accepted-if}
-use Rattle.fastq_mission.specs.Taken.{record-taken}
+use Rattle.fastq_index.specs.Taken.{record-taken}
 use Rattle.fastq_mission.specs.Leads.{taken-leads}
 use Rattle.fastq_mission.specs.TableRows.{bare, used-stored, qualities-stored}
 use Rattle.fastq_mission.specs.Written.{lineIn, indexText, AllLead, matched, line-at, line-count}

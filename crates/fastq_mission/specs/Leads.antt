@@ -34,7 +34,7 @@ use Rattle.fastq.specs.declared.QualityRow.{QualityRow}
 use Rattle.fastq.specs.declared.Verdict.the-variants as judged
 use Rattle.fastq_checker.specs.Check.{partLines, offsetsOf}
 use Rattle.fastq_mission.specs.FirstFault.{AllInPlace}
-use Rattle.fastq_mission.specs.Taken.{defAt, Taken}
+use Rattle.fastq_index.specs.Taken.{defAt, Taken}
 use Rattle.fastq_mission.specs.Front.{Front, front-within}
 
 -- a row of a file leads to its record

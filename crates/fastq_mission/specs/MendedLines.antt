@@ -19,7 +19,7 @@ use Rattle.fastq.specs.Fastq.{plus, bodyOf, fromPlus, lineSays, andThen, restOf
 use Rattle.fastq.specs.declared.QualityRow.{QualityRow}
 use Rattle.fastq.specs.declared.Verdict.{Verdict}
 use Rattle.fastq.specs.declared.Verdict.the-variants as judged
-use Rattle.fastq_mission.specs.Taken.{GoodLines}
+use Rattle.fastq_index.specs.Taken.{GoodLines}
 
 -- ---- a byte behind the record
 

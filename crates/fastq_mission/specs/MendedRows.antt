@@ -21,7 +21,7 @@ use Rattle.fastq_index.specs.File.{onwards, rowsOf, rowsAt}
 use Rattle.fastq_checker.specs.Check.{partLines, offsetsOf}
 use Rattle.fastq_checker.specs.Accepts.{recordsOf, recordAt}
 use Rattle.fastq_mission.specs.Front.{Front}
-use Rattle.fastq_mission.specs.Taken.{defAt, Taken, record-taken}
+use Rattle.fastq_index.specs.Taken.{defAt, Taken, record-taken}
 use Rattle.fastq_mission.specs.Leads.{Leads, start, position-is, bases-are, taken-leads}
 use Rattle.fastq_mission.specs.Extents.{placeAt, countOf, extent, rows-along, behind}
 use Rattle.fastq_mission.specs.MendedLines.{said-past, said-here}

@@ -23,14 +23,14 @@ use Rattle.fastq_line.specs.declared.Entry.{Entry}
 use Rattle.fastq_line.specs.declared.LineRead.the-variants.{Row}
 use Rattle.fastq_table.specs.Rows.{rowCount, withRows}
 use Rattle.fastq_table.specs.Fill.{Found, withFirst, FilledAs}
-use Rattle.fastq_table.specs.Laws.{held-all}
+use Rattle.table.specs.KindLaws.{held-all}
 use Rattle.fastq_index.specs.Text.{placedAt, linesSay, indexAt, indexIn}
 use Rattle.checker.specs.Accepts.{limit}
 use Rattle.mission.specs.TableLaws.{line-bytes, lineStart, suc-shift, start-behind}
 use Rattle.fastq_checker.specs.Check.{partLines, offsetsOf}
 use Rattle.fastq_checker.specs.Accepts.{recordsOf, recordAt, MatchesAt, Accepts}
 use Rattle.fastq_mission.specs.FirstFault.{AllInPlace}
-use Rattle.fastq_mission.specs.LineLaws.{LineSound, line-sound}
+use Rattle.fastq_line.specs.Sound.{LineSound, line-sound}
 use Rattle.fastq_mission.specs.Indexed.{file-leads}
 use Rattle.fastq_mission.specs.TableRows.{bare, held-stored, held-beyond}
 use Rattle.fastq_mission.specs.TableOf.{recordCount, Holds, TableOf}

@@ -1,11 +1,11 @@
 -- Rows put in a table of FASTQ's are read back, without their descriptions, which such a table does not hold.
-use Prim.Native.Nat.{ℕ, zero, suc, _+_, _*_, _≤_, _<_}
+use Prim.Native.Nat.{ℕ, _+_, _*_, _≤_, _<_}
 use mathlib.Core.Path.{_≡_, refl, ap, sym, _∙_}
-use mathlib.Core.List.{List, [], _∷_, _++_, append-assoc}
-use lib.ListN.{length, drop}
-use lib.Seq.{sets-eq, getD-append-add}
+use mathlib.Core.List.{List, _++_}
+use lib.ListN.{length}
+use lib.Seq.{getD-append-add}
 use native.Mathlib.Omega.{arith}
-use native.Mathlib.Nat.{add-assoc}
+use native.Mathlib.Nat.{zero-add, add-assoc}
 use Rattle.table.specs.Rows.{badRow, heldOf}
 use Rattle.table.specs.RowLaws.{sound-row}
 use Rattle.table.specs.declared.Held.the-variants as held
@@ -14,8 +14,10 @@ use Rattle.fastq.specs.Parts.{partOf}
 use Rattle.fastq.specs.declared.Part.{Part}
 use Rattle.fastq.specs.declared.Part.the-variants.{Bases, Qualities}
 use Rattle.fastq.specs.declared.QualityRow.{QualityRow}
-use Rattle.fastq_table.specs.Rows.{rowWords, wordsOf, words, numbersAt, rowCount, rowAt, withRows, usedAt, qualitiesAt}
-use Rattle.fastq_table.specs.RowLaws.{length-words, rowCount-rows, used-row, used-unused, qualities-some}
+use Rattle.fastq_table.specs.Rows.{rowWords, wordsOf, numbersAt, rowCount, rowAt, qualityRows, withRows, usedAt, qualitiesAt}
+use Rattle.table.specs.KindLaws
+use Rattle.table.specs.KindLaws.{rowCount-rows}
+use Rattle.fastq_table.specs.RowLaws.{used-row, used-unused, qualities-some}
 use Rattle.fastq_checker.specs.Accepts.{recordAt}
 
 -- a row without its description
@@ -35,32 +37,20 @@ bare x =
       qualities = x .qualities;
     }
 
--- the numbers of row k
-words-row : (xs : List QualityRow) (k : ℕ) (rest : List ℕ) → k < length xs → numbersAt (words xs ++ rest) (k * rowWords) ≡ bare (recordAt xs k)
-unfolding words wordsOf
-words-row [] k rest h = absurd (omega arith)
-words-row (x ∷ xs) zero rest h = refl
-words-row (x ∷ xs) (suc k) rest h = rw (q, append-assoc) (shift (wordsOf x) (words xs ++ rest) (k * rowWords) ∙ words-row xs k rest (omega arith))
-  where
-    q : suc k * rowWords ≡ rowWords + k * rowWords
-    q = omega arith
-
-    -- numbers in front move the others on
-    shift : (ws t : List ℕ) (i : ℕ) → numbersAt (ws ++ t) (length ws + i) ≡ numbersAt t i
-    shift ws t i = simp (add-assoc, getD-append-add)
+-- numbers in front move the others on
+shift : (ws t : List ℕ) (i : ℕ) → numbersAt (ws ++ t) (length ws + i) ≡ numbersAt t i
+shift ws t i = simp (add-assoc, getD-append-add)
 
 module _ (t : List ℕ) (xs : List QualityRow) (h : length xs ≤ rowCount t) (k : ℕ) where
   pub rows-read : k < length xs → rowAt (withRows t 0 xs) k ≡ bare (recordAt xs k)
-  unfolding rowAt rowCount
-  rows-read m = rw (sets-eq (words xs) t 0 fits) (words-row xs k (drop (0 + length (words xs)) t) m)
-    where
-      fits : 0 + length (words xs) ≤ length t
-      fits = omega (arith, length-words xs)
+  unfolding rowAt wordsOf
+  rows-read m =
+      ap (λ (i : ℕ). numbersAt (withRows t 0 xs) (i * rowWords)) (sym (zero-add k)) ∙ KindLaws.rows-read qualityRows numbersAt bare shift (λ x rest. refl) t 0 _ xs k (omega arith) m
 
   -- so a row is in use, for its bases and for its qualities
   pub used-stored : k < length xs → (p : Part) → usedAt (withRows t 0 xs) (length xs) k p ≡ used.Row k (partOf p (bare (recordAt xs k)))
   used-stored m p =
-      sym (used-row (withRows t 0 xs) (length xs) k p (rw (rowCount-rows t 0 xs) h) m) ∙ ap (λ (x : QualityRow). used.Row k (partOf p x)) (rows-read m)
+      sym (used-row (withRows t 0 xs) (length xs) k p (rw (rowCount-rows qualityRows t 0 xs) h) m) ∙ ap (λ (x : QualityRow). used.Row k (partOf p x)) (rows-read m)
 
   -- and holds a record, if line bases and line width are not 0
   pub held-stored : k < length xs → 1 ≤ recordAt xs k .«record» .«line_bases» → 1 ≤ recordAt xs k .«record» .«line_width» → (p : Part)
@@ -72,9 +62,9 @@ module _ (t : List ℕ) (xs : List QualityRow) (h : length xs ≤ rowCount t) (k
   -- beyond them there is none
   pub held-beyond : length xs ≤ k → (p : Part) → heldOf (usedAt (withRows t 0 xs) (length xs) k p) ≡ badRow k
   unfolding heldOf
-  held-beyond m p = ap heldOf (sym (used-unused (withRows t 0 xs) (length xs) k p (rw (rowCount-rows t 0 xs) h) m))
+  held-beyond m p = ap heldOf (sym (used-unused (withRows t 0 xs) (length xs) k p (rw (rowCount-rows qualityRows t 0 xs) h) m))
 
   -- and where its qualities begin
   pub qualities-stored : k < length xs → qualitiesAt (withRows t 0 xs) k ≡ recordAt xs k .qualities
   qualities-stored m =
-      sym (qualities-some (withRows t 0 xs) k (rw (rowCount-rows t 0 xs) (omega arith)) (recordAt xs k .qualities) (sym (ap (λ (x : QualityRow). x .qualities) (rows-read m))))
+      sym (qualities-some (withRows t 0 xs) k (rw (rowCount-rows qualityRows t 0 xs) (omega arith)) (recordAt xs k .qualities) (sym (ap (λ (x : QualityRow). x .qualities) (rows-read m))))

@@ -21,7 +21,7 @@ use Rattle.fastq_line.specs.RoundTrip.{fiveOf, sixLineOf, entryOf, written-read
 use Rattle.fastq_line.specs.declared.LineRead.the-variants as read
 use Rattle.fastq_checker.specs.Accepts.{recordAt, Matches}
 use Rattle.fastq_mission.specs.Leads.{Leads}
-use Rattle.fastq_mission.specs.LineLaws.{line-sound}
+use Rattle.fastq_line.specs.Sound.{line-sound}
 
 -- the index line of a row, whose name is a span of a file
 abbrev pub lineIn : List ℕ → QualityRow → List ℕ

@@ -1,19 +1,16 @@
 -- A FASTQ record's row in a table of numbers, seven to a row: its words, reading it, and the table with it stored. Of a table of bytes, these
 -- are about its numbers (`numbersIn`).
 use Prim.Native.Nat.{ℕ, _+_, _*_, _/_}
-use mathlib.Core.Path.{_≡_}
+use mathlib.Core.Path.{_≡_, refl}
 use mathlib.Core.List.{List, [], _∷_, _++_}
 use mathlib.Core.Bool.{cond}
 use lib.ListN.{length, getD}
-use lib.Seq.{sets}
-use lib.Dec.{ltb}
-use Rattle.refusal.specs.declared.Refusal.the-variants.{BadRow, TableFull}
+use lib.Dec.{ltb, lit<}
 use Rattle.record.specs.declared.Offset.{Offset}
 use Rattle.table.specs.Rows.{noRow}
 use Rattle.table.specs.declared.InUse.{InUse}
 use Rattle.table.specs.declared.InUse.the-variants as used
-use Rattle.table.specs.declared.Stored.{Stored}
-use Rattle.table.specs.declared.Stored.the-variants as stored
+use Rattle.table.specs.Kinds
 use Rattle.fastq.specs.declared.QualityRow.{QualityRow}
 use Rattle.fastq.specs.declared.Part.{Part}
 use Rattle.fastq.specs.Parts.{partOf}
@@ -56,9 +53,44 @@ rowCount t = length t / rowWords
 unfoldable pub rowAt : List ℕ → ℕ → QualityRow
 rowAt t r = numbersAt t (r * rowWords)
 
+-- ---- rows of FASTQ as a kind of row
+
+pub row-sized : (x : QualityRow) → length (wordsOf x) ≡ rowWords
+unfolding wordsOf
+row-sized x = refl
+
+pub no-words : words [] ≡ []
+unfolding words
+no-words = refl
+
+pub more-words : (x : QualityRow) (xs : List QualityRow) → words (x ∷ xs) ≡ wordsOf x ++ words xs
+unfolding words
+more-words x xs = refl
+
+pub rows-counted : (t : List ℕ) → rowCount t ≡ length t / rowWords
+unfolding rowCount
+rows-counted t = refl
+
+abbrev pub qualityRows : Kinds.Kind
+qualityRows =
+    record {
+      Row = QualityRow;
+      size = rowWords;
+      wordsOf = wordsOf;
+      words = words;
+      rowCount = rowCount;
+      some = lit< tt;
+      sized = row-sized;
+      no-words = no-words;
+      more-words = more-words;
+      counted = rows-counted;
+    }
+
 -- the table with some rows in rows n, n + 1, ..
 abbrev pub withRows : List ℕ → ℕ → List QualityRow → List ℕ
-withRows t n xs = sets t (n * rowWords) (words xs)
+withRows = Kinds.withRows qualityRows
+
+-- ---- reading a row
 
 -- the bases, or the qualities, of row r of a table with n rows in use: if it has fewer rows than n, the first that it lacks is refused,
 -- whichever is asked
@@ -68,18 +100,3 @@ usedAt t n r p = cond (ltb (rowCount t) n) (noRow (rowCount t)) (cond (ltb r n) 
 -- where the qualities of row r begin; 0 where the table has no such row
 unfoldable pub qualitiesAt : List ℕ → ℕ → Offset
 qualitiesAt t r = cond (ltb r (rowCount t)) (rowAt t r .qualities) (record { 0 = 0 })
-
--- ---- storing a row
-
--- the answer: refusal 8, with the table's whole rows, where it has no row r
-unfoldable pub storedOf : List ℕ → ℕ → Stored
-storedOf t r = cond (ltb r (rowCount t)) stored.Kept (stored.Refused (TableFull (rowCount t)))
-
--- the table with a row r; as it was, where it has none
-unfoldable pub withRow : List ℕ → ℕ → QualityRow → List ℕ
-withRow t r x = cond (ltb r (rowCount t)) (sets t (r * rowWords) (wordsOf x)) t
-
--- what storing row r tells, and the table afterwards
-pub record StoredAt (before : List ℕ) (r : ℕ) (x : QualityRow) (told : Stored) (after : List ℕ) : Type 0 where
-  pub answer : told ≡ storedOf before r
-  pub table : after ≡ withRow before r x

@@ -17,7 +17,7 @@ ghost use lib.Seq.{sets};
 ghost use Rattle.table.specs.Numbers.{numbersIn};
 ghost use Rattle.table.specs.NumberLaws.{Became};
 ghost use Rattle.fastq_table.specs.Rows.{rowWords, wordsOf, numbersAt, rowCount, usedAt, qualitiesAt};
-ghost use Rattle.fastq_table.specs.Bytes.{StoredIn, KeptIn};
+ghost use Rattle.fastq_table.specs.Fill.{StoredIn, KeptIn};
 
 // The numbers of a row.
 pub const WORDS: usize = 7;

@@ -1,23 +1,21 @@
 -- What the code finds of a line is what the line says; and what is known of a line that reads.
-use Prim.Native.Nat.{ℕ, _^_, _≤_, _<_}
-use mathlib.Core.Path.{_≡_, refl, sym, ap, _∙_}
+use Prim.Native.Nat.{ℕ, _≤_}
+use mathlib.Core.Path.{_≡_, refl, ap}
 use mathlib.Core.List.{List, [], _∷_}
-use mathlib.Core.Bool.{Bool, true, false, _&&_, true≢false}
+use mathlib.Core.Bool.{_&&_}
 use native.Mathlib.Omega.{arith}
-use lib.ListN.{length, take, drop, length-append}
-use lib.Seq.{take-at, take-take, length-take-le}
-use lib.Dec.{eqb}
-use borrow.Author.Tests.{eqb-false}
+use lib.ListN.{length, take, drop}
+use lib.Seq.{length-take-le}
 use Rattle.refusal.specs.declared.Refusal.the-variants.{EmptyIndexLine}
 use Rattle.lines.specs.Lines.{contentOf}
-use Rattle.lines.specs.Laws.{content-le, content-front}
 use Rattle.record.specs.declared.Record.{Record}
-use Rattle.columns.specs.Fields.{cutAt, tabbed, Numbers, numbersFrom}
+use Rattle.columns.specs.Fields.{cutAt, Numbers, numbersFrom}
 use Rattle.columns.specs.Fields.Numbers.{Are, Not}
 use Rattle.columns.specs.Reading.{fieldLen, fieldLen-le, behind, cut-first}
-use Rattle.columns.specs.Numbers.{Reads, numbers-read, reads-say, reads-allowed}
-use Rattle.columns.specs.Cut.{cut-text}
+use Rattle.columns.specs.Numbers.{Reads, numbers-read, reads-say}
 use Rattle.index_line.specs.IndexLine.{fieldsOf, recordOf, entryRead, fieldsSay, contentSays, plainEnd, onlyIf, indexLineSays, nameOf}
+use Rattle.index_line.specs.AnyColumns.{name-front, numbers-lined}
+pub use Rattle.index_line.specs.AnyColumns.{Lined}
 use Rattle.index_line.specs.declared.Entry.{Entry}
 use Rattle.index_line.specs.declared.LineRead.{LineRead}
 use Rattle.index_line.specs.declared.LineRead.the-variants.{Row, Refused}
@@ -38,15 +36,6 @@ content-says line (b ∷ l) h =
     (ap (λ (n : ℕ). entryRead n (numbersFrom line 2 4 (behind 4 (drop (fieldLen 4 (b ∷ l)) (b ∷ l))))) (length-take-le _ _ (fieldLen-le 4 (b ∷ l))))
 
 -- ---- a line that reads
-
--- a record whose numbers can stand in a line: they fit 64 bits, and line bases and line width are not 0
-pub record Lined (x : Record) : Type 0 where
-  pub some-bases : 1 ≤ x .«line_bases»
-  pub some-width : 1 ≤ x .«line_width»
-  pub fits-length : x .length < 2 ^ 64
-  pub fits-position : x .position .0 < 2 ^ 64
-  pub fits-bases : x .«line_bases» < 2 ^ 64
-  pub fits-width : x .«line_width» < 2 ^ 64
 
 -- its content: a name, and four fields that are numbers
 pub record ContentRead (l : List ℕ) (e : Entry) : Type 0 where
@@ -116,39 +105,17 @@ pub record LineSound (l : List ℕ) (x : Record) : Type 0 where
   pub lined : Lined x
   pub no-description : (x .«description_start» ≡ 0) × (x .«description_length» ≡ 0)
 
-name-front : (l name : List ℕ) (fs : List (List ℕ)) → fieldsOf (contentOf l) ≡ name ∷ fs → (take (length name) l ≡ name) × (length name ≤ length l)
-name-front l name fs e =
-    let c = cut-text 4 (contentOf l) name fs (fields-cut (contentOf l) name fs e) in
-    let n : length name ≤ length (contentOf l) = rw c (omega (arith, length-append name (tabbed fs))) in
-    let t : take (length name) (contentOf l) ≡ name = rw c (take-at name (tabbed fs) (length name) refl) in
-    (sym (take-take (length name) (length (contentOf l)) l n) ∙ ap (take (length name)) (content-front l) ∙ t, omega (arith, content-le l))
-
-not-zero : (v : ℕ) → (eqb v 0 && true) ≡ false → 1 ≤ v
-not-zero v h = go (eqb v 0) refl h
-  where
-    go : (t : Bool) → eqb v 0 ≡ t → (t && true) ≡ false → 1 ≤ v
-    go true e k = absurd (true≢false k)
-    go false e k = omega (arith, eqb-false v 0 e)
-
 pub line-sound : (line : ℕ) (l : List ℕ) (e : Entry) → indexLineSays line l ≡ Row e → LineSound l (e .«record»)
 unfolding nameOf
 line-sound line l e h =
     let k = line-known line l e h in
     let c = k .known in
-    let n = name-front l (c .name) (c .fields) (c .cut) in
-    let a = reads-allowed (c .reads) in
+    let n = name-front 4 l (c .name) (c .fields) (fields-cut (contentOf l) (c .name) (c .fields) (c .cut)) in
     rw (k .same, c .same)
     (record {
       start = refl;
       name = rw (c .cut) (n .0);
       inside = n .1;
-      lined = record {
-        some-bases = not-zero _ (a 2 (omega arith) .1);
-        some-width = not-zero _ (a 3 (omega arith) .1);
-        fits-length = a 0 (omega arith) .0;
-        fits-position = a 1 (omega arith) .0;
-        fits-bases = a 2 (omega arith) .0;
-        fits-width = a 3 (omega arith) .0;
-      };
+      lined = numbers-lined (c .reads) (omega arith) (length (c .name));
       no-description = (refl, refl);
     })

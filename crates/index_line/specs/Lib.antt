@@ -1,6 +1,7 @@
 pub mod IndexLine
 pub mod Ends
 pub mod OneLine
+pub mod AnyColumns
 pub mod Laws
 pub mod RoundTripLaws
 pub mod RoundTrip

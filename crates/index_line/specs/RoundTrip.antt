@@ -2,11 +2,10 @@
 -- bytes, which PlainAgain.antt makes a theorem over the two calls.
 use Prim.Native.Nat.{ℕ, _^_, _≤_, _<_}
 use mathlib.Core.Path.{_≡_, refl, sym, ap, _∙_}
-use mathlib.Core.List.{List, [], _∷_, _++_, map, append-assoc}
+use mathlib.Core.List.{List, [], _∷_, _++_, append-assoc}
 use mathlib.Core.Bool.{true}
 use native.Mathlib.Omega.{arith}
 use lib.ListN.{length, getD, take, length-take}
-use lib.Seq.{take-at}
 use borrow.Author.Tests.{le-ltb}
 use Rattle.refusal.specs.Numbers.{overLimit}
 use Rattle.lines.specs.Lines.{contentOf}
@@ -15,20 +14,19 @@ use Rattle.table.specs.declared.Held.the-variants as held
 use Rattle.table.specs.Rows.{namedAt}
 use Rattle.table.specs.RowLaws.{held-known, named-known}
 use Rattle.columns.specs.Bytes.{is}
-use Rattle.columns.specs.Decimal.{decimalOf}
 use Rattle.output.specs.Outcome.{leaves}
-use Rattle.columns.specs.Fields.{tabbed, numbersText, textOf}
+use Rattle.columns.specs.Fields.{numbersText, textOf}
 use Rattle.columns.specs.Lacks.{Lacks, splits-tab}
 use Rattle.index_line.specs.OneLine.{line-one}
-use Rattle.columns.specs.Numbers.{both, reads-text, reads-count}
-use Rattle.columns.specs.Cut.{cut-text, cut-most}
-use Rattle.index_line.specs.Ends.{content-lf, plain-lf, plain-content}
-use Rattle.index_line.specs.IndexLine.{entryOf, plainEnd, indexLineSays, readLine, columnsOf, lineOf, nameIn, writtenAs}
+use Rattle.columns.specs.Numbers.{reads-count}
+use Rattle.index_line.specs.Ends.{content-lf, plain-lf}
+use Rattle.index_line.specs.AnyColumns.{name-front, plain-text}
+use Rattle.index_line.specs.IndexLine.{entryOf, indexLineSays, readLine, columnsOf, lineOf, nameIn, writtenAs}
 use Rattle.index_line.specs.Laws.{Lined, line-known, fields-cut}
 use Rattle.index_line.specs.declared.Entry.{Entry}
 use Rattle.index_line.specs.declared.LineRead.the-variants as read
 use Rattle.output.specs.declared.Written.the-variants as written
-use Rattle.index_line.specs.RoundTripLaws.{content-written, ends-digit, line-written, row-lined, line-front, line-text}
+use Rattle.index_line.specs.RoundTripLaws.{content-written, ends-digit, line-written, row-lined, line-front, four}
 
 -- a line that is written reads back as the same name bytes and the same four numbers, and is plain
 pub written-reads : (line : ℕ) (name : List ℕ) (x : Record) → Lacks (is 9) name → Lined x → indexLineSays line (lineOf name x) ≡ read.Row (entryOf (length name) x)
@@ -64,13 +62,10 @@ reads-back names t n r out k after f h m =
 -- the line of what a plain line says has the same bytes
 pub plain-writes : (line : ℕ) (l : List ℕ) (e : Entry) → indexLineSays line l ≡ read.Row e → e .plain ≡ true
     → lineOf (take (e .«record» .«name_length») l) (e .«record») ≡ l
+unfolding lineOf
 plain-writes line l e h p =
     let k = line-known line l e h in
     let c = k .known in
-    let t = both (plainEnd l) (k .content .plain) (sym (k .plain) ∙ p) in
     let cut = fields-cut (contentOf l) (c .name) (c .fields) (c .cut) in
-    let few : length (c .fields) ≤ 4 = omega (arith, cut-most 4 (contentOf l), ap length cut) in
-    let text : map decimalOf (c .numbers) ≡ c .fields = reads-text (c .reads) (t .1) few in
-    let whole : l ≡ c .name ++ (tabbed (c .fields) ++ (10 ∷ [])) = plain-content l (t .0) ∙ rw (cut-text 4 (contentOf l) (c .name) (c .fields) cut, append-assoc) in
-    let name : take (length (c .name)) l ≡ c .name = ap (take (length (c .name))) whole ∙ take-at (c .name) (tabbed (c .fields) ++ (10 ∷ [])) (length (c .name)) refl in
-    rw (k .same, c .same, name) (line-text (c .name) (c .numbers) (length (c .name)) (c .fields) (reads-count (c .reads)) text ∙ sym whole)
+    rw (k .same, c .same, name-front 4 l (c .name) (c .fields) cut .0)
+    (ap (textOf (c .name)) (four (c .numbers) (length (c .name)) (reads-count (c .reads))) ∙ plain-text 4 l (c .name) (c .fields) cut (c .numbers) (k .content .plain) (c .reads) (sym (k .plain) ∙ p))

@@ -1,7 +1,7 @@
 -- Laws for RoundTrip.antt: the content of a written line, what the call wrote, and the text of what was read.
 use Prim.Native.Nat.{ℕ, zero, suc, _+_, _^_, _≤_, _<_}
 use mathlib.Core.Path.{_≡_, refl, sym, ap, _∙_}
-use mathlib.Core.List.{List, [], _∷_, _++_, map}
+use mathlib.Core.List.{List, [], _∷_, _++_}
 use mathlib.Core.Bool.{Bool, true, false, cond, and-false}
 use native.Mathlib.Omega.{arith}
 use lib.ListN.{length, getD, take, length-append, length-take, length-drop}
@@ -26,7 +26,7 @@ use Rattle.columns.specs.Lacks.{Lacks, lacks-ends, text-lacks}
 use Rattle.columns.specs.Numbers.{Allowed, text-reads, reads-say}
 use Rattle.columns.specs.Cut.{text-cut}
 use Rattle.index_line.specs.Ends.{ends-behind}
-use Rattle.index_line.specs.IndexLine.{entryOf, fieldsOf, recordOf, contentSays, columnsOf, lineOf, nameIn, rowWritten, lineWritten, writtenAs}
+use Rattle.index_line.specs.IndexLine.{entryOf, fieldsOf, recordOf, contentSays, columnsOf, nameIn, rowWritten, lineWritten, writtenAs}
 use Rattle.index_line.specs.Laws.{Lined}
 use Rattle.index_line.specs.declared.LineRead.the-variants as read
 use Rattle.output.specs.declared.Written.the-variants as written
@@ -93,14 +93,11 @@ line-front name x k after e =
     let n : length name ≤ k = omega (arith, ap length e, length-append name rest, length-take k after) in
     sym (take-take (length name) k after n) ∙ (ap (take (length name)) e ∙ take-at name rest (length name) refl)
 
-four : (vs : List ℕ) (n : ℕ) → length vs ≡ 4 → columnsOf (recordOf n vs) ≡ vs
+-- four numbers that were read stand in the line again
+pub four : (vs : List ℕ) (n : ℕ) → length vs ≡ 4 → columnsOf (recordOf n vs) ≡ vs
 four [] n h = absurd (omega arith)
 four (a ∷ []) n h = absurd (omega arith)
 four (a ∷ b ∷ []) n h = absurd (omega arith)
 four (a ∷ b ∷ c ∷ []) n h = absurd (omega arith)
 four (a ∷ b ∷ c ∷ d ∷ []) n h = refl
 four (a ∷ b ∷ c ∷ d ∷ e ∷ r) n h = absurd (omega arith)
-
-pub line-text : (name vs : List ℕ) (n : ℕ) (fs : List (List ℕ)) → length vs ≡ 4 → map decimalOf vs ≡ fs → lineOf name (recordOf n vs) ≡ name ++ (tabbed fs ++ (10 ∷ []))
-unfolding lineOf textOf
-line-text name vs n fs h e = ap (textOf name) (four vs n h) ∙ rw e

@@ -4,7 +4,7 @@ use mathlib.Core.Path.{_≡_, refl, ap, sym, _∙_}
 use mathlib.Core.List.{List, [], _∷_, _++_, append-assoc, append-nil}
 use mathlib.Core.Bool.{Bool, true, false, cond, _&&_, true≢false}
 use lib.ListN.{length, getD, take, drop, length-drop, drop-of-length-le}
-use lib.Seq.{drop-drop, take-take, take-at, length-take-le}
+use lib.Seq.{drop-drop, take-take, take-at}
 use lib.Dec.{eqb, leb, ltb}
 use borrow.Author.Tests.{ne-eqb, eqb-true, eqb-false, leb-true, leb-false, ltb-false, le-ltb}
 use native.Mathlib.Omega.{arith}
@@ -12,8 +12,8 @@ use native.Mathlib.Nat.{zero-add}
 use Rattle.refusal.specs.declared.Refusal.{Refusal}
 use Rattle.refusal.specs.Numbers.{overLimit}
 use Rattle.refusal.specs.declared.Refusal.the-variants.{TooLong, TableFull, NoBases, LineBases, LineWidth}
-use Rattle.lines.specs.Lines.{lines, lineLen, basesOf, seqOf, firstLine, none, sumBases, sumWidths, basesAt}
-use Rattle.lines.specs.Laws.{lines-cut, lineLen-le, part-slice}
+use Rattle.lines.specs.Lines.{lines, basesOf, seqOf, firstLine, none, sumBases, sumWidths, basesAt}
+use Rattle.lines.specs.Laws.{part-slice}
 use Rattle.lines.specs.Groups.{Group, groups}
 use Rattle.lines.specs.GroupLaws.{afterSeq, groups-cut, lines-next}
 use Rattle.lines.specs.declared.Line.{Line}
@@ -23,6 +23,7 @@ use Rattle.definition.specs.Laws.{name-within, description-within}
 use Rattle.definition.specs.declared.Definition.{Definition}
 use Rattle.definition.specs.declared.Parsed.{Parsed}
 use Rattle.definition.specs.declared.Parsed.the-variants.{Named, Bad}
+use Rattle.record.specs.Bases.{line-front}
 use Rattle.record.specs.Place.{placeIn}
 use Rattle.record.specs.Description.{describedAt}
 use Rattle.table.specs.Rows.{rowCount, withRows, namedAt}
@@ -54,16 +55,6 @@ use Rattle.lines.specs.Sums.{widths-seq, widths-lines}
 use Rattle.mission.specs.NameLaws.{not-space}
 
 -- ---- the first line of some bytes
-
--- it is their front
-pub line-front : (s l : List ℕ) (ls : List (List ℕ)) → lines s ≡ l ∷ ls → take (length l) s ≡ l
-unfolding lines
-line-front [] l ls h = let z : _≡_ {A = ℕ} 0 1 = cc in absurd (omega arith)
-line-front (b ∷ s) l ls h =
-    let c : take (lineLen (b ∷ s)) (b ∷ s) ∷ lines (drop (lineLen (b ∷ s)) (b ∷ s)) ≡ l ∷ ls = sym (lines-cut (b ∷ s) (omega arith)) ∙ h in
-    let p : take (lineLen (b ∷ s)) (b ∷ s) ≡ l = cc in
-    let r : length l ≡ lineLen (b ∷ s) = ap length (sym p) ∙ length-take-le (lineLen (b ∷ s)) (b ∷ s) (lineLen-le (b ∷ s)) in
-    rw r p
 
 -- the bytes of a span of a line, which begins at an offset, are those in the file
 pub span-bytes : (f : List ℕ) (at : ℕ) (l : List ℕ) (ls : List (List ℕ)) (p : Span) → lines (drop at f) ≡ l ∷ ls → p .start + p .length ≤ length l

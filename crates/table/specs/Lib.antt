@@ -1,8 +1,10 @@
-pub mod Rows
 pub mod Numbers
-pub mod Fill
-pub mod Bytes
-pub mod RowLaws
 pub mod NumberLaws
+pub mod Kinds
+pub mod KindLaws
+pub mod Rows
+pub mod RowLaws
+pub mod Fill
 pub mod Laws
+pub mod Bytes
 pub mod ByteLaws

@@ -19,39 +19,21 @@ use Rattle.table.specs.declared.Held.{Held}
 use Rattle.table.specs.declared.Held.the-variants as held
 use Rattle.table.specs.declared.Stored.{Stored}
 use Rattle.table.specs.declared.Stored.the-variants as stored
-use Rattle.table.specs.Rows.{rowWords, wordsOf, words, numbersAt, rowCount, rowAt, withRows, noRow, usedAt, badRow, soundRow, heldOf, namedIn, namedOf, heldAt, namedAt, storedOf, withRow, StoredAt}
+use Rattle.table.specs.KindLaws
+use Rattle.table.specs.KindLaws.{sets-append}
+use Rattle.table.specs.Rows.{rowWords, wordsOf, words, numbersAt, rowCount, rowAt, records, withRows, noRow, usedAt, badRow, soundRow, heldOf, namedIn, namedOf, heldAt, namedAt, storedOf, withRow, StoredAt}
 
 -- ---- words
 
 -- so many numbers to a record
 pub length-words : (xs : List Record) → length (words xs) ≡ length xs * rowWords
-unfolding words wordsOf
-length-words [] = refl
-length-words (x ∷ xs) = omega (arith, length-words xs)
+length-words = KindLaws.length-words records
 
 -- numbers in front move the others on
 numbers-shift : (ws t : List ℕ) (i : ℕ) → numbersAt (ws ++ t) (length ws + i) ≡ numbersAt t i
 numbers-shift ws t i = simp (add-assoc, getD-append-add)
 
--- the numbers of record k
-words-row : (d : Record) (xs : List Record) (k : ℕ) (rest : List ℕ) → k < length xs → numbersAt (words xs ++ rest) (k * rowWords) ≡ getD xs k d
-unfolding words wordsOf
-words-row d [] k rest h = absurd (omega arith)
-words-row d (x ∷ xs) zero rest h = refl
-words-row d (x ∷ xs) (suc k) rest h = rw (q, append-assoc) (numbers-shift (wordsOf x) (words xs ++ rest) (k * rowWords) ∙ words-row d xs k rest (omega arith))
-  where
-    q : suc k * rowWords ≡ rowWords + k * rowWords
-    q = omega arith
-
 -- ---- tables
-
--- numbers stored one after another
-pub sets-append : (vs ws t : List ℕ) (i : ℕ) → sets t i (vs ++ ws) ≡ sets (sets t i vs) (i + length vs) ws
-sets-append [] ws t i = rw (add-zero i)
-sets-append (v ∷ vs) ws t i = sets-append vs ws (set t i v) (suc i) ∙ ap (λ (k : ℕ). sets (sets (set t i v) (suc i) vs) k ws) q
-  where
-    q : suc i + length vs ≡ i + length (v ∷ vs)
-    q = omega arith
 
 -- rows stored one after another
 words-append : (xs ys : List Record) → words (xs ++ ys) ≡ words xs ++ words ys
@@ -83,47 +65,25 @@ row-like t u r s h =
 
 -- a row is inside its table
 pub row-within : (t : List ℕ) (r : ℕ) → r < rowCount t → r * rowWords + rowWords ≤ length t
-unfolding rowCount
-row-within t r h = omega arith
-
--- stores keep the number of rows
-pub rowCount-sets : (t : List ℕ) (i : ℕ) (vs : List ℕ) → rowCount (sets t i vs) ≡ rowCount t
-unfolding rowCount
-rowCount-sets t i vs = rw (length-sets t i vs)
+row-within = KindLaws.row-within records
 
 -- ---- some records in rows n, n + 1, ..
 
 module _ (t : List ℕ) (n : ℕ) where
   pub rows-none : withRows t n [] ≡ t
-  unfolding words
-  rows-none = refl
+  rows-none = KindLaws.rows-none records t n
 
   pub rowCount-rows : (xs : List Record) → rowCount (withRows t n xs) ≡ rowCount t
-  rowCount-rows xs = rowCount-sets t (n * rowWords) (words xs)
+  rowCount-rows = KindLaws.rowCount-rows records t n
 
   -- one row, then those behind it
   pub rows-onward : (x : Record) (xs : List Record) → n < rowCount t → withRows (withRow t n x) (n + 1) xs ≡ withRows t n (x ∷ xs)
-  unfolding words wordsOf withRow
-  rows-onward x xs h = rw (lt-ltb _ _ h) (ap (λ (k : ℕ). sets (sets t (n * rowWords) (wordsOf x)) k (words xs)) q ∙ sym (sets-append (wordsOf x) (words xs) t (n * rowWords)))
-    where
-      q : (n + 1) * rowWords ≡ n * rowWords + rowWords
-      q = omega arith
+  rows-onward = KindLaws.rows-onward records t n
 
   -- row n + k is record k
   pub rows-read : (d : Record) (xs : List Record) (k : ℕ) → n + length xs ≤ rowCount t → k < length xs → rowAt (withRows t n xs) (n + k) ≡ getD xs k d
-  unfolding rowAt rowCount
-  rows-read d xs k h m =
-      rw (sets-eq (words xs) t (n * rowWords) fits, append-assoc, q)
-      (numbers-shift (take (n * rowWords) t) (words xs ++ rest) (k * rowWords) ∙ words-row d xs k rest m)
-    where
-      rest : List ℕ
-      rest = drop (n * rowWords + length (words xs)) t
-
-      fits : n * rowWords + length (words xs) ≤ length t
-      fits = omega (arith, length-words xs)
-
-      q : (n + k) * rowWords ≡ length (take (n * rowWords) t) + k * rowWords
-      q = omega (arith, length-take-le (n * rowWords) t (omega (arith, fits)))
+  unfolding rowAt wordsOf
+  rows-read = KindLaws.rows-read records numbersAt (λ x. x) numbers-shift (λ x rest. refl) t n
 
   -- every other row is as it was
   pub rows-other : (xs : List Record) (r : ℕ) → (r < n) ⊎ (n + length xs ≤ r) → rowAt (withRows t n xs) r ≡ rowAt t r
@@ -135,20 +95,13 @@ module _ (t : List ℕ) (n : ℕ) where
 module _ (t : List ℕ) (r : ℕ) where
   -- with a row r, and without
   pub with-row : (x : Record) → r < rowCount t → withRow t r x ≡ withRows t r (x ∷ [])
-  unfolding withRow words wordsOf
-  with-row x h = rw (lt-ltb _ _ h)
+  with-row = KindLaws.with-row records t r
 
   pub without-row : (x : Record) → rowCount t ≤ r → withRow t r x ≡ t
-  unfolding withRow
-  without-row x h = rw (le-ltb _ _ h)
+  without-row = KindLaws.without-row records t r
 
   pub length-withRow : (x : Record) → length (withRow t r x) ≡ length t
-  unfolding withRow
-  length-withRow x = go (ltb r (rowCount t))
-    where
-      go : (b : Bool) → length (cond b (sets t (r * rowWords) (wordsOf x)) t) ≡ length t
-      go true = length-sets t (r * rowWords) (wordsOf x)
-      go false = refl
+  length-withRow = KindLaws.length-withRow records t r
 
   -- the stored row is the record, and every other is as it was
   pub row-stored : (x : Record) → r < rowCount t → rowAt (withRow t r x) r ≡ x
@@ -164,29 +117,17 @@ module _ (t : List ℕ) (r : ℕ) where
 
   -- the answer, and the table afterwards
   pub stored-kept : (x : Record) → r < rowCount t → StoredAt t r x stored.Kept (sets t (r * rowWords) (wordsOf x))
-  unfolding storedOf withRow
-  stored-kept x h = record { answer = rw (lt-ltb _ _ h); table = rw (lt-ltb _ _ h) }
+  stored-kept = KindLaws.stored-kept records t r
 
   pub stored-full : (x : Record) → rowCount t ≤ r → StoredAt t r x (stored.Refused (TableFull (rowCount t))) t
-  unfolding storedOf withRow
-  stored-full x h = record { answer = rw (le-ltb _ _ h); table = rw (le-ltb _ _ h) }
+  stored-full = KindLaws.stored-full records t r
 
   -- what an answer tells of the table
   pub kept-inside : storedOf t r ≡ stored.Kept → r < rowCount t
-  unfolding storedOf
-  kept-inside e = go (ltb r (rowCount t)) refl e
-    where
-      go : (b : Bool) → ltb r (rowCount t) ≡ b → cond b stored.Kept (stored.Refused (TableFull (rowCount t))) ≡ stored.Kept → r < rowCount t
-      go true h q = ltb-true _ _ h
-      go false h q = let z : _≡_ {A = ℕ} 0 1 = cc in absurd (omega arith)
+  kept-inside = KindLaws.kept-inside records t r
 
   pub full-outside : (f : Refusal) → storedOf t r ≡ stored.Refused f → (rowCount t ≤ r) × (f ≡ TableFull (rowCount t))
-  unfolding storedOf
-  full-outside f e = go (ltb r (rowCount t)) refl e
-    where
-      go : (b : Bool) → ltb r (rowCount t) ≡ b → cond b stored.Kept (stored.Refused (TableFull (rowCount t))) ≡ stored.Refused f → (rowCount t ≤ r) × (f ≡ TableFull (rowCount t))
-      go true h q = let z : _≡_ {A = ℕ} 0 1 = cc in absurd (omega arith)
-      go false h q = (ltb-false _ _ h, cc)
+  full-outside = KindLaws.full-outside records t r
 
 -- ---- spans
 

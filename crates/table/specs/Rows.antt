@@ -1,21 +1,20 @@
 -- A record's row in a table of numbers: its words, reading it, and the table with it stored. Of a table of bytes, these are about its
 -- numbers (`numbersIn`).
 use Prim.Native.Nat.{ℕ, _+_, _*_, _/_}
-use mathlib.Core.Path.{_≡_}
+use mathlib.Core.Path.{_≡_, refl}
 use mathlib.Core.List.{List, [], _∷_, _++_}
 use mathlib.Core.Bool.{Bool, true, false, cond}
 use lib.ListN.{length, getD}
-use lib.Seq.{sets}
-use lib.Dec.{eqb, ltb}
+use lib.Dec.{eqb, ltb, lit<}
 use Rattle.refusal.specs.declared.Refusal.{Refusal}
-use Rattle.refusal.specs.declared.Refusal.the-variants.{BadRow, TableFull}
+use Rattle.refusal.specs.declared.Refusal.the-variants.{BadRow}
 use Rattle.record.specs.declared.Record.{Record}
 use Rattle.table.specs.declared.InUse.{InUse}
 use Rattle.table.specs.declared.InUse.the-variants as used
 use Rattle.table.specs.declared.Held.{Held}
 use Rattle.table.specs.declared.Held.the-variants as held
 use Rattle.table.specs.declared.Stored.{Stored}
-use Rattle.table.specs.declared.Stored.the-variants as stored
+use Rattle.table.specs.Kinds
 
 -- ---- the words of a row
 
@@ -54,9 +53,42 @@ rowCount t = length t / rowWords
 unfoldable pub rowAt : List ℕ → ℕ → Record
 rowAt t r = numbersAt t (r * rowWords)
 
+-- ---- rows of records as a kind of row
+
+pub record-sized : (x : Record) → length (wordsOf x) ≡ rowWords
+unfolding wordsOf
+record-sized x = refl
+
+pub no-words : words [] ≡ []
+unfolding words
+no-words = refl
+
+pub more-words : (x : Record) (xs : List Record) → words (x ∷ xs) ≡ wordsOf x ++ words xs
+unfolding words
+more-words x xs = refl
+
+pub rows-counted : (t : List ℕ) → rowCount t ≡ length t / rowWords
+unfolding rowCount
+rows-counted t = refl
+
+abbrev pub records : Kinds.Kind
+records =
+    record {
+      Row = Record;
+      size = rowWords;
+      wordsOf = wordsOf;
+      words = words;
+      rowCount = rowCount;
+      some = lit< tt;
+      sized = record-sized;
+      no-words = no-words;
+      more-words = more-words;
+      counted = rows-counted;
+    }
+
 -- the table with some records in rows n, n + 1, ..
 abbrev pub withRows : List ℕ → ℕ → List Record → List ℕ
-withRows t n xs = sets t (n * rowWords) (words xs)
+withRows = Kinds.withRows records
 
 -- ---- reading a row
 
@@ -102,14 +134,13 @@ namedAt t n r bytes = namedOf bytes (usedAt t n r)
 -- ---- storing a row
 
 -- the answer: refusal 8, with the table's whole rows, where it has no row r
-unfoldable pub storedOf : List ℕ → ℕ → Stored
-storedOf t r = cond (ltb r (rowCount t)) stored.Kept (stored.Refused (TableFull (rowCount t)))
+abbrev pub storedOf : List ℕ → ℕ → Stored
+storedOf = Kinds.storedOf records
 
 -- the table with a record in row r; as it was, where it has no row r
-unfoldable pub withRow : List ℕ → ℕ → Record → List ℕ
-withRow t r x = cond (ltb r (rowCount t)) (sets t (r * rowWords) (wordsOf x)) t
+abbrev pub withRow : List ℕ → ℕ → Record → List ℕ
+withRow = Kinds.withRow records
 
 -- what storing a record in row r tells, and the table afterwards
-pub record StoredAt (before : List ℕ) (r : ℕ) (x : Record) (told : Stored) (after : List ℕ) : Type 0 where
-  pub answer : told ≡ storedOf before r
-  pub table : after ≡ withRow before r x
+abbrev pub StoredAt : List ℕ → ℕ → Record → Stored → List ℕ → Type 0
+StoredAt = Kinds.StoredAt records

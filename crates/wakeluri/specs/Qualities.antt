@@ -18,8 +18,7 @@ use Rattle.fastq.specs.declared.QualityRow.{QualityRow}
 use Rattle.fastq.specs.declared.Part.{Part}
 use Rattle.fastq.specs.declared.Part.the-variants.{Bases, Qualities}
 use Rattle.fastq_table.specs.Rows.{withRows, usedAt, qualitiesAt}
-use Rattle.fastq_table.specs.Fill.{Found}
-use Rattle.fastq_table.specs.Bytes.{FilledBytes}
+use Rattle.fastq_table.specs.Fill.{Found, FilledBytes}
 use Rattle.fastq_line.specs.declared.LineRead.{LineRead}
 use Rattle.fastq_line.specs.declared.LineRead.the-variants as read
 use Rattle.fastq_line.specs.SixColumns.{lineWritten}

@@ -5,14 +5,14 @@ use mathlib.Core.Path.{_≡_, refl, _∙_}
 use native.Mathlib.Omega.{arith}
 use lib.ListN.{length}
 use borrow.Author.Needs.{needs}
-use Rattle.fastq_table.specs.Rows.{rowWords}
-use Rattle.fastq_table.specs.ByteLaws.{OnwardIn, in-start, in-count, in-on, in-stops}
+use Rattle.table.specs.KindLaws.{OnwardIn, in-start, in-count, in-on, in-stops}
+use Rattle.fastq_table.specs.Rows.{rowWords, qualityRows}
 use Rattle.fastq_index.specs.File.{rowsAt}
 use Rattle.fastq_index.proofs.index_rows.Statement.{statement}
 use Rattle.fastq_index.proofs.index_rows.Tie as tie
 
 abbrev Inv-loop : tie.InvT-loop
-Inv-loop s table₀ at₀ n₀ table at n = (length table ≡ length table₀) × OnwardIn table₀ (rowsAt s 0) n (rowsAt s at) table
+Inv-loop s table₀ at₀ n₀ table at n = (length table ≡ length table₀) × OnwardIn qualityRows table₀ (rowsAt s 0) n (rowsAt s at) table
 
 abbrev μ-loop : tie.MeasureT-loop
 μ-loop s table₀ at₀ n₀ table at n = length s - at
@@ -35,7 +35,7 @@ enum-known-behind c = search needs
 
 -- a turn that goes on: what the file from its place on still gives is the row that was kept, and what the file behind it gives
 turn : (c : tie.After-behind Inv-loop μ-loop) → let k = c .before .before .before .before in let l = k .before .before .before in let a = l .before .before .before .args in let b = c .behind .given .0 .0 in
-    OnwardIn (a .table .now) (rowsAt (a .s .now) 0) (l .loop .n + 1) (rowsAt (a .s .now) b) (k .keep .last .0)
+    OnwardIn qualityRows (a .table .now) (rowsAt (a .s .now) 0) (l .loop .n + 1) (rowsAt (a .s .now) b) (k .keep .last .0)
     × (l .loop .at < length (a .s .now)) × (l .loop .at < b)
 turn c =
     let k = c .before .before .before .before in

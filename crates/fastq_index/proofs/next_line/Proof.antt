@@ -1,6 +1,6 @@
 -- `fastq_index::next_line` meets its contract: the text from a line on is the row of that line, and the text behind it.
 -- Assumes nothing.
-use Rattle.fastq_table.specs.Laws.{next-row, next-stop}
+use Rattle.table.specs.KindLaws.{next-row, next-stop}
 use Rattle.fastq_index.specs.TextLaws.{index-row, index-ended, index-refused}
 use borrow.Author.Needs.{needs}
 use Rattle.fastq_index.proofs.next_line.Statement.{statement}

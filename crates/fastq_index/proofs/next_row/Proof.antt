@@ -1,6 +1,6 @@
 -- `fastq_index::next_row` meets its contract: the file from a record on is the row of that record, and the file behind it.
 -- Assumes nothing.
-use Rattle.fastq_table.specs.Laws.{next-row, next-stop}
+use Rattle.table.specs.KindLaws.{next-row, next-stop}
 use Rattle.fastq_index.specs.FileLaws.{file-row, file-end, file-refused}
 use borrow.Author.Needs.{needs}
 use Rattle.fastq_index.proofs.next_row.Statement.{statement}

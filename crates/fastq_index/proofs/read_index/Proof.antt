@@ -3,7 +3,7 @@
 use mathlib.Core.Path.{sym, _∙_}
 use native.Mathlib.Omega.{arith}
 use Rattle.fastq_index.specs.Text.{indexIn}
-use Rattle.fastq_table.specs.ByteLaws.{filled-bytes, filled-nothing}
+use Rattle.table.specs.KindLaws.{filled-bytes, filled-nothing}
 use borrow.Author.Needs.{needs}
 use Rattle.fastq_index.proofs.read_index.Statement.{statement}
 use Rattle.fastq_index.proofs.read_index.Tie as tie

@@ -3,8 +3,8 @@
 use mathlib.Core.Path.{_≡_, sym, ap, _∙_}
 use native.Mathlib.Omega.{arith}
 use Rattle.fastq.specs.declared.QualityRow.{QualityRow}
-use Rattle.fastq_table.specs.Rows.{rowAt}
-use Rattle.fastq_table.specs.ByteLaws.{Inside, row-inside}
+use Rattle.table.specs.KindLaws.{Inside, row-inside}
+use Rattle.fastq_table.specs.Rows.{rowAt, qualityRows}
 use Rattle.fastq_table.specs.RowLaws.{qualities-none, qualities-some}
 use borrow.Author.Needs.{needs}
 use Rattle.fastq_table.proofs.qualities.Statement.{statement}
@@ -17,8 +17,8 @@ returns : tie.Need-returns
 returns c = qualities-none _ _ (rw (c .before .rows .ensures) at (c .if1 .taken))
 
 -- the row is inside the table
-inside : (c : tie.Else1) → let a = c .before .before .before .args in Inside (a .table .now) (a .row)
-inside c = row-inside _ _ _ (c .before .rows .ensures) (c .if1 .left)
+inside : (c : tie.Else1) → let a = c .before .before .before .args in Inside qualityRows (a .table .now) (a .row)
+inside c = row-inside qualityRows _ _ _ (c .before .rows .ensures) (c .if1 .left)
 
 mul-read : tie.Need-mul-read
 mul-read c = omega (arith, inside c)

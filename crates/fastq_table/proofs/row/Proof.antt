@@ -2,8 +2,8 @@
 -- Assumes nothing.
 use mathlib.Core.Path.{_≡_, sym, ap, _∙_}
 use native.Mathlib.Omega.{arith}
-use Rattle.fastq_table.specs.Rows.{rowAt}
-use Rattle.fastq_table.specs.ByteLaws.{Inside, row-inside}
+use Rattle.table.specs.KindLaws.{Inside, row-inside}
+use Rattle.fastq_table.specs.Rows.{rowAt, qualityRows}
 use Rattle.fastq_table.specs.RowLaws.{used-lacking, used-unused, used-row}
 use borrow.Author.Needs.{needs}
 use Rattle.fastq_table.proofs.row.Statement.{statement}
@@ -25,8 +25,8 @@ returns-2 : tie.Need-returns-2
 returns-2 c = c .none2 .ensures ∙ used-unused _ _ _ _ (rw (c .before .before .before .rows .ensures) at (c .before .before .if1 .left)) (c .before .if2 .taken)
 
 -- the row is inside the table
-inside : (c : tie.Else2) → let a = c .before .before .before .before .args in Inside (a .table .now) (a .row)
-inside c = row-inside _ _ _ (c .before .before .rows .ensures) (omega arith)
+inside : (c : tie.Else2) → let a = c .before .before .before .before .args in Inside qualityRows (a .table .now) (a .row)
+inside c = row-inside qualityRows _ _ _ (c .before .before .rows .ensures) (omega arith)
 
 mul-read : tie.Need-mul-read
 mul-read c = omega (arith, inside c)

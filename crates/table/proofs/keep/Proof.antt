@@ -1,5 +1,7 @@
 -- `table::keep` meets its contract: what storing the record tells is how filling goes on.
 -- Assumes nothing.
+use mathlib.Core.Path.{ap}
+use Rattle.table.specs.Fill.{turnOf}
 use Rattle.table.specs.Laws.{kept-stop, kept-on, kept-full}
 use borrow.Author.Needs.{needs}
 use Rattle.table.proofs.keep.Statement.{statement}
@@ -21,7 +23,7 @@ enum-known-f : tie.Need-enum-known-f
 enum-known-f c = search needs
 
 returns : tie.Need-returns
-returns c = kept-stop _ _ _ _ (c .before .next .given .1)
+returns c = kept-stop _ _ _ _ (ap turnOf (c .before .next .given .1))
 
 same-length : tie.Need-same-length
 same-length c = search needs
@@ -29,7 +31,7 @@ same-length c = search needs
 returns-2 : tie.Need-returns-2
 returns-2 c =
     let s = c .before .before .before .before in
-    kept-on _ _ _ _ _ (s .before .before .before .next2 .given .1) _ _ (s .store .ensures) (c .enum-told .given .1)
+    kept-on _ _ _ _ _ (ap turnOf (s .before .before .before .next2 .given .1)) _ _ (s .store .ensures) (c .enum-told .given .1)
 
 same-length-2 : tie.Need-same-length-2
 same-length-2 c = search needs
@@ -37,7 +39,7 @@ same-length-2 c = search needs
 returns-3 : tie.Need-returns-3
 returns-3 c =
     let s = c .before .before .before .before .before in
-    kept-full _ _ _ _ _ (s .before .before .before .next2 .given .1) _ _ (s .store .ensures) _ (c .before .f .given .1)
+    kept-full _ _ _ _ _ (ap turnOf (s .before .before .before .next2 .given .1)) _ _ (s .store .ensures) _ (c .before .f .given .1)
 
 pub keep-spec : {M : Type 1} → statement M
 keep-spec =

@@ -1,6 +1,7 @@
 -- `table::bytes::keep` meets its contract: what storing the record tells is how filling goes on.
 -- Assumes nothing.
-use mathlib.Core.Path.{refl}
+use mathlib.Core.Path.{refl, ap}
+use Rattle.table.specs.Fill.{turnOf}
 use Rattle.table.specs.Laws.{kept-stop, kept-on, kept-full}
 use borrow.Author.Needs.{needs}
 use Rattle.table.proofs.bytes.keep.Statement.{statement}
@@ -22,7 +23,7 @@ enum-known-f : tie.Need-enum-known-f
 enum-known-f c = search needs
 
 returns : tie.Need-returns
-returns c = record { kept = kept-stop _ _ _ _ (c .before .next .given .1); rest = refl }
+returns c = record { kept = kept-stop _ _ _ _ (ap turnOf (c .before .next .given .1)); rest = refl }
 
 same-length : tie.Need-same-length
 same-length c = search needs
@@ -30,7 +31,7 @@ same-length c = search needs
 returns-2 : tie.Need-returns-2
 returns-2 c =
     let s = c .before .before .before .before in
-    record { kept = kept-on _ _ _ _ _ (s .before .before .before .next2 .given .1) _ _ (s .store .ensures .stored) (c .enum-told .given .1); rest = s .store .ensures .rest }
+    record { kept = kept-on _ _ _ _ _ (ap turnOf (s .before .before .before .next2 .given .1)) _ _ (s .store .ensures .stored) (c .enum-told .given .1); rest = s .store .ensures .rest }
 
 same-length-2 : tie.Need-same-length-2
 same-length-2 c = search needs
@@ -38,7 +39,7 @@ same-length-2 c = search needs
 returns-3 : tie.Need-returns-3
 returns-3 c =
     let s = c .before .before .before .before .before in
-    record { kept = kept-full _ _ _ _ _ (s .before .before .before .next2 .given .1) _ _ (s .store .ensures .stored) _ (c .before .f .given .1); rest = s .store .ensures .rest }
+    record { kept = kept-full _ _ _ _ _ (ap turnOf (s .before .before .before .next2 .given .1)) _ _ (s .store .ensures .stored) _ (c .before .f .given .1); rest = s .store .ensures .rest }
 
 pub keep-spec : {M : Type 1} → statement M
 keep-spec =
