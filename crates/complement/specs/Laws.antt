@@ -4,7 +4,7 @@ use mathlib.Core.Path.{_≡_, refl, sym, _∙_}
 use mathlib.Core.List.{List, [], _∷_, _++_, map, reverse, append-nil, append-assoc, reverse-append, reverse-cons, map-append}
 use lib.Dec.{eqb}
 use lib.ListN.{length, take, drop, getD, set, length-set, length-map, length-append, length-drop, length-reverse, drop-of-length-le}
-use lib.Seq.{drop-length, drop-cons, take-suc, set-at, length-take-le, append-snoc}
+use lib.Seq.{drop-length, drop-cons, take-suc, take-all, set-at, length-take-le, append-snoc}
 use borrow.Author.Tests.{eq-eqb, ne-eqb}
 use native.Mathlib.Omega.{arith}
 use native.Mathlib.Numerals.{add-one}
@@ -111,6 +111,28 @@ reversing-on s out mid after n m l p q = record { same = q .same ∙ p .same; mo
 pub reversing-all : (s out after : List ℕ) → length s ≤ length out → Reversing s (length s) 0 out after → after ≡ outputOf (given (reverse (map partner s))) out
 unfolding poured
 reversing-all s out after fits p = p .more out fits (rw (drop-length s))
+
+-- the same from the front: the complements of the bases from the n-th to the m-th
+pub record Writing (s : List ℕ) (n m : ℕ) (out after : List ℕ) : Type 0 where
+  pub same : length after ≡ length out
+  pub more : (out₀ : List ℕ) → length s ≤ length out₀ → out ≡ outputOf (given (map partner (take n s))) out₀ → after ≡ outputOf (given (map partner (take m s))) out₀
+
+pub writing-none : (s out : List ℕ) (n m : ℕ) → n ≡ m → Writing s n m out out
+writing-none s out n m e = record { same = refl; more = λ out₀ fits inv. rw e at inv }
+
+pub writing-next : (s out mid : List ℕ) (n i r : ℕ) → Writing s n i out mid → i < length s → r ≡ partner (getD s i 0) → Writing s n (suc i) out (set mid i r)
+writing-next s out mid n i r p h e =
+    record {
+      same = length-set mid i r ∙ p .same;
+      more = λ out₀ fits inv. write-turn s mid out₀ i h fits r e (p .more out₀ fits inv);
+    }
+
+pub writing-on : (s out mid after : List ℕ) (n m l : ℕ) → Writing s n m out mid → Writing s m l mid after → Writing s n l out after
+writing-on s out mid after n m l p q = record { same = q .same ∙ p .same; more = λ out₀ fits inv. q .more out₀ fits (p .more out₀ fits inv) }
+
+pub writing-all : (s out after : List ℕ) (n : ℕ) → length s ≤ n → length s ≤ length out → Writing s 0 n out after → after ≡ outputOf (given (map partner s)) out
+unfolding poured
+writing-all s out after n h fits p = rw (take-all n s h) at (p .more out fits refl)
 
 -- ---- what a call tells
 

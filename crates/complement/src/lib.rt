@@ -4,16 +4,17 @@
 // byte that has no complement (24, with its place and the byte): the first such byte, in the reverse complement the last. A
 // refusal leaves the output as it was. Else the output begins with the answer; bytes behind it stay.
 //
-// So all bytes are judged first, and then written. Most sequences are plain: A, C, G, T and N alone, in either case. These are
-// written by a few bit operations a base, of which the compiler does 16 and more at once; those that have other letters by one look
-// into a table for each base. Both write the same `partner`, and both kinds are judged by bits, since a look a base would cost
-// twice as much. No loop has a branch in it, but for the kind, which stays the same.
+// So all bytes are judged first, and then written. A base's complement is one look into a table. Where many bases stand together the
+// compiler does 16 and more at once, without a look for each: of a plain sequence (A, C, G, T and N alone, in either case, as most are)
+// by a few bit operations a base, of any other by flipping the bits in which its pair differs, which are looked up once, before the
+// loop. All write the same `partner`, and both kinds are judged by bits, since a look a base would cost more. No loop has a branch
+// in it, but for the kind, which stays the same.
 use output::Written;
 use refusal::Refusal;
 ghost use mathlib.Core.Path.{_≡_};
-ghost use mathlib.Core.Bool.{true, false};
+ghost use mathlib.Core.Bool.{true, false, cond};
 ghost use mathlib.Core.List.{map, reverse};
-ghost use Prim.Native.Nat.{_+_, _≤_};
+ghost use Prim.Native.Nat.{_≤_};
 ghost use lib.ListN.{length};
 ghost use Rattle.refusal.specs.declared.Refusal.the-variants.{NoRoom, NoComplement};
 ghost use Rattle.output.specs.Outcome.{leaves};
@@ -21,7 +22,7 @@ ghost use Rattle.letters.specs.Letters.{partner};
 ghost use Rattle.letters.specs.Table.{IsTable};
 ghost use Rattle.complement.specs.Complement.{given, complementOf, reverseComplementOf, poured, complementWritten};
 ghost use Rattle.complement.specs.Kinds.{isOf, allOf, judgedOf, answerOf, outputOf};
-ghost use Rattle.complement.specs.Laws.{Reversing};
+ghost use Rattle.complement.specs.Flips.{flip, AreFlips};
 
 // How many bytes are judged at once.
 const BLOCK: usize = 4096;
@@ -94,15 +95,98 @@ fn flipped_plain(b: u8) -> u8
     b ^ 21 ^ ((b / 2) & 5) ^ ((b & 2) * 8)
 }
 
+// The bits in which the two letters of a pair differ: of A and T 21, of C and G 4, of K and M 6, of R and Y 11, of D and H 12, of B and V
+// 20, as of U and A. W, S and N are their own partners.
+struct Flips {
+    at: u8,
+    cg: u8,
+    km: u8,
+    ry: u8,
+    dh: u8,
+    bv: u8,
+}
+
+// The complement of any byte: one look into the table.
+fn look(table: &[u8; 256], b: u8) -> u8
+    requires { ⌜ IsTable partner (now table) ⌝ }
+    ensures { λ r. ⌜ r ≡ partner b ⌝ }
+{
+    table[b as usize]
+}
+
+// The bits in which a byte and its partner differ, by one look.
+fn flip_of(table: &[u8; 256], b: u8) -> u8
+    requires { ⌜ IsTable partner (now table) ⌝ }
+    ensures { λ r. ⌜ r ≡ flip b ⌝ }
+{
+    look(table, b) ^ b
+}
+
+// Those of each pair.
+fn flips_of(table: &[u8; 256]) -> Flips
+    requires { ⌜ IsTable partner (now table) ⌝ }
+    ensures { λ r. ⌜ AreFlips (r .at) (r .cg) (r .km) (r .ry) (r .dh) (r .bv) ⌝ }
+{
+    let at = flip_of(table, b'a');
+    let cg = flip_of(table, b'c');
+    let km = flip_of(table, b'k');
+    let ry = flip_of(table, b'r');
+    let dh = flip_of(table, b'd');
+    let bv = flip_of(table, b'b');
+    Flips {
+        at,
+        cg,
+        km,
+        ry,
+        dh,
+        bv,
+    }
+}
+
+// Some bits where a test holds, else none.
+fn bits_if(test: bool, bits: u8) -> u8
+    ensures { λ r. ⌜ (r ≡ cond test bits 0) × (r ≤ bits) ⌝ }
+{
+    if test { bits } else { 0 }
+}
+
+// The complement of a base that has one: its pair is found, and the bits of the pair are flipped. One test finds C and G, which differ
+// in one bit; so K and M with I and O, and D and H with L, which have no complement. At most one pair is found, so their bits are added,
+// for which the compiler makes the best code.
+fn flipped(f: Flips, b: u8) -> u8
+    requires { ⌜ (isOf false b ≡ true) × AreFlips (f .at) (f .cg) (f .km) (f .ry) (f .dh) (f .bv) ⌝ }
+    ensures { λ r. ⌜ r ≡ partner b ⌝ }
+{
+    let low = b | 32;
+    let at = bits_if((low == b'a') | (low == b't'), f.at);
+    let cg = bits_if(low | 4 == b'g', f.cg);
+    let km = bits_if(low | 6 == b'o', f.km);
+    let ry = bits_if((low == b'r') | (low == b'y'), f.ry);
+    let dh = bits_if(low | 12 == b'l', f.dh);
+    let bv = bits_if((low == b'b') | (low == b'v') | (low == b'u'), f.bv);
+    b ^ (at + cg + km + ry + dh + bv)
+}
+
 // The complement of a base of the kind.
-fn complement_base(table: &[u8; 256], b: u8, plain: bool) -> u8
-    requires { ⌜ (isOf plain b ≡ true) × IsTable partner (now table) ⌝ }
+fn complement_base(f: Flips, b: u8, plain: bool) -> u8
+    requires { ⌜ (isOf plain b ≡ true) × AreFlips (f .at) (f .cg) (f .km) (f .ry) (f .dh) (f .bv) ⌝ }
     ensures { λ r. ⌜ r ≡ partner b ⌝ }
 {
     if plain {
         return flipped_plain(b);
     }
-    table[b as usize]
+    flipped(f, b)
+}
+
+// How many of so many bases are looked up one by one: of plain ones none, of others those behind the last 32 that are done together. Of
+// 100 bases, 4.
+fn singles(bases: usize, plain: bool) -> usize
+    ensures { λ r. ⌜ r ≤ bases ⌝ }
+{
+    if plain {
+        return 0;
+    }
+    bases % 32
 }
 
 // The refusal of an output that is shorter than its answer.
@@ -160,39 +244,17 @@ fn write(bases: &[u8], out: &mut [u8], plain: bool)
     ensures { λ _. ⌜ now (out .exit) ≡ outputOf (given (map partner (now (bases .entry)))) (now (out .entry)) ⌝ }
 {
     let table = letters::partners();
+    let f = flips_of(&table);
+    let wide = bases.len() - singles(bases.len(), plain);
     let mut i = 0;
-    while i < bases.len() {
-        out[i] = complement_base(&table, bases[i], plain);
+    while i < wide {
+        out[i] = complement_base(f, bases[i], plain);
         i += 1;
     }
-}
-
-// The complement of any byte: one look into the table.
-fn look(table: &[u8; 256], b: u8) -> u8
-    requires { ⌜ IsTable partner (now table) ⌝ }
-    ensures { λ r. ⌜ r ≡ partner b ⌝ }
-{
-    table[b as usize]
-}
-
-// Writes the complements of 16 bases, from the last to the first. The size is constant, so that 16 looks stand side by side.
-fn reverse16(table: &[u8; 256], bases: &[u8], from: usize, out: &mut [u8], at: usize)
-    requires { ⌜ IsTable partner (now table) × (from + 16 + at ≡ length (now bases)) × (length (now bases) ≤ length (now out)) ⌝ }
-    ensures { λ _. ⌜ Reversing (now (bases .entry)) (from + 16) from (now (out .entry)) (now (out .exit)) ⌝ }
-{
-    for k in 0..16 {
-        out[at + k] = look(table, bases[from + (15 - k)]);
+    while i < bases.len() {
+        out[i] = look(&table, bases[i]);
+        i += 1;
     }
-}
-
-// From how many bases on they are written 16 at once: plain ones never, for they are not looked up.
-fn least_at_once(plain: bool) -> usize
-    ensures { λ r. ⌜ 16 ≤ r ⌝ }
-{
-    if plain {
-        return 18446744073709551615;
-    }
-    16
 }
 
 // Writes the complements of the bases from the last to the first.
@@ -201,17 +263,18 @@ fn write_reversed(bases: &[u8], out: &mut [u8], plain: bool)
     ensures { λ _. ⌜ now (out .exit) ≡ outputOf (given (reverse (map partner (now (bases .entry))))) (now (out .entry)) ⌝ }
 {
     let table = letters::partners();
-    let least = least_at_once(plain);
+    let f = flips_of(&table);
+    let rest = singles(bases.len(), plain);
     let mut i = bases.len();
     let mut at = 0;
-    while least <= i {
-        i -= 16;
-        reverse16(&table, bases, i, out, at);
-        at += 16;
+    while rest < i {
+        i -= 1;
+        out[at] = complement_base(f, bases[i], plain);
+        at += 1;
     }
     while 0 < i {
         i -= 1;
-        out[at] = complement_base(&table, bases[i], plain);
+        out[at] = look(&table, bases[i]);
         at += 1;
     }
 }
