@@ -5,10 +5,8 @@ let held = {}; // the files that are open
 let round = 0;
 let row; // the record that is chosen
 
-const PARTS = ["choosing", "reading", "sheeting", "making", "searching"];
-const FASTQ_PARTS = ["choosing", "reading"];
-function enable(open, fastq) {
-    for (const id of PARTS) byId(id).disabled = !open || (fastq && !FASTQ_PARTS.includes(id));
+function enable(open) {
+    for (const id of ["choosing", "reading", "sheeting", "making", "searching"]) byId(id).disabled = !open;
 }
 function clearResults() {
     for (const id of ["count", "made", "matches", "sheet-told", "scored", "primer-told", "copied", "copied-keys", "exercise-made"]) show(byId(id), "");
@@ -44,20 +42,22 @@ async function isFastq(file) {
     return file.size > 0 && new Uint8Array(await bytesOf(file, 0, 1))[0] === 0x40;
 }
 
-// Hands both files to the worker: in parts where the file is large, or where there is no memory for the whole; false as above.
-async function load(mine, progress) {
+// Hands both files to the worker, and has them judged; undefined where other files were chosen meanwhile.
+async function load(mine, inParts) {
     const { fasta, fai } = held;
+    const strict = byId("strict").checked;
+    const start = performance.now();
+    byId("doing").textContent = t("files.progress");
     const fastq = await isFastq(fasta);
-    if (mine !== round) return false;
-    const begin = (inParts) => ask("begin", { round: mine, fasta: fasta.size, index: fai?.size, fastq, inParts, strict: byId("strict").checked });
-    const inParts = !fastq && isInParts(fasta);
-    try {
-        await begin(inParts);
-    } catch (e) {
-        if (inParts || fastq || byId("memory").value !== "auto" || !(e instanceof NoMemory)) throw e;
-        await begin(true);
-    }
-    return await hand(mine, "fasta", fasta, progress) && (!fai || await hand(mine, "index", fai, () => {}));
+    if (mine !== round) return undefined;
+    await ask("begin", { round: mine, fasta: fasta.size, index: fai?.size, fastq, inParts, strict });
+    if (!await hand(mine, "fasta", fasta, (part) => { byId("progress").value = part; })) return undefined;
+    if (fai && !await hand(mine, "index", fai, () => {})) return undefined;
+    byId("doing").textContent = t("files.judging");
+    byId("progress").removeAttribute("value");
+    const loading = performance.now() - start;
+    const told = await askFile("judge", { strict });
+    return mine === round ? { ...told, loading } : undefined;
 }
 
 async function open() {
@@ -70,19 +70,18 @@ async function open() {
     held = { ...chosen };
     show(byId("verdict"), t("files.reading", { file: held.fasta.name }));
     byId("progress").value = 0;
-    byId("doing").textContent = t("files.progress");
     byId("working").hidden = false;
     await working(byId("verdict"), async () => {
-        const start = performance.now();
-        if (!await load(mine, (part) => { byId("progress").value = part; })) return;
-        byId("doing").textContent = t("files.judging");
-        byId("progress").removeAttribute("value");
-        const loading = performance.now() - start;
-        const told = await askFile("judge", { strict: byId("strict").checked });
-        if (mine !== round) return;
-        document.body.dataset.times = JSON.stringify({ loading, checking: told.checking, indexing: told.indexing });
+        const inParts = isInParts(held.fasta);
+        // where there is no memory for the whole file it is read in parts, unless it is said otherwise
+        const told = await load(mine, inParts).catch((e) => {
+            if (inParts || byId("memory").value !== "auto" || !(e instanceof NoMemory)) throw e;
+            return load(mine, true);
+        });
+        if (!told) return;
+        document.body.dataset.times = JSON.stringify({ loading: told.loading, checking: told.checking, indexing: told.indexing });
         judged(told);
-        if (told.records !== undefined) await opened(told.fastq);
+        if (told.records !== undefined) await opened();
     });
     if (mine === round) byId("working").hidden = true;
     document.body.dataset.round = String(mine);
@@ -106,17 +105,16 @@ function judged(told) {
         return;
     }
     const records = many("record", told.records);
-    const how = told.fastq ? "fastq" : told.inParts ? "parts" : "whole";
     if (told.other) {
         show(byId("verdict"), t("files.other", { index, fasta, line: told.other.line, records }), "bad");
         show(byId("detail"), t("files.other.detail"));
         showOther(told.other);
     } else if (told.accepted) {
         show(byId("verdict"), t(told.fastq ? "files.accepted.both" : "files.accepted", { index, fasta, records }), "good");
-        if (how !== "whole") show(byId("detail"), t(`files.accepted.${how}`));
+        if (told.inParts) show(byId("detail"), t("files.accepted.parts"));
     } else {
         show(byId("verdict"), t("files.indexed", { fasta, records }));
-        show(byId("detail"), t(`files.indexed.${how}`));
+        show(byId("detail"), t(told.inParts ? "files.indexed.parts" : "files.indexed.whole"));
     }
 }
 
@@ -150,8 +148,8 @@ function showOther({ line, given, made: text }) {
 }
 
 // A file that can be read: its records are listed.
-async function opened(fastq) {
-    enable(true, fastq);
+async function opened() {
+    enable(true);
     await list();
 }
 
@@ -217,8 +215,8 @@ byId("make").addEventListener("click", () => working(byId("made"), async () => {
     const file = `${chosen.fasta.name}.fai`;
     const instead = byId("verdict").classList.contains("bad");
     if (instead) {
-        const { fastq } = await askFile("anew");
-        await opened(fastq);
+        await askFile("anew");
+        await opened();
     }
     save(file, told.parts, byId("saved"));
     show(byId("made"), t(instead ? "index.made.instead" : "index.made", { file, records: many("record", told.records) }), "good");

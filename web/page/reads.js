@@ -1,12 +1,13 @@
 // What is asked of a file that is open: reads, sheets, exercises, primers. Part of the worker. A file in parts may want bytes for any of these
 // (held.js): then nothing was done, and it is asked again.
 import { ROW } from "./wakeluri.js";
-import { Fastq, Wanted } from "./held.js";
+import { Wanted, allOf } from "./held.js";
+import { qualitiesAsRows } from "./fastq.js";
 import { shown } from "./places.js";
 import { likeBounds, readings, sheetLines, typedBytes, written } from "./regions.js";
 
 // What is open: the module's calls, the file and its index, its own rows, by which records are listed, and the rows that reads go by: the same, or
-// those of an accepted index. Rows are { names, table, count }.
+// those of an accepted index. Rows are { names, table, count }, and of FASTQ `qualities` too.
 export const now = {};
 export const NOT_OPEN = { notOpen: true };
 
@@ -19,10 +20,10 @@ const latin1 = new TextDecoder("latin1");
 export function span({ names }, [start, length]) {
     return now.proved.bytes(names.part(start, length));
 }
-export function rowOf({ table, size }, row) {
-    return now.proved.row(table, row, size);
+export function rowOf({ table }, row) {
+    return now.proved.row(table, row);
 }
-const nameOf = (rows, row) => span(rows, rowOf(rows, row).name);
+export const nameOf = (rows, row) => span(rows, rowOf(rows, row).name);
 const lengthOf = (rows, row) => rowOf(rows, row).length;
 const textOf = (room) => latin1.decode(now.proved.bytes(room));
 
@@ -55,7 +56,7 @@ function strands({ row, first, last, strand }) {
 
 // The qualities of a region of FASTQ, in the order of the bases that are shown, or of the first of them; or the refusal.
 function qualitiesOf({ row, first, last, strand }) {
-    const read = now.file.exact(now.kept, row, first, last, true);
+    const read = now.file.exact(qualitiesAsRows(now.proved, now.kept, row), 0, first, last);
     if (read.refusal !== 0n || strand !== "other") return read;
     now.proved.bytes(read.out).reverse();
     return read;
@@ -222,13 +223,14 @@ export const READS = {
         const { proved } = now;
         if (!now.kept) return NOT_OPEN;
         return proved.using(() => {
-            const told = strands({ row, first, last, strand });
+            const asked = { row, first, last, strand };
+            // what both want is wanted at once
+            const [told, qualities] = allOf([() => strands(asked), () => (now.file.fastq ? qualitiesOf(asked) : undefined)]);
             if (told.refusal !== 0n) return refused(told);
             const text = (bases) => textOf(bases.part(0, Math.min(most, bases.length)));
             const count = told.found[0].bases.length;
             const answer = { count, strands: told.found.map(({ other, bases }) => ({ other, text: text(bases) })), name: shown(nameOf(now.kept, row)) };
-            if (!(now.file instanceof Fastq)) return answer;
-            const qualities = qualitiesOf({ row, first, last, strand });
+            if (!qualities) return answer;
             return qualities.refusal === 0n ? { ...answer, qualities: shown(proved.bytes(qualities.out.part(0, Math.min(most, count)))) } : refused(qualities);
         });
     },

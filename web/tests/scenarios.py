@@ -103,29 +103,81 @@ def bad_files(p, samples):
     p.expect("a bound that is none", p.read("1", "x"), "Refused", "whole number")
 
 
+FASTQ = b"@r1 first\nACGTN\n+r1\n!\"#$%\n@r2\nGGCC\nAA\n+\n@@II\n~~\n"
+FASTQ_INDEX = b"r1\t5\t10\t5\t6\t20\nr2\t6\t30\t4\t5\t40\n"
+
+
 def fastq(p, samples):
-    file = b"@r1 first\nACGTN\n+r1\n!\"#$%\n@r2\nGGCC\nAA\n+\n@@II\n~~\n"
-    index = b"r1\t5\t10\t5\t6\t20\nr2\t6\t30\t4\t5\t40\n"
-    p.expect("FASTQ", p.open(file), "2 records", "FASTQ")
-    p.expect("its index", repr(p.save("make")), repr(index.decode()))
-    p.expect("bases and qualities", p.read("3", "6", row=1), "4 bases", "BasesCCAA", "QualitiesII~~")
-    p.expect("the other strand", p.read("3", "6", "other", row=1), "TTGG", "last one first~~II")
-    p.expect("past its end", p.read("3", "7", row=1), "refused 17 (length 6)", never=["Qualities"])
-    p.expect("saved as FASTA", repr(p.save("save-fasta") if p.read("", "", row=0) else ""), repr(">r1\nACGTN\n"))
-    p.expect("no sheets of it", str(p.engine.run("return document.getElementById('sheeting').disabled")), "True")
+    fastq_used(p)
+    file, index = FASTQ, FASTQ_INDEX
     p.expect("with its index", p.open(file, index), "Accepted", "every base and every quality")
     p.expect("with another", p.open(file, index.replace(b"\t40", b"\t41")), "Refused", "refused 23 (record 2, base 1)", "The record is r2", "r2→6→30→4→5→41",
-             "a.fa.fai, line 2", "a.fa, line 5", "@r2", never=["leads to every"])
+             "a.fa.fai, line 2", "a.fa, line 9 (byte 40)", "@@II", never=["leads to every"])
     p.expect("nothing is read by it", str(p.engine.run("return document.getElementById('reading').disabled")), "True")
     p.save("make")
     p.expect("but by a new one", p.says("made") + p.read("1", "2", row=1), "Reads go by it now", "GG", "Qualities@@")
+    p.expect("another place of its bases", p.open(file, index.replace(b"\t30", b"\t31")), "refused 23 (record 2, base 1)", "a.fa, line 6 (byte 30)", "GGCC")
+    p.expect("another length", p.open(file, index.replace(b"\t6\t30", b"\t5\t30")), "refused 22 (record 2)", "a.fa, line 5", "@r2")
     p.expect("numbers that lead there too", p.open(b"@r\nACGT\n+\nIIII\n", b"r\t4\t3\t60\t61\t10\n"), "Accepted")
     p.expect("a line missing", p.open(file, b"r1\t5\t10\t5\t6\t20\n"), "no line for record 2", "r2")
     p.expect("a line too many", p.open(file, index + b"r3\t1\t2\t3\t4\t5\n"), "goes on", "line 3")
     p.expect("with five columns", p.open(file, b"r1\t5\t10\t5\t6\n"), "Refused", "the offset of the first quality")
-    p.expect("no '+' line", p.open(b"@r\nAC\nII\n"), "No index can be made", "no '+' line", "refused 38", "line 1")
-    p.expect("too few qualities", p.open(b"@q\nAC\n+\nII\n@r\nACGT\n+\nII\n"), "refused 39 (found 2, expected 4)", "line 5", "after 1 record")
+
+
+def fastq_used(p):
+    """What can be done with FASTQ, held or in parts."""
+    p.expect("FASTQ", p.open(FASTQ), "2 records")
+    p.expect("its index", repr(p.save("make")), repr(FASTQ_INDEX.decode()))
+    p.expect("its records", p.engine.run("return document.getElementById('records').textContent"), "r1 · 5 bases · first", "r2 · 6 bases")
+    p.expect("bases and qualities", p.read("3", "6", row=1), "4 bases", "BasesCCAA", "QualitiesII~~")
+    p.expect("the other strand", p.read("3", "6", "other", row=1), "TTGG", "last one first~~II")
+    p.expect("past its end", p.read("3", "7", row=1), "refused 17 (length 6)", never=["Qualities"])
+    p.expect("saved as FASTA", repr(p.save("save-fasta") if p.read("", "", row=0) else ""), repr(">r1 first\nACGTN\n"))
+    p.tab("sheet")
+    p.fill(regions="r2:3-5 - x\nr1\n")
+    p.expect("a sheet", p.press("answer", "sheet-told") + str([row[1:] for row in p.cells("keys")]), "2 keys", "['r2:3-5', '− (other strand)', 'x', 'TGG']", "'ACGTN'")
+    p.fill(regions="r2:3-7\nr3\n")
+    p.expect("its faults", p.press("answer", "sheet-told") + str(p.cells("keys")), "2 of 2 regions", "refused 17 (length 6)", "refused 15")
+    p.tab("exercise")
+    p.fill(records="1", **{"from": "2", "to": "5"})
+    p.save("make-exercise")
+    p.expect("an exercise", p.says("asks"), "bases 2 to 5 of r2")
+    p.fill(typed="GCGA")
+    p.expect("a score", p.press("score", "scored") + p.text("scores"), "75.0 %", "GCCA", "||x|")
+    p.tab("primer")
+    p.fill(primer="GCMA", where="all")
+    p.expect("a primer", p.press("find", "primer-told") + str(p.cells("places")), "1 place;", "['r2', '2', '5', '+")
+    p.expect("no '+' line", p.open(b"@r\nAC\nII\n"), "No index can be made", "no '+' line", "refused 38", "line 3")
+    p.expect("too few qualities", p.open(b"@q\nAC\n+\nII\n@r\nACGT\n+\nII\n"), "refused 39 (found 2, expected 4)", "line 8", "after 1 record")
+    p.expect("an uneven line", p.open(b"@q\nAC\n+\nII\n@r\nAC\nACG\n+\nII\n"), "refused 6 (found 3, expected 2)", "line 7", "ACG")
     p.expect("FASTA behind it", p.open(b"@q\nAC\n+\nII\n>s\nAC\n"), "does not begin with '@', at byte 11", "line 5")
+
+
+def fastq_in_parts(p, samples):
+    """FASTQ of which nothing is held."""
+    fastq_used(p)
+    file, index = FASTQ, FASTQ_INDEX
+    p.expect("in parts", p.open(file), "read in parts", "not kept in memory")
+    p.expect("with its index", p.open(file, index), "Accepted", "every base and every quality", "same names and numbers")
+    p.expect("with another", p.open(file, index.replace(b"\t40", b"\t41")), "Not accepted: line 2", "r2→6→30→4→5→41", "r2→6→30→4→5→40", never=["Refused", "leads to"])
+    p.expect("read by the one that was made", p.read("1", "2", row=1), "GG", "Qualities@@")
+    p.expect("with five columns", p.open(file, b"r1\t5\t10\t5\t6\n"), "Refused", "the offset of the first quality")
+    # more than one part of the reading, and a record that is longer than a part
+    p.fresh()
+    p.engine.run("""
+        const short = new TextEncoder().encode("@s a read\\nACGTACGTAC\\n+\\n@+IIIIIIII\\n");
+        const many = new Uint8Array(300000 * short.length);
+        for (let k = 0; k < 300000; k++) many.set(short, k * short.length);
+        const line = (letter) => new Uint8Array(12 << 20).fill(letter.charCodeAt(0));
+        const dropped = new DataTransfer();
+        dropped.items.add(new File([many, "@long\\nC", line("A"), "G\\n+\\n#", line("I"), "~\\n@last\\nAC\\n+\\n!!"], "long.fq"));
+        document.body.dispatchEvent(new DragEvent("drop", { bubbles: true, cancelable: true, dataTransfer: dropped }));
+    """)
+    p.expect("300,002 records", p.judged(), "long.fq: 300,002 records")
+    p.fill(search="long")
+    p.engine.wait_for("return document.getElementById('matches').textContent.startsWith('1 of') ? 1 : null", what="a search")
+    p.expect("a record longer than a part", p.read(str((12 << 20) + 1), ""), "2 bases", "BasesAG", "QualitiesI~")
+    p.expect("its index", p.save("make"), f"s\t10\t{299999 * 34 + 10}\t10\t11\t{299999 * 34 + 23}\nlong\t12582914\t10200006\t12582914\t12582915\t22782923\nlast\t2\t35365844\t2\t3\t35365849\n")
 
 
 def records(p, samples):
@@ -278,4 +330,4 @@ def files_in_parts(p, samples):
 
 
 ALL = [marked_examples, pain_of_the_clipped_read, pain_of_the_stale_index, pain_of_the_buffer, bad_files, fastq, records, from_the_disk, sheets, exercises, primers]
-IN_PARTS = [files_in_parts]
+IN_PARTS = [files_in_parts, fastq_in_parts]
