@@ -12,7 +12,7 @@ function clearResults() {
     for (const id of ["count", "made", "matches", "sheet-told", "scored", "primer-told", "copied", "copied-keys", "exercise-made"]) show(byId(id), "");
     for (const id of ["lines", "bases", "keys", "scores", "places", "records"]) byId(id).textContent = "";
     for (const id of ["read-more", "sheet-more", "score-more", "primer-more", "saved", "again"]) byId(id).hidden = true;
-    row = undefined;
+    chooseRow(undefined);
 }
 
 // Hands a file to the worker, part by part, while the next part is read; false where other files were chosen meanwhile. A file that is refused is
@@ -163,10 +163,8 @@ for (const which of ["fasta", "fai"]) {
     });
 }
 // a file that was changed can be chosen again: browsers tell nothing where the same one is chosen, unless none was
-for (const which of ["fasta", "fai"]) {
-    byId(which).addEventListener("click", () => { byId(which).value = ""; });
-    byId(which).addEventListener("cancel", () => choose(which, chosen[which]));
-}
+for (const which of ["fasta", "fai", "sheet-file", "exercise-file", "class-file"]) byId(which).addEventListener("click", () => { byId(which).value = ""; });
+for (const which of ["fasta", "fai"]) byId(which).addEventListener("cancel", () => choose(which, chosen[which]));
 for (const id of ["strict", "memory"]) byId(id).addEventListener("change", () => { if (chosen.fasta) open(); });
 byId("again").addEventListener("click", open);
 byId("stop").addEventListener("click", () => {
@@ -244,13 +242,19 @@ async function list() {
     byId("records").replaceChildren(...options);
     const chosenStill = options.find((option) => Number(option.value) === row) ?? options[0];
     if (chosenStill) chosenStill.selected = true;
-    row = chosenStill ? Number(chosenStill.value) : undefined;
+    chooseRow(chosenStill);
     const values = { matches: told.matches, records: many("record", told.records), shown: options.length };
     const key = told.matches === 0 && told.records > 0 ? "none" : told.matches > options.length ? "first" : told.matches < told.records ? "some" : "all";
     show(byId("matches"), t(`records.${key}`, values));
 }
 byId("search").addEventListener("input", () => working(byId("matches"), list));
-byId("records").addEventListener("change", () => { row = byId("records").value === "" ? undefined : Number(byId("records").value); });
+byId("records").addEventListener("change", () => chooseRow(byId("records").selectedOptions[0]));
+
+// The record of an option is the one that is meant from now on, which each part says: on a phone the list is far away.
+function chooseRow(option) {
+    row = option ? Number(option.value) : undefined;
+    for (const place of document.querySelectorAll(".chosen")) place.textContent = option ? t("records.chosen", { record: option.textContent }) : "";
+}
 
 // The chosen record and the bounds of two fields; undefined where something is wrong, which is shown.
 function region(from, to, told) {

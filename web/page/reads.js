@@ -180,8 +180,22 @@ function keysOf(regions, width) {
     return failed ?? { keys, parts: parts.unwritten ? undefined : [...parts] };
 }
 
-// One answer against the key of an exercise: the counts, and at each place of the key what the proved code says of it alone.
-function scored(exercise, edition, typed, most) {
+// What the proved code says of one place of a key alone, as a mark: a function of the two bytes, of which the second may be missing. Each pair is asked once.
+function marker(edition) {
+    const { proved } = now;
+    const known = new Map();
+    return (key, typed) => {
+        const pair = 1000 * key + (typed ?? 999);
+        if (!known.has(pair)) {
+            const one = proved.using(() => proved.call("score_typed", proved.lend([key]), proved.lend(typed === undefined ? [] : [typed]), edition));
+            known.set(pair, one.right === 1n ? "|" : one.wrong === 1n ? "x" : "-");
+        }
+        return known.get(pair);
+    };
+}
+
+// One answer against the key of an exercise: the counts, and a mark at each place of the key.
+function scored(exercise, mark, typed, most) {
     const { proved, file, kept } = now;
     return proved.using(() => {
         const lent = proved.lend(typed);
@@ -189,18 +203,14 @@ function scored(exercise, edition, typed, most) {
         if (told.refusal !== 0n) return refused(told);
         const { right, wrong, missing, surplus, score, key } = told;
         const places = Math.min(most, key.length);
-        let marks = "";
-        for (let k = 0; k < places; k++) {
-            const one = proved.call("score_typed", key.part(k, 1), lent.part(Math.min(k, lent.length), k < lent.length ? 1 : 0), edition);
-            marks += one.right === 1n ? "|" : one.wrong === 1n ? "x" : "-";
-        }
+        const bases = proved.bytes(key.part(0, places)).slice();
+        let marks = Array.from(bases, (base, k) => mark(base, typed[k])).join("");
         if (places === key.length) {
-            const count = (mark) => BigInt(marks.split(mark).length - 1);
+            const count = (one) => BigInt(marks.split(one).length - 1);
             if (count("|") !== right || count("x") !== wrong || count("-") !== missing) throw new Error("the marks are not the counts");
             marks += "+".repeat(Math.min(Number(surplus), most));
         }
-        const shownKey = letters(proved.bytes(key.part(0, places)));
-        return { right, wrong, missing, surplus, score, marks, typed: letters(typed.subarray(0, marks.length)), key: shownKey, whole: places === key.length };
+        return { right, wrong, missing, surplus, score, marks, typed: letters(typed.subarray(0, marks.length)), key: letters(bases), whole: places === key.length };
     });
 }
 
@@ -312,7 +322,8 @@ export const READS = {
             const lent = proved.lend(new Uint8Array(bytes));
             const said = exerciseIn(lent);
             if (said.refused) return said;
-            const scores = answers.map(({ who, typed }) => ({ who, ...scored(lent, said.exercise.edition, typedBytes(typed), most) }));
+            const mark = marker(said.exercise.edition);
+            const scores = answers.map(({ who, typed }) => ({ who, ...scored(lent, mark, typedBytes(typed), most) }));
             const failed = scores.find((score) => score.refused);
             return failed ? { ...failed, ...said } : { ...said, key: scores[0].key, whole: scores[0].whole, scores };
         });

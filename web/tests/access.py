@@ -11,7 +11,7 @@ with open(os.path.join(os.path.dirname(os.path.abspath(__file__)), "access.js"),
 INTERACTIVE = {"button", "link", "textbox", "searchbox", "combobox", "listbox", "checkbox", "tab", "tabpanel", "progressbar", "option", "ProgressIndicator", "region"}
 # Every element that Tab has to reach, in the order in which it stands; and where each is.
 REACHED = """
-    const used = Array.from(document.querySelectorAll("a[href], button, input, select, textarea, [tabindex='0']"))
+    const used = Array.from(document.querySelectorAll("a[href], button, input, select, textarea, summary, [tabindex='0']"))
         .filter((e) => e.checkVisibility() && !e.matches(":disabled, [tabindex='-1']"));
     used.forEach((e, k) => { e.dataset.reached = k; });
     return used.length;
@@ -28,6 +28,7 @@ def rules_kept(c):
     for scheme in ("light", "dark"):
         c.colours(scheme)
         c.person.fresh()
+        c.browser.run("document.getElementById('choices').open = true")
         found = [("at first", c.browser.run(RULES))]
         c.person.open(b">s\nACGT\nAC\n", b"s\t6\t3\t4\t6\n")
         found.append(("refused", c.browser.run(RULES)))
@@ -88,6 +89,7 @@ def by_keyboard(c):
 def order_of_focus(c):
     """Tab goes through all that can be used, in each part, in the order in which it is seen, shows where it is, and comes out again."""
     c.everything()
+    c.browser.run("document.getElementById('choices').open = true")
     for tab in TABS:
         c.person.tab(tab)
         count = c.browser.run(REACHED)

@@ -193,10 +193,26 @@ def records(p, samples):
     twins = b">a\nAAAA\n>a second\nCCCC\n"
     p.open(twins)
     p.expect("two of a name are read by row", p.read("", "", row=1), "CCCC")
+    p.expect("which is said", p.engine.run("return document.querySelector('#panel-read .chosen').textContent"), "Record: a · 4 bases · second")
     p.expect("both strands", p.read("1", "2", "both", row=1), "CC", "Other strand", "GG")
     p.expect("saved as FASTA", repr(p.save("save-fasta")), repr(">a:1-2\nCC\n>a:1-2 reverse complement\nGG\n"))
     p.read("", "", row=1)
     p.expect("saved as FASTA, whole", repr(p.save("save-fasta")), repr(">a second\nCCCC\n"))
+
+
+def more_than_is_shown(p, samples):
+    """A read of more bases than are shown is not copied in part: it is saved. A sheet says that its key goes on."""
+    p.open(b">a\n" + b"ACGT" * 30000 + b"\n")
+    p.expect("the first of them", p.read("", ""), "120,000 bases", "The first 100,000 are shown: save them")
+    p.expect("no copy of a part", str(p.engine.run("return document.getElementById('copy').hidden")), "True")
+    p.expect("all are saved", str(len(p.save("save-fasta"))), str(3 + 120000 + 2000))
+    p.read("1", "100000")
+    p.expect("a copy of all", str(p.engine.run("return document.getElementById('copy').hidden")), "False")
+    p.tab("sheet")
+    p.fill(regions="a\na:1-4\n")
+    p.press("answer", "sheet-told")
+    p.expect("a key that goes on", p.cells("keys")[0][-1][100000:], "the first 100,000 of 120,000 bases")
+    p.expect("and is saved whole", str(len(p.save("save-keys"))), str(3 + 120000 + 2000 + len(">a:1-4\nACGT\n")))
 
 
 def from_the_disk(p, samples):
@@ -253,6 +269,12 @@ def exercises(p, samples):
     p.drop(("class.csv", 'who,answer\nAda,GTNAC\n"Bob, jr.",gt\nCy,"ACGTA"\n'), on="#panel-exercise")
     p.engine.wait_for("return document.getElementById('scored').textContent.startsWith('3 answers') ? 1 : null", what="a class")
     p.expect("a class", str(p.cells("scores")), "'Ada', '100.0 %', '5'", "'Bob, jr.', '40.0 %', '2', '0', '3'", "'Cy', ")
+    p.expect("what was passed over", p.text("scored"), "heading: who, answer")
+    p.engine.run("document.getElementById('headed').click()")
+    p.engine.wait_for("return document.getElementById('scored').textContent.startsWith('4 answers') ? 1 : null", what="the class without a heading")
+    p.expect("or not", str(p.cells("scores")), "'who', '0.0 %'", "'Ada', '100.0 %'")
+    p.engine.run("document.getElementById('headed').click()")
+    p.engine.wait_for("return document.getElementById('scored').textContent.startsWith('3 answers') ? 1 : null", what="the class again")
     p.expect("a class, saved", p.save("save-scores"), 'Who,Score,Right', 'Ada,100.0,5,0,0,0', '"Bob, jr.",40.0,2,0,3,0')
     # edition 2, and the file that was saved comes back
     p.fill(edition="2")
@@ -329,5 +351,5 @@ def files_in_parts(p, samples):
         test(p, samples)
 
 
-ALL = [marked_examples, pain_of_the_clipped_read, pain_of_the_stale_index, pain_of_the_buffer, bad_files, fastq, records, from_the_disk, sheets, exercises, primers]
+ALL = [marked_examples, pain_of_the_clipped_read, pain_of_the_stale_index, pain_of_the_buffer, bad_files, fastq, records, more_than_is_shown, from_the_disk, sheets, exercises, primers]
 IN_PARTS = [files_in_parts, fastq_in_parts]
