@@ -239,7 +239,13 @@ export const READS = {
             if (told.refusal !== 0n) return refused(told);
             const text = (bases) => textOf(bases.part(0, Math.min(most, bases.length)));
             const count = told.found[0].bases.length;
-            const answer = { count, strands: told.found.map(({ other, bases }) => ({ other, text: text(bases) })), name: shown(nameOf(now.kept, row)) };
+            const answer = {
+                count,
+                strands: told.found.map(({ other, bases }) => ({ other, text: text(bases) })),
+                name: shown(nameOf(now.kept, row)),
+                first: first ?? 1n,
+                last: last ?? lengthOf(now.kept, row),
+            };
             if (!qualities) return answer;
             return qualities.refusal === 0n ? { ...answer, qualities: shown(proved.bytes(qualities.out.part(0, Math.min(most, count)))) } : refused(qualities);
         });

@@ -15,7 +15,7 @@ byId("read-form").addEventListener("submit", (e) => {
         const told = await askFile("read", { ...wanted, most: SHOWN });
         if (told.refused) return show(byId("count"), t("nothing.read", { refused: refusal(told).text }), "bad");
         const bases = many("base", told.count);
-        show(byId("count"), t(told.count > SHOWN ? "read.count.first" : "read.count", { name: told.name, bases, shown: SHOWN }), "good");
+        show(byId("count"), t(told.count > SHOWN ? "read.count.first" : "read.count", { ...told, bases, shown: SHOWN }), "good");
         for (const { other, text } of told.strands) {
             const label = t(other ? "read.other" : "read.bases");
             byId("bases").append(made("p", label, { class: "quiet" }), made("pre", text, { tabindex: "0", role: "region", "aria-label": label, class: "bases" }));
@@ -191,10 +191,11 @@ byId("primer-form").addEventListener("submit", (e) => {
         if (byId("where").value === "one" && only === undefined) return show(byId("primer-told"), t("records.choose"), "bad");
         byId("stop-primer").hidden = false;
         const places = [];
-        const placed = () => many("primer.place", places.length);
+        const letters = byId("primer").value.trim();
+        const placed = () => t("primer.placed", { letters, places: many("primer.place", places.length) });
         let told, at;
         do {
-            told = await askFile("primer", { letters: byId("primer").value, only, at });
+            told = await askFile("primer", { letters, only, at });
             if (mine !== search && !told.refused) break;
             if (told.refused) {
                 byId("stop-primer").hidden = true;

@@ -72,7 +72,7 @@ def by_keyboard(c):
     c.press(Keys.TAB, Keys.TAB)
     c.check("from the tabs to the fields", c.focused() == "first", c.focused())
     c.press("1", Keys.TAB, "3", Keys.ENTER)
-    c.person.expect("read by keyboard", c.person.says("count") + c.person.text("bases"), "b: 3 bases", "GGC")
+    c.person.expect("read by keyboard", c.person.says("count") + c.person.text("bases"), "b, 1 to 3: 3 bases", "GGC")
     c.browser.run("document.getElementById('tab-read').focus()")
     c.press(Keys.ARROW_RIGHT)
     c.check("the next part by an arrow", c.focused() == "tab-sheet" and c.at("panel-sheet").is_displayed() and not c.at("panel-read").is_displayed())
