@@ -31,7 +31,7 @@ if (other) {
     Object.assign(texts, translated);
 }
 const scripts = {
-    WORKER: joined("wakeluri.js", "fastq.js", "held.js", "places.js", "faults.js", "regions.js", "reads.js", "worker.js"),
+    WORKER: joined("wakeluri.js", "fastq.js", "held.js", "beside.js", "places.js", "faults.js", "regions.js", "reads.js", "worker.js"),
     PAGE: `(() => {\n${joined("words.js", "regions.js", "show.js", "asking.js", "files.js", "work.js", "page.js")}\n})();\n`,
 };
 // a text that nothing says is a mistake; some keys are made of a stem, as `kind.${..}`, and those of a count end in a form of the plural

@@ -117,6 +117,12 @@ export function qualitiesAsRows(proved, { names, table, qualities }, row) {
     return { names, table: one, count: 1 };
 }
 
+// The numbers of a record's row, with the place of its first quality for that of its first base.
+export function qualityNumbers(proved, { table, qualities }, row) {
+    const [low, high] = proved.halves(qualities.part(8 * row, 8));
+    return { ...proved.row(table, row), position: BigInt(high) * 2n ** 32n + BigInt(low) };
+}
+
 // The lines of an index: a function that has the proved code write the line of a row to a room.
 export function lineWriter(proved, { names, table, count, qualities }) {
     if (!qualities) return (row, room) => proved.call("write_index_line", names, table, BigInt(count), BigInt(row), room);

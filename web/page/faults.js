@@ -33,11 +33,21 @@ export function linesOf(told, fasta, index) {
 // Of a refusal of a file in parts. The bytes about it are wanted from the page.
 export function linesNear(told, file) {
     if (file.length === 0 || ![2, 3, 4, 5, 6, 7, 38, 39, 42].includes(Number(told.refusal))) return [];
-    const { offset, ofLine } = file.faultAt(told);
+    return [lineNear(file, file.faultAt(told))];
+}
+function lineNear(file, { offset, ofLine }) {
     const { at, lineEnds, bytes } = file.near(offset);
     const line = lineAt(bytes, offset - at);
     const { byte, ...said } = about(bytes, line, ofLine ? line.start : offset - at);
-    return [{ file: "fasta", ...said, line: said.line + lineEnds, byte: byte + at }];
+    return { file: "fasta", ...said, line: said.line + lineEnds, byte: byte + at };
+}
+
+// Of a refusal of an index beside the rows of its file in parts: its line, the file's line with the base that it doesn't lead to, and the line of the index that the
+// file gives, as bytes.
+export function linesBeside(told, file, index, at, given) {
+    const [number, first] = [Number(told.refusal), Number(told.first)];
+    if (number === 20) return ofIndex(index, first + 1);
+    return [...(number === 19 ? [] : ofIndex(index, first)), ...(at ? [lineNear(file, at)] : []), { file: "made", line: first, text: given }];
 }
 
 // Of a refusal of FASTQ's checker that is about a record, `at` being where in the file it shows; else of the indexer, `begin` being where the refused
@@ -93,12 +103,6 @@ export function refusedPlace(told, bytes, begin) {
 // Whether a refusal of a checker is about a record, by its number.
 export function isOfRecord({ call, refusal }) {
     return ["check", "fastq_check"].includes(call) && [9, 10, 11, 12, 19, 21, 22, 23].includes(Number(refusal));
-}
-
-// The line of an index that has no good number, by the reader of indexes.
-export function lineRead(told, index) {
-    const number = Number(told.refusal);
-    return number >= 9 && number <= 12 ? ofIndex(index, Number(told.first)) : [];
 }
 
 // The line of the record behind so many good ones that is not like its first line.

@@ -105,11 +105,7 @@ function judged(told) {
         return;
     }
     const records = many("record", told.records);
-    if (told.other) {
-        show(byId("verdict"), t("files.other", { index, fasta, line: told.other.line, records }), "bad");
-        show(byId("detail"), t("files.other.detail"));
-        showOther(told.other);
-    } else if (told.accepted) {
+    if (told.accepted) {
         show(byId("verdict"), t(told.fastq ? "files.accepted.both" : "files.accepted", { index, fasta, records }), "good");
         if (told.inParts) show(byId("detail"), t("files.accepted.parts"));
     } else {
@@ -129,22 +125,13 @@ function shownLine(label, ...texts) {
 function showLines(lines) {
     byId("lines").textContent = "";
     for (const { file, line, byte, text, before } of lines) {
-        const name = file === "fasta" ? chosen.fasta.name : chosen.fai.name;
+        const name = file === "index" ? chosen.fai.name : chosen.fasta.name;
         const caret = before === undefined ? [] : [
             made("span", `\n${" ".repeat(before)}^`, { "aria-hidden": "true" }),
             made("span", t("line.marked", { letter: before + 1 }), { class: "apart" }),
         ];
-        shownLine(t("line.fasta", { file: name, line, byte }), made("span", text), ...caret);
+        shownLine(t(file === "made" ? "line.made" : "line.fasta", { file: name, line, byte }), made("span", text), ...caret);
     }
-}
-
-// The first line of an index that is not the one that was made, and that one.
-function showOther({ line, given, made: text }) {
-    byId("lines").textContent = "";
-    if (given) shownLine(t("line.fasta", { file: chosen.fai.name, ...given }), given.text);
-    else byId("lines").append(made("p", t("line.given.none", { file: chosen.fai.name, line }), { class: "quiet" }));
-    if (text !== undefined) shownLine(t("line.made", { file: chosen.fasta.name, line }), text);
-    else byId("lines").append(made("p", t("line.made.none", { file: chosen.fasta.name, line }), { class: "quiet" }));
 }
 
 // A file that can be read: its records are listed.

@@ -6,9 +6,10 @@
 // { id, wanted }: then the page asks again with these bytes as `windows`.
 import { NoRoom, ROW, Wakeluri } from "./wakeluri.js";
 import { FastaParts, FastqParts, Wanted, Whole, WholeFastq } from "./held.js";
-import { lineWriter, qualitiesAsRows, sixColumns } from "./fastq.js";
-import { fastqLines, isOfRecord, lineRead, linesNear, linesOf, placeBy, recordName } from "./faults.js";
-import { about, kindOf, lineOf, shown } from "./places.js";
+import { lineWriter, qualityNumbers, sixColumns } from "./fastq.js";
+import { checkedBeside } from "./beside.js";
+import { fastqLines, isOfRecord, linesBeside, linesNear, linesOf, placeBy, recordName } from "./faults.js";
+import { kindOf, shown } from "./places.js";
 import { NOT_OPEN, READS, nameOf, now, refused, rowOf, span, utf8 } from "./reads.js";
 
 // The rows that an index tells.
@@ -47,55 +48,31 @@ function placesOf(told) {
 
 // Where in a FASTQ file a fault of an index shows: at the base that its line doesn't lead to, or else at the quality; of another fault at the record.
 function shownOf(told, rows, record) {
-    const own = rowOf(rows, record);
-    if (told.refusal !== 23n) return { offset: Number(placeBy(own, 1n)) - 1, ofLine: true };
-    const given = rowOf(rowsIn(now.index)[1], record);
-    const isQuality = placeBy(own, told.second) === placeBy(given, told.second);
-    const row = isQuality ? rowOf(qualitiesAsRows(now.proved, rows, record), 0) : own;
-    return { offset: Number(placeBy(row, told.second)), ofLine: false };
+    if (told.refusal !== 23n) return { offset: Number(placeBy(rowOf(rows, record), 1n)) - 1, ofLine: true };
+    return { offset: elsewhere(told, rows, rowsIn(now.index)[1], record), ofLine: false };
 }
 
-// The first row, from 0, whose name or numbers are not those of the other rows; undefined where all are.
-function firstOther(rows, others) {
-    const { proved } = now;
-    const read = ({ names, table, qualities }) => ({
-        names: proved.bytes(names), spans: proved.spans(table), numbers: proved.halves(table), qualities: qualities && proved.halves(qualities),
-    });
-    const [one, other] = [read(rows), read(others)];
-    const isSame = (row) => {
-        const [from, length] = one.spans(row);
-        const [fromToo, lengthToo] = other.spans(row);
-        if (length !== lengthToo) return false;
-        for (let k = 0; k < length; k++) if (one.names[from + k] !== other.names[fromToo + k]) return false;
-        for (let k = 16 * row + 4; k < 16 * row + 12; k++) if (one.numbers[k] !== other.numbers[k]) return false;
-        return [2 * row, 2 * row + 1].every((k) => one.qualities?.[k] === other.qualities?.[k]);
-    };
-    for (let row = 0; row < Math.max(rows.count, others.count); row++) {
-        if (row >= rows.count || row >= others.count || !isSame(row)) return row;
-    }
-    return undefined;
+// The offset of the base that an index's row doesn't lead to, or of FASTQ where it leads to the base, of its quality.
+function elsewhere(told, rows, given, record) {
+    const [own, theirs] = [rowOf(rows, record), rowOf(given, record)];
+    const isQuality = rows.qualities && placeBy(own, told.second) === placeBy(theirs, told.second);
+    return Number(placeBy(isQuality ? qualityNumbers(now.proved, rows, record) : own, told.second));
 }
 
-// An index beside the rows that were made of a file in parts: a refusal of the index's own lines, the first line that says something else, or
-// neither. Where all say the same the checker would accept, since the rows lead to every base (docs/DECISIONS.md).
-function compared() {
-    const { proved, index, own } = now;
+// What the checker says of an index of a file in parts, with the lines that it is about.
+function checkedInParts() {
+    const { proved, index, own, file } = now;
     return proved.using(() => {
-        const [told, given] = rowsIn(index);
-        const bytes = proved.bytes(index);
-        if (told.refusal !== 0n) return refused(told, { about: "check", lines: lineRead(told, bytes) });
-        const row = firstOther(own, given);
-        if (row === undefined) return { same: true };
-        const there = row < given.count ? lineOf(bytes, row + 1) : undefined;
+        const read = rowsIn(index);
+        const told = checkedBeside(proved, own, read);
+        if (told.refusal === 0n) return {};
+        const record = Number(told.first) - 1;
+        if (told.refusal === 20n) return refused(told, { about: "check", lines: linesBeside(told, file, proved.bytes(index)) });
+        const at = told.refusal === 23n ? { offset: elsewhere(told, own, read[1], record), ofLine: false } : undefined;
         const write = lineWriter(proved, own);
-        const line = row < own.count ? proved.output((out) => write(row, out)) : undefined;
-        return {
-            other: {
-                line: row + 1,
-                given: there && about(bytes, there),
-                made: line && (line.refusal === 0n ? shown(proved.bytes(line.out.part(0, line.out.length - 1))) : ""),
-            },
-        };
+        const line = proved.output((out) => write(record, out));
+        const made = line.refusal === 0n ? shown(proved.bytes(line.out.part(0, line.out.length - 1))) : "";
+        return refused(told, { about: "check", name: shown(nameOf(own, record)), lines: linesBeside(told, file, proved.bytes(index), at, made) });
     });
 }
 
@@ -187,10 +164,8 @@ const FILES = {
         }
         now.own = made.rows;
         if (index && answer.inParts) {
-            const beside = compared();
-            if (beside.refused) return { ...answer, ...beside };
-            now.kept = now.own;
-            return { ...answer, accepted: beside.same, other: beside.other, records: now.own.count };
+            const checked = checkedInParts();
+            if (checked.refused) return { ...answer, ...checked };
         }
         now.kept ??= now.own;
         return { ...answer, accepted: index !== undefined, records: now.own.count };

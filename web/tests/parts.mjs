@@ -6,6 +6,7 @@ import { calls } from "../calls.mjs";
 import { about, baseOf, definitionOf, kindOf, lineAt, lineOf, shown } from "../page/places.js";
 import { answersOf, bound, cells, csvCell, likeBounds, readings, sheetLines, typedBytes, written } from "../page/regions.js";
 import { fastqLines, linesNear, linesOf } from "../page/faults.js";
+import { checkedBeside } from "../page/beside.js";
 import { lineWriter, qualitiesAsRows, sixColumns } from "../page/fastq.js";
 import { FastaParts, FastqParts, Wanted, Whole, WholeFastq } from "../page/held.js";
 import { NoRoom, Room, Wakeluri, bounds } from "../page/wakeluri.js";
@@ -309,6 +310,45 @@ tests["rows of FASTQ"] = () => proved.using(() => {
     assert.deepEqual(rowsOf(given), rowsOf(rows).map((row) => ({ ...row, description: "" })));
     assert.deepEqual(numbers(sixColumns(proved, proved.lend(bytes("r1\t5\t10\t5\t6\n")))[0]), [10n, 1n, 6n]);
 });
+// An index is judged by the rows of its file as the proved checker judges it by both: small files, and every index line of small numbers; lines that are missing,
+// too many, of another name, or no good lines.
+tests["an index beside the rows"] = () => {
+    let [tried, told] = [0, new Map()];
+    const judge = (file, Held, call, read, wanted) => proved.using(() => {
+        const whole = opened(Held, bytes(file));
+        const [, rows] = whole.rows(false);
+        for (const text of wanted) {
+            proved.using(() => {
+                const index = proved.lend(bytes(text));
+                const own = numbers(proved.call(call, whole.room, index));
+                const beside = checkedBeside(proved, rows, read(index));
+                assert.deepEqual(numbers(beside), own, `${JSON.stringify(file)} ${JSON.stringify(text)}`);
+                assert.equal(beside.call, call);
+                told.set(own[0], (told.get(own[0]) ?? 0) + 1);
+                tried++;
+            });
+        }
+    });
+    const upTo = (from, to) => Array.from({ length: to - from + 1 }, (_, k) => from + k);
+    const fives = (position) => [0, 1, 4, 5, 6, 7].flatMap((length) => [position - 1, position, position + 1].flatMap((at) => upTo(1, 8).flatMap((b) => upTo(1, 9).map((w) => `s\t${length}\t${at}\t${b}\t${w}`))));
+    const ofFasta = (index) => {
+        const { table, ...read } = proved.table("read_index", index);
+        return [read, { names: index, table, count: Number(read.count) }];
+    };
+    const fasta = [">s\nACGT\nAC\n", ">s\nACGTAC", ">s\n\nACGT\n", ">s x\r\nACG\r\nACG\r\n", ">s\n", ">s\nA\n\n\nC\n", ">s\nACGTAC\nA\n"];
+    for (const file of fasta) judge(file, Whole, "check", ofFasta, fives(Math.max(file.search(/[ACGT]/), 3)).map((line) => `${line}\n`));
+    const two = ">a\nACGT\n>b\nGG\nG\n";
+    const lines = ["a\t4\t3\t4\t5\n", "b\t3\t11\t2\t3\n", "a\t4\t3\t9\t9\n", "b\t3\t11\t2\t4\n", "b\t3\t11\t3\t3\n", "c\t4\t3\t4\t5\n", "\n", "a\t4\n", "b\tx\n", "b\t3\t11\t0\t3\n", "a\t+4\t03\t4\t5\r\n", "b\t3\t11\t2\t18446744073709551615\n", ""];
+    const threes = lines.flatMap((one) => lines.flatMap((other) => lines.map((third) => one + other + third)));
+    judge(two, Whole, "check", ofFasta, [...threes, ...lines.map((line) => line.trimEnd()), "a\t4\t3\t4\t5\nb\t3\t11\t2\t3"]);
+    judge("", Whole, "check", ofFasta, lines);
+    const six = (index) => sixColumns(proved, index);
+    judge("@s\nACGT\nAC\n+\n@@II\n~~\n", WholeFastq, "fastq_check", six, fives(3).flatMap((line) => [12, 13, 14].map((place) => `${line}\t${place}\n`)));
+    judge("@s\nACGT\n+\nIIII", WholeFastq, "fastq_check", six, fives(3).flatMap((line) => [9, 10].map((place) => `${line}\t${place}\n`)));
+    judge("@a\nA\n+\nI\n@b\nA\n+\nI\n", WholeFastq, "fastq_check", six, threes.map((text) => text.replace(/\n/g, "\t7\n")));
+    assert.deepEqual([...told.keys()].sort((a, b) => Number(a - b)), [0n, 9n, 10n, 11n, 12n, 19n, 20n, 21n, 22n, 23n]);
+    console.log(`    ${tried} pairs, ${told.get(0n)} accepted`);
+};
 let failed = 0;
 for (const [name, test] of Object.entries(tests)) {
     if (process.argv[3] && process.argv[3] !== name) continue;
