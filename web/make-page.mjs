@@ -31,14 +31,14 @@ if (other) {
     Object.assign(texts, translated);
 }
 const scripts = {
-    WORKER: joined("wakeluri.js", "held.js", "places.js", "faults.js", "regions.js", "reads.js", "worker.js"),
+    WORKER: joined("wakeluri.js", "fastq.js", "held.js", "beside.js", "places.js", "faults.js", "regions.js", "reads.js", "worker.js"),
     PAGE: `(() => {\n${joined("words.js", "regions.js", "show.js", "asking.js", "files.js", "work.js", "page.js")}\n})();\n`,
 };
-// a text that nothing says is a mistake; some keys are made of a stem, as `kind.${..}`, and those of a count end in one or other
+// a text that nothing says is a mistake; some keys are made of a stem, as `kind.${..}`, and those of a count end in a form of the plural
 const spoken = Object.values(scripts).join("\n") + page("page.html");
 const stems = Array.from(spoken.matchAll(/`([a-z.]+\.)\$\{/g), ([, stem]) => stem);
 for (const key of Object.keys(texts)) {
-    const said = [key, key.replace(/\.(?:one|other)$/, "")].some((one) => spoken.includes(`"${one}"`) || spoken.includes(`@t:${one}@`));
+    const said = [key, key.replace(/\.(?:zero|one|two|few|many|other)$/, "")].some((one) => spoken.includes(`"${one}"`) || spoken.includes(`@t:${one}@`));
     if (!said && !stems.some((stem) => key.startsWith(stem))) throw new Error(`nothing says ${key}`);
 }
 // and so is a key that no text has

@@ -75,8 +75,8 @@ async function working(place, work) {
     }
 }
 
-// A refusal in words, with its numbers.
+// A refusal in words, with its numbers; and as one text.
 function refusal({ refused, name }) {
     const [said, code] = refusalWords(words, refused);
-    return { words: said, code, text: `${name ? t("refused.named", { words: said, name }) : t("refused", { words: said })} (${code})` };
+    return { words: said, code, text: t("refused.coded", { said: name ? t("refused.named", { words: said, name }) : t("refused", { words: said }), code }) };
 }

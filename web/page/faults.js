@@ -1,5 +1,5 @@
 // The lines that a refusal is about, with what stands there, for what is shown. It judges nothing: the proved code has refused by then.
-import { about, baseOf, definitionOf, lineAt, lineOf, shown } from "./places.js";
+import { DEFINES, LF, PLUS, about, baseOf, basesIn, behind, definitionOf, lineAt, lineOf, shown } from "./places.js";
 
 const ofFasta = (bytes, line, offset) => (line ? [{ file: "fasta", ...about(bytes, line, offset) }] : []);
 const ofIndex = (bytes, number) => {
@@ -32,34 +32,72 @@ export function linesOf(told, fasta, index) {
 
 // Of a refusal of a file in parts. The bytes about it are wanted from the page.
 export function linesNear(told, file) {
-    const [number, first] = [Number(told.refusal), Number(told.first)];
-    if (file.length === 0 || ![2, 3, 4, 5, 6, 7, 42].includes(number)) return [];
-    // a line is judged with the byte behind its end, or with the end of the file
-    const offset = number === 5 ? Math.max(0, first - 1) : number === 6 || number === 7 ? Math.max(0, file.stopped - 2) : first;
+    if (file.length === 0 || ![2, 3, 4, 5, 6, 7, 38, 39, 42].includes(Number(told.refusal))) return [];
+    return [lineNear(file, file.faultAt(told))];
+}
+function lineNear(file, { offset, ofLine }) {
     const { at, lineEnds, bytes } = file.near(offset);
     const line = lineAt(bytes, offset - at);
-    const { byte, ...said } = about(bytes, line, number === 6 || number === 7 ? line.start : offset - at);
-    return [{ file: "fasta", ...said, line: said.line + lineEnds, byte: byte + at }];
+    const { byte, ...said } = about(bytes, line, ofLine ? line.start : offset - at);
+    return { file: "fasta", ...said, line: said.line + lineEnds, byte: byte + at };
 }
 
-// Of a refusal of FASTQ's indexer or checker: the lines of the record that it is about, or the line at its offset, or the first line of the record
-// behind the last good one.
-export function fastqLines(told, fastq, index, { record, last }) {
+// Of a refusal of an index beside the rows of its file in parts: its line, the file's line with the base that it doesn't lead to, and the line of the index that the
+// file gives, as bytes.
+export function linesBeside(told, file, index, at, given) {
     const [number, first] = [Number(told.refusal), Number(told.first)];
     if (number === 20) return ofIndex(index, first + 1);
-    if (isOfRecord(told)) {
-        const ofRecord = record ? ofFasta(fastq, lineAt(fastq, record.name[0])) : [];
-        return [...(number === 19 ? [] : ofIndex(index, first)), ...ofRecord];
+    return [...(number === 19 ? [] : ofIndex(index, first)), ...(at ? [lineNear(file, at)] : []), { file: "made", line: first, text: given }];
+}
+
+// Of a refusal of FASTQ's checker that is about a record, `at` being where in the file it shows; else of the indexer, `begin` being where the refused
+// record begins.
+export function fastqLines(told, fastq, index, { at, begin }) {
+    const [number, first] = [Number(told.refusal), Number(told.first)];
+    if (number === 20) return ofIndex(index, first + 1);
+    if (isOfRecord(told)) return [...(number === 19 ? [] : ofIndex(index, first)), ...(at ? ofFasta(fastq, lineAt(fastq, at.offset), at.ofLine ? undefined : at.offset) : [])];
+    if (![2, 3, 4, 5, 6, 7, 38, 39].includes(number)) return [];
+    const { offset } = refusedPlace(told, fastq, begin);
+    return ofFasta(fastq, lineAt(fastq, offset), offset);
+}
+
+// Where a base of a record lies by the numbers of its row, or of its line in an index.
+export function placeBy({ position, lineBases, lineWidth }, base) {
+    return position + (base - 1n) / lineBases * lineWidth + (base - 1n) % lineBases;
+}
+
+// Where the fault lies that FASTQ's indexer refused a record for, which begins at an offset of some bytes: a letter, or a line, as host/command/src/fastq_faults.rs
+// has it.
+export function refusedPlace(told, bytes, begin) {
+    const [number, first] = [Number(told.refusal), Number(told.first)];
+    if (number <= 5) return { offset: Math.max(0, number === 5 ? first - 1 : first), ofLine: false };
+    const lines = [];
+    let [last, at] = [begin, behind(bytes, begin)];
+    for (; at < bytes.length && bytes[at] !== PLUS; at = behind(bytes, at)) {
+        lines.push([at, behind(bytes, at)]);
+        last = at;
     }
-    if (number >= 2 && number <= 5) {
-        const offset = number === 5 ? Math.max(0, first - 1) : first;
-        return ofFasta(fastq, lineAt(fastq, offset), offset);
+    const like = ([from, to]) => `${basesIn(bytes, from, to)} ${to - from}`;
+    if (number === 6 || number === 7) {
+        const [bases, width] = [basesIn(bytes, ...lines[0]), lines[0][1] - lines[0][0]];
+        const isGoodLast = ([from, to], k) => k === lines.length - 1 && basesIn(bytes, from, to) > 0 && basesIn(bytes, from, to) <= bases && to - from <= width;
+        const bad = lines.find((line, k) => like(line) !== like(lines[0]) && !isGoodLast(line, k));
+        return { offset: bad?.[0] ?? begin, ofLine: true };
     }
-    if (![6, 7, 38, 39].includes(number)) return [];
-    if (!last) return ofFasta(fastq, lineAt(fastq, 0));
-    const [lines, bases] = [(last.length - 1n) / last.lineBases, (last.length - 1n) % last.lineBases];
-    const lastQuality = Number(last.qualityPosition + lines * last.lineWidth + bases);
-    return ofFasta(fastq, lineAt(fastq, lineAt(fastq, lastQuality).next));
+    if (number === 39) {
+        // the '+' line, and then a line for each
+        last = at;
+        at = behind(bytes, at);
+        for (const line of lines) {
+            if (at >= bytes.length) break;
+            last = at;
+            const next = behind(bytes, at);
+            const isUnended = bytes[next - 1] !== LF && basesIn(bytes, at, next) === basesIn(bytes, ...line);
+            if (!isUnended && like([at, next]) !== like(line)) break;
+            at = next;
+        }
+    }
+    return { offset: last, ofLine: true };
 }
 
 // Whether a refusal of a checker is about a record, by its number.
@@ -67,24 +105,17 @@ export function isOfRecord({ call, refusal }) {
     return ["check", "fastq_check"].includes(call) && [9, 10, 11, 12, 19, 21, 22, 23].includes(Number(refusal));
 }
 
-// The line of an index that has no good number, by the reader of indexes.
-export function lineRead(told, index) {
-    const number = Number(told.refusal);
-    return number >= 9 && number <= 12 ? ofIndex(index, Number(told.first)) : [];
-}
-
 // The line of the record behind so many good ones that is not like its first line.
 function uneven(fasta, good) {
     const definition = definitionOf(fasta, good + 1);
     let start = definition?.next ?? fasta.length;
     let [like, number] = [undefined, definition?.number];
-    while (start < fasta.length && fasta[start] !== 62) {
+    while (start < fasta.length && fasta[start] !== DEFINES) {
         number++;
-        const end = fasta.indexOf(10, start);
-        const next = end < 0 ? fasta.length : end + 1;
-        const bases = next - start - (end < 0 ? 0 : 1) - (fasta[end < 0 ? next - 1 : end - 1] === 13 ? 1 : 0);
-        like ??= `${bases} ${next - start}`;
-        if (like !== `${bases} ${next - start}`) return ofFasta(fasta, { number, start, next }, start);
+        const next = behind(fasta, start);
+        const found = `${basesIn(fasta, start, next)} ${next - start}`;
+        like ??= found;
+        if (like !== found) return ofFasta(fasta, { number, start, next }, start);
         start = next;
     }
     return [];

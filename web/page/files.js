@@ -5,16 +5,14 @@ let held = {}; // the files that are open
 let round = 0;
 let row; // the record that is chosen
 
-const PARTS = ["choosing", "reading", "sheeting", "making", "searching"];
-const FASTQ_PARTS = ["choosing", "reading"];
-function enable(open, fastq) {
-    for (const id of PARTS) byId(id).disabled = !open || (fastq && !FASTQ_PARTS.includes(id));
+function enable(open) {
+    for (const id of ["choosing", "reading", "sheeting", "making", "searching"]) byId(id).disabled = !open;
 }
 function clearResults() {
     for (const id of ["count", "made", "matches", "sheet-told", "scored", "primer-told", "copied", "copied-keys", "exercise-made"]) show(byId(id), "");
     for (const id of ["lines", "bases", "keys", "scores", "places", "records"]) byId(id).textContent = "";
     for (const id of ["read-more", "sheet-more", "score-more", "primer-more", "saved", "again"]) byId(id).hidden = true;
-    row = undefined;
+    chooseRow(undefined);
 }
 
 // Hands a file to the worker, part by part, while the next part is read; false where other files were chosen meanwhile. A file that is refused is
@@ -44,20 +42,22 @@ async function isFastq(file) {
     return file.size > 0 && new Uint8Array(await bytesOf(file, 0, 1))[0] === 0x40;
 }
 
-// Hands both files to the worker: in parts where the file is large, or where there is no memory for the whole; false as above.
-async function load(mine, progress) {
+// Hands both files to the worker, and has them judged; undefined where other files were chosen meanwhile.
+async function load(mine, inParts) {
     const { fasta, fai } = held;
+    const strict = byId("strict").checked;
+    const start = performance.now();
+    byId("doing").textContent = t("files.progress");
     const fastq = await isFastq(fasta);
-    if (mine !== round) return false;
-    const begin = (inParts) => ask("begin", { round: mine, fasta: fasta.size, index: fai?.size, fastq, inParts, strict: byId("strict").checked });
-    const inParts = !fastq && isInParts(fasta);
-    try {
-        await begin(inParts);
-    } catch (e) {
-        if (inParts || fastq || byId("memory").value !== "auto" || !(e instanceof NoMemory)) throw e;
-        await begin(true);
-    }
-    return await hand(mine, "fasta", fasta, progress) && (!fai || await hand(mine, "index", fai, () => {}));
+    if (mine !== round) return undefined;
+    await ask("begin", { round: mine, fasta: fasta.size, index: fai?.size, fastq, inParts, strict });
+    if (!await hand(mine, "fasta", fasta, (part) => { byId("progress").value = part; })) return undefined;
+    if (fai && !await hand(mine, "index", fai, () => {})) return undefined;
+    byId("doing").textContent = t("files.judging");
+    byId("progress").removeAttribute("value");
+    const loading = performance.now() - start;
+    const told = await askFile("judge", { strict });
+    return mine === round ? { ...told, loading } : undefined;
 }
 
 async function open() {
@@ -70,19 +70,18 @@ async function open() {
     held = { ...chosen };
     show(byId("verdict"), t("files.reading", { file: held.fasta.name }));
     byId("progress").value = 0;
-    byId("doing").textContent = t("files.progress");
     byId("working").hidden = false;
     await working(byId("verdict"), async () => {
-        const start = performance.now();
-        if (!await load(mine, (part) => { byId("progress").value = part; })) return;
-        byId("doing").textContent = t("files.judging");
-        byId("progress").removeAttribute("value");
-        const loading = performance.now() - start;
-        const told = await askFile("judge", { strict: byId("strict").checked });
-        if (mine !== round) return;
-        document.body.dataset.times = JSON.stringify({ loading, checking: told.checking, indexing: told.indexing });
+        const inParts = isInParts(held.fasta);
+        // where there is no memory for the whole file it is read in parts, unless it is said otherwise
+        const told = await load(mine, inParts).catch((e) => {
+            if (inParts || byId("memory").value !== "auto" || !(e instanceof NoMemory)) throw e;
+            return load(mine, true);
+        });
+        if (!told) return;
+        document.body.dataset.times = JSON.stringify({ loading: told.loading, checking: told.checking, indexing: told.indexing });
         judged(told);
-        if (told.records !== undefined) await opened(told.fastq);
+        if (told.records !== undefined) await opened();
     });
     if (mine === round) byId("working").hidden = true;
     document.body.dataset.round = String(mine);
@@ -106,17 +105,12 @@ function judged(told) {
         return;
     }
     const records = many("record", told.records);
-    const how = told.fastq ? "fastq" : told.inParts ? "parts" : "whole";
-    if (told.other) {
-        show(byId("verdict"), t("files.other", { index, fasta, line: told.other.line, records }), "bad");
-        show(byId("detail"), t("files.other.detail"));
-        showOther(told.other);
-    } else if (told.accepted) {
+    if (told.accepted) {
         show(byId("verdict"), t(told.fastq ? "files.accepted.both" : "files.accepted", { index, fasta, records }), "good");
-        if (how !== "whole") show(byId("detail"), t(`files.accepted.${how}`));
+        if (told.inParts) show(byId("detail"), t("files.accepted.parts"));
     } else {
         show(byId("verdict"), t("files.indexed", { fasta, records }));
-        show(byId("detail"), t(`files.indexed.${how}`));
+        show(byId("detail"), t(told.inParts ? "files.indexed.parts" : "files.indexed.whole"));
     }
 }
 
@@ -131,27 +125,18 @@ function shownLine(label, ...texts) {
 function showLines(lines) {
     byId("lines").textContent = "";
     for (const { file, line, byte, text, before } of lines) {
-        const name = file === "fasta" ? chosen.fasta.name : chosen.fai.name;
+        const name = file === "index" ? chosen.fai.name : chosen.fasta.name;
         const caret = before === undefined ? [] : [
             made("span", `\n${" ".repeat(before)}^`, { "aria-hidden": "true" }),
             made("span", t("line.marked", { letter: before + 1 }), { class: "apart" }),
         ];
-        shownLine(t("line.fasta", { file: name, line, byte }), made("span", text), ...caret);
+        shownLine(t(file === "made" ? "line.made" : "line.fasta", { file: name, line, byte }), made("span", text), ...caret);
     }
 }
 
-// The first line of an index that is not the one that was made, and that one.
-function showOther({ line, given, made: text }) {
-    byId("lines").textContent = "";
-    if (given) shownLine(t("line.fasta", { file: chosen.fai.name, ...given }), given.text);
-    else byId("lines").append(made("p", t("line.given.none", { file: chosen.fai.name, line }), { class: "quiet" }));
-    if (text !== undefined) shownLine(t("line.made", { file: chosen.fasta.name, line }), text);
-    else byId("lines").append(made("p", t("line.made.none", { file: chosen.fasta.name, line }), { class: "quiet" }));
-}
-
 // A file that can be read: its records are listed.
-async function opened(fastq) {
-    enable(true, fastq);
+async function opened() {
+    enable(true);
     await list();
 }
 
@@ -165,10 +150,8 @@ for (const which of ["fasta", "fai"]) {
     });
 }
 // a file that was changed can be chosen again: browsers tell nothing where the same one is chosen, unless none was
-for (const which of ["fasta", "fai"]) {
-    byId(which).addEventListener("click", () => { byId(which).value = ""; });
-    byId(which).addEventListener("cancel", () => choose(which, chosen[which]));
-}
+for (const which of ["fasta", "fai", "sheet-file", "exercise-file", "class-file"]) byId(which).addEventListener("click", () => { byId(which).value = ""; });
+for (const which of ["fasta", "fai"]) byId(which).addEventListener("cancel", () => choose(which, chosen[which]));
 for (const id of ["strict", "memory"]) byId(id).addEventListener("change", () => { if (chosen.fasta) open(); });
 byId("again").addEventListener("click", open);
 byId("stop").addEventListener("click", () => {
@@ -217,8 +200,8 @@ byId("make").addEventListener("click", () => working(byId("made"), async () => {
     const file = `${chosen.fasta.name}.fai`;
     const instead = byId("verdict").classList.contains("bad");
     if (instead) {
-        const { fastq } = await askFile("anew");
-        await opened(fastq);
+        await askFile("anew");
+        await opened();
     }
     save(file, told.parts, byId("saved"));
     show(byId("made"), t(instead ? "index.made.instead" : "index.made", { file, records: many("record", told.records) }), "good");
@@ -246,13 +229,19 @@ async function list() {
     byId("records").replaceChildren(...options);
     const chosenStill = options.find((option) => Number(option.value) === row) ?? options[0];
     if (chosenStill) chosenStill.selected = true;
-    row = chosenStill ? Number(chosenStill.value) : undefined;
+    chooseRow(chosenStill);
     const values = { matches: told.matches, records: many("record", told.records), shown: options.length };
     const key = told.matches === 0 && told.records > 0 ? "none" : told.matches > options.length ? "first" : told.matches < told.records ? "some" : "all";
     show(byId("matches"), t(`records.${key}`, values));
 }
 byId("search").addEventListener("input", () => working(byId("matches"), list));
-byId("records").addEventListener("change", () => { row = byId("records").value === "" ? undefined : Number(byId("records").value); });
+byId("records").addEventListener("change", () => chooseRow(byId("records").selectedOptions[0]));
+
+// The record of an option is the one that is meant from now on, which each part says: on a phone the list is far away.
+function chooseRow(option) {
+    row = option ? Number(option.value) : undefined;
+    for (const place of document.querySelectorAll(".chosen")) place.textContent = option ? t("records.chosen", { record: option.textContent }) : "";
+}
 
 // The chosen record and the bounds of two fields; undefined where something is wrong, which is shown.
 function region(from, to, told) {

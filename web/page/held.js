@@ -1,7 +1,9 @@
-// A file that is open, in one of two ways. Whole, it lies in the module's memory. In parts, none of it is kept: the proved feeder (K1) makes the
-// rows while the parts pass by, and a read wants the bytes of its region alone (K7), which the page hands over. Both answer alike; what is
-// asked of them is asked inside `using`, where it gives rooms. A FASTQ file is whole: for it there is no feeder.
+// A file that is open, in one of two ways. Whole, it lies in the module's memory. In parts, none of it is kept: the rows are made while the parts pass
+// by, and a read wants the bytes of its region alone (K7), which the page hands over. Both answer alike; what is asked of them is asked inside
+// `using`, where it gives rooms.
 import { FASTQ_ROW, ROW, bounds } from "./wakeluri.js";
+import { Gathered, Reads } from "./fastq.js";
+import { refusedPlace } from "./faults.js";
 
 const FED = 1 << 20; // bytes that are fed at a time: so much room for rows is made before
 const LARGEST = 2n ** 64n - 1n;
@@ -37,6 +39,9 @@ function listed(proved, regions) {
 }
 
 export class Whole {
+    fastq = false;
+    inParts = false;
+
     constructor(proved, length) {
         this.proved = proved;
         this.length = length;
@@ -94,117 +99,41 @@ export class Whole {
     }
 }
 
-export class Fastq extends Whole {
-    rows() {
-        const told = this.proved.table("fastq_index", this.room, FASTQ_ROW);
-        return [told, { names: this.room, table: told.table, count: Number(told.count), size: FASTQ_ROW }];
-    }
+// A FASTQ file that lies in the memory. Its rows lead to the bases, and `qualities` of them to the qualities (fastq.js).
+export class WholeFastq extends Whole {
+    fastq = true;
 
-    // Exactly the bases of a region, or their qualities.
-    exact({ table, count }, row, first, last, qualities = false) {
-        const wanted = qualities ? 1n : 0n;
-        return this.proved.output((out) => this.proved.call("fastq_read", this.room, table, BigInt(count), BigInt(row), ...bounds(first, last), wanted, out));
+    // Its rows, or of a file that is refused where the record begins that is.
+    rows() {
+        const { proved, room } = this;
+        const { table, ...told } = proved.table("fastq_index", room, FASTQ_ROW);
+        const seven = proved.bytes(table).slice();
+        proved.giveBack(table);
+        const reads = new Reads();
+        const begin = reads.add(seven, proved.bytes(room), 0);
+        return [told, told.refusal === 0n ? reads.rows(proved) : { count: reads.count, begin }];
     }
 }
 
-export class Parts {
-    // Nothing may be given room behind it until it has ended: its table grows.
-    constructor(proved, length, strict) {
+// A file of which nothing is kept but its rows, their names, and where its lines end.
+class Parts {
+    inParts = true;
+
+    constructor(proved, length) {
         this.proved = proved;
         this.length = length;
-        this.feed = proved.call("feed_start", strict ? 0n : 1n);
-        this.piece = proved.room(FED);
-        this.table = proved.room(0);
-        this.fed = 0;
+        this.windows = [];
+        this.passed = 0;
         this.lineEnds = 0;
         this.marks = []; // where each part began, and how many lines ended before it
-        this.windows = [];
-        this.kept = { bytes: new Uint8Array(1 << 12), used: 0 }; // names and descriptions
-        this.named = 0; // rows whose names are kept
-        this.far = []; // rows whose names passed by before they were written
     }
 
-    // The next bytes of it. Tells whether it is refused: then the rest is not wanted.
-    take(at, bytes) {
-        if (at !== this.fed) throw new RangeError("a part out of its turn");
-        this.fed += bytes.length;
+    // The next bytes of it pass by.
+    pass(at, bytes) {
+        if (at !== this.passed) throw new RangeError("a part out of its turn");
+        this.passed += bytes.length;
         this.marks.push({ at, lineEnds: this.lineEnds });
-        for (let from = 0; from < bytes.length && this.feed.refusal === 0n; from += FED) {
-            const some = bytes.subarray(from, from + FED);
-            // no record has fewer than three bytes, but the first and the last may lie outside of the piece in part
-            this.makeRoom(Math.floor(some.length / 3) + 2);
-            const piece = this.piece.part(0, some.length);
-            this.proved.bytes(piece).set(some);
-            const before = this.feed;
-            this.feed = this.proved.call("feed_piece", before, piece, this.table);
-            if (this.feed.refusal !== 0n) this.stopped = at + from + this.until(before, piece);
-        }
-        this.nameRows(at, bytes);
         for (let k = bytes.indexOf(10); k >= 0; k = bytes.indexOf(10, k + 1)) this.lineEnds++;
-        return { refused: this.feed.refusal !== 0n };
-    }
-
-    makeRoom(more) {
-        const wanted = (Number(this.feed.rows) + more) * ROW;
-        if (this.table.length < wanted) this.table = this.proved.resized(this.table, wanted);
-    }
-
-    // How many bytes of a piece were taken when it was refused. The refusal is the same for every way of splitting, so halving finds it.
-    until(before, piece) {
-        let [good, bad] = [0, piece.length];
-        while (bad - good > 1) {
-            const middle = Math.floor((good + bad) / 2);
-            const told = this.proved.call("feed_piece", before, piece.part(0, middle), this.table);
-            if (told.refusal === 0n) good = middle;
-            else bad = middle;
-        }
-        return bad;
-    }
-
-    // Keeps the names of the rows that were written, which are spans of the file until then.
-    nameRows(at, bytes) {
-        for (; this.named < Number(this.feed.rows); this.named++) {
-            const { name, description } = this.proved.row(this.table, this.named);
-            const [from, to] = [name[0], description[1] > 0 ? description[0] + description[1] : name[0] + name[1]];
-            if (from >= at && to <= at + bytes.length) this.keep(this.named, bytes.subarray(from - at, to - at));
-            else this.far.push({ row: this.named, from, to });
-        }
-    }
-
-    keep(row, bytes) {
-        const { kept } = this;
-        if (kept.used + bytes.length > kept.bytes.length) {
-            const more = new Uint8Array(2 * (kept.used + bytes.length));
-            more.set(kept.bytes.subarray(0, kept.used));
-            kept.bytes = more;
-        }
-        kept.bytes.set(bytes, kept.used);
-        const { name, description } = this.proved.row(this.table, row);
-        this.proved.rename(this.table, row, kept.used, description[1] > 0 ? kept.used + description[0] - name[0] : 0);
-        kept.used += bytes.length;
-    }
-
-    // What was told of the whole file, and its rows. The names that passed by early are wanted then.
-    rows() {
-        if (!this.ended) {
-            this.makeRoom(1);
-            const { refusal } = this.feed;
-            this.feed = this.proved.call("feed_end", this.feed, this.table);
-            if (refusal === 0n && this.feed.refusal !== 0n) this.stopped = this.length + 1;
-            this.nameRows(0, new Uint8Array(0));
-            this.table = this.proved.resized(this.table, Number(this.feed.rows) * ROW);
-            this.ended = true;
-        }
-        const told = { ...this.feed, call: "feed_end" };
-        if (told.refusal !== 0n) return [told, { count: Number(told.rows) }];
-        if (!this.own) {
-            const found = allOf(this.far.map(({ from, to }) => () => this.bytes(from, to)));
-            this.far.forEach(({ row }, k) => this.keep(row, found[k]));
-            const names = this.proved.lend(this.kept.bytes.subarray(0, this.kept.used));
-            this.own = { names, table: this.table, count: Number(told.rows) };
-            this.kept = this.far = undefined;
-        }
-        return [told, this.own];
     }
 
     // Some bytes of the file, which the page has handed over with what is asked.
@@ -254,5 +183,179 @@ export class Parts {
         if (found.refusal !== 0n) return found;
         const read = this.exact(rows, Number(found.count), said.start, said.end);
         return read.refusal === 0n ? { ...proved.call("score_typed", read.out, typed, said.edition), key: read.out } : read;
+    }
+}
+
+// FASTA in parts: the proved feeder (K1) makes the rows.
+export class FastaParts extends Parts {
+    fastq = false;
+
+    // Nothing may be given room behind it until it has ended: its table grows.
+    constructor(proved, length, strict) {
+        super(proved, length);
+        this.feed = proved.call("feed_start", strict ? 0n : 1n);
+        this.piece = proved.room(FED);
+        this.table = proved.room(0);
+        this.kept = new Gathered(); // names and descriptions
+        this.named = 0; // rows whose names are kept
+        this.far = []; // rows whose names passed by before they were written
+    }
+
+    // The next bytes of it. Tells whether it is refused: then the rest is not wanted.
+    take(at, bytes) {
+        this.pass(at, bytes);
+        for (let from = 0; from < bytes.length && this.feed.refusal === 0n; from += FED) {
+            const some = bytes.subarray(from, from + FED);
+            // no record has fewer than three bytes, but the first and the last may lie outside of the piece in part
+            this.makeRoom(Math.floor(some.length / 3) + 2);
+            const piece = this.piece.part(0, some.length);
+            this.proved.bytes(piece).set(some);
+            const before = this.feed;
+            this.feed = this.proved.call("feed_piece", before, piece, this.table);
+            if (this.feed.refusal !== 0n) this.stopped = at + from + this.until(before, piece);
+        }
+        this.nameRows(at, bytes);
+        return { refused: this.feed.refusal !== 0n };
+    }
+
+    makeRoom(more) {
+        const wanted = (Number(this.feed.rows) + more) * ROW;
+        if (this.table.length < wanted) this.table = this.proved.resized(this.table, wanted);
+    }
+
+    // How many bytes of a piece were taken when it was refused. The refusal is the same for every way of splitting, so halving finds it.
+    until(before, piece) {
+        let [good, bad] = [0, piece.length];
+        while (bad - good > 1) {
+            const middle = Math.floor((good + bad) / 2);
+            const told = this.proved.call("feed_piece", before, piece.part(0, middle), this.table);
+            if (told.refusal === 0n) good = middle;
+            else bad = middle;
+        }
+        return bad;
+    }
+
+    // Keeps the names of the rows that were written, which are spans of the file until then.
+    nameRows(at, bytes) {
+        for (; this.named < Number(this.feed.rows); this.named++) {
+            const { name, description } = this.proved.row(this.table, this.named);
+            const [from, to] = [name[0], description[1] > 0 ? description[0] + description[1] : name[0] + name[1]];
+            if (from >= at && to <= at + bytes.length) this.keep(this.named, bytes.subarray(from - at, to - at));
+            else this.far.push({ row: this.named, from, to });
+        }
+    }
+
+    keep(row, bytes) {
+        const at = this.kept.length;
+        this.kept.add(bytes);
+        const { name, description } = this.proved.row(this.table, row);
+        this.proved.rename(this.table, row, at, description[1] > 0 ? at + description[0] - name[0] : 0);
+    }
+
+    // What was told of the whole file, and its rows. The names that passed by early are wanted then.
+    rows() {
+        if (!this.ended) {
+            this.makeRoom(1);
+            const { refusal } = this.feed;
+            this.feed = this.proved.call("feed_end", this.feed, this.table);
+            if (refusal === 0n && this.feed.refusal !== 0n) this.stopped = this.length + 1;
+            this.nameRows(0, new Uint8Array(0));
+            this.table = this.proved.resized(this.table, Number(this.feed.rows) * ROW);
+            this.ended = true;
+        }
+        const told = { ...this.feed, call: "feed_end" };
+        if (told.refusal !== 0n) return [told, { count: Number(told.rows) }];
+        if (!this.own) {
+            const found = allOf(this.far.map(({ from, to }) => () => this.bytes(from, to)));
+            this.far.forEach(({ row }, k) => this.keep(row, found[k]));
+            const names = this.proved.lend(this.kept.bytes);
+            this.own = { names, table: this.table, count: Number(told.rows) };
+            this.kept = this.far = undefined;
+        }
+        return [told, this.own];
+    }
+
+    // Where the fault lies that it was refused for. A line is judged with the byte behind its end, or with the end of the file.
+    faultAt({ refusal, first }) {
+        if (refusal === 6n || refusal === 7n) return { offset: Math.max(0, this.stopped - 2), ofLine: true };
+        return { offset: Math.max(0, Number(first) - (refusal === 5n ? 1 : 0)), ofLine: false };
+    }
+}
+
+// FASTQ in parts: a part is handed over as whole lines, from the begin of a record on, and the proved indexer takes the records that it has whole. With
+// what is left the next part begins. docs/DECISIONS.md says why rows and refusal are those of the whole file.
+export class FastqParts extends Parts {
+    fastq = true;
+
+    constructor(proved, length) {
+        super(proved, length);
+        this.left = new Gathered(); // the bytes from the first record on that is not taken yet
+        this.begin = 0; // where they begin
+        this.wanted = 0; // how many there should be before they are looked at again
+        this.reads = new Reads();
+        this.told = { call: "fastq_index", refusal: 0n, first: 0n, second: 0n };
+        // the call with the file's length alone: a file over the limit is refused before any byte of it is read
+        const none = proved.room(0);
+        if (proved.call("needed_bytes", BigInt(length), 0n, none, 0n, 0n, 0n, 0n, 0n, 0n).refusal === 1n) this.told.refusal = 1n;
+    }
+
+    // As above.
+    take(at, bytes) {
+        this.pass(at, bytes);
+        this.left.add(bytes);
+        const isEnd = this.passed === this.length;
+        if (this.told.refusal === 0n && (isEnd || this.left.length >= this.wanted)) this.look(isEnd);
+        return { refused: this.told.refusal !== 0n };
+    }
+
+    // Takes the records that are there. Of a file that goes on whole lines alone are looked at.
+    look(isEnd) {
+        const { proved, left, begin } = this;
+        const bytes = isEnd ? left.bytes : left.bytes.subarray(0, left.bytes.lastIndexOf(10) + 1);
+        proved.using(() => {
+            const { table, ...told } = proved.table("fastq_index", proved.lend(bytes), FASTQ_ROW, this.rowsBefore);
+            const end = this.reads.add(proved.bytes(table).slice(), bytes, begin);
+            this.rowsBefore = 1024 + Number(told.count);
+            if (told.refusal !== 0n && (isEnd || !this.isCutOff(told, bytes, end))) this.refuse(told, bytes, end);
+            this.begin += end;
+            left.drop(end);
+            // a record that is longer than a part is looked at again where there is twice as much of it, so that each byte is read but a few times
+            this.wanted = end > 0 ? 0 : 2 * left.length;
+        });
+    }
+
+    // Whether a refusal may come of it that the record's lines end with the part. Where there is no '+' line yet, or no line of bases, it may; where a
+    // line of qualities has none, it is missing or blank: behind the part a line is put that is one letter too long, and where that is found in its
+    // place the line is missing.
+    isCutOff({ refusal, first, second }, bytes, end) {
+        if (refusal === 38n) return true;
+        if (refusal === 5n) return first === BigInt(bytes.length);
+        if (refusal !== 39n || first !== 0n) return false;
+        const { proved } = this;
+        return proved.using(() => {
+            const longer = new Uint8Array(bytes.length - end + Number(second) + 2).fill(33);
+            longer.set(bytes.subarray(end));
+            longer[longer.length - 1] = 10;
+            return proved.call("fastq_index", proved.lend(longer), proved.room(FASTQ_ROW)).first === second + 1n;
+        });
+    }
+
+    // The first refusal is the file's own: its offset counts from the file's begin.
+    refuse(told, bytes, end) {
+        const { offset, ofLine } = refusedPlace(told, bytes, end);
+        this.fault = { offset: this.begin + offset, ofLine };
+        const isOffset = told.refusal >= 2n && told.refusal <= 5n;
+        this.told = { ...told, first: isOffset ? told.first + BigInt(this.begin) : told.first };
+    }
+
+    rows() {
+        if (this.told.refusal !== 0n) return [this.told, { count: this.reads.count }];
+        this.own ??= this.reads.rows(this.proved);
+        this.reads = this.left = undefined;
+        return [this.told, this.own];
+    }
+
+    faultAt() {
+        return this.fault;
     }
 }

@@ -1,18 +1,19 @@
 // Where in a file a fault lies, for what is shown. It judges nothing: the proved code has refused by then. As host/command/src/place.rs.
 
-const LF = 10;
+export const LF = 10;
 const CR = 13;
-const DEFINES = 62; // '>'
-const SHOWN = 60;
+export const DEFINES = 62; // '>'
+export const PLUS = 43;
+const CUT = 60; // letters of a line that are shown
 
 // The offset behind the line that begins at an offset.
-function behind(bytes, at) {
+export function behind(bytes, at) {
     const end = bytes.indexOf(LF, at);
     return end < 0 ? bytes.length : end + 1;
 }
 
 // How many bases the line from `at` to `next` has: its bytes without LF and one CR.
-function basesIn(bytes, at, next) {
+export function basesIn(bytes, at, next) {
     let end = next;
     if (end > at && bytes[end - 1] === LF) end--;
     if (end > at && bytes[end - 1] === CR) end--;
@@ -75,8 +76,8 @@ export function baseOf(bytes, definition, base) {
 export function about(bytes, line, offset) {
     const length = basesIn(bytes, line.start, line.next);
     const at = Math.min(Math.max((offset ?? line.start) - line.start, 0), length);
-    const from = length <= SHOWN ? 0 : Math.max(0, Math.min(at - SHOWN / 2, length - SHOWN));
-    const to = Math.min(length, from + SHOWN);
+    const from = length <= CUT ? 0 : Math.max(0, Math.min(at - CUT / 2, length - CUT));
+    const to = Math.min(length, from + CUT);
     const part = (a, b) => shown(bytes.subarray(line.start + a, line.start + b));
     const front = (from > 0 ? ".." : "") + part(from, at);
     return {

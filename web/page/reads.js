@@ -1,12 +1,13 @@
 // What is asked of a file that is open: reads, sheets, exercises, primers. Part of the worker. A file in parts may want bytes for any of these
 // (held.js): then nothing was done, and it is asked again.
 import { ROW } from "./wakeluri.js";
-import { Fastq, Wanted } from "./held.js";
+import { Wanted, allOf } from "./held.js";
+import { qualitiesAsRows } from "./fastq.js";
 import { shown } from "./places.js";
 import { likeBounds, readings, sheetLines, typedBytes, written } from "./regions.js";
 
 // What is open: the module's calls, the file and its index, its own rows, by which records are listed, and the rows that reads go by: the same, or
-// those of an accepted index. Rows are { names, table, count }.
+// those of an accepted index. Rows are { names, table, count }, and of FASTQ `qualities` too.
 export const now = {};
 export const NOT_OPEN = { notOpen: true };
 
@@ -19,10 +20,10 @@ const latin1 = new TextDecoder("latin1");
 export function span({ names }, [start, length]) {
     return now.proved.bytes(names.part(start, length));
 }
-export function rowOf({ table, size }, row) {
-    return now.proved.row(table, row, size);
+export function rowOf({ table }, row) {
+    return now.proved.row(table, row);
 }
-const nameOf = (rows, row) => span(rows, rowOf(rows, row).name);
+export const nameOf = (rows, row) => span(rows, rowOf(rows, row).name);
 const lengthOf = (rows, row) => rowOf(rows, row).length;
 const textOf = (room) => latin1.decode(now.proved.bytes(room));
 
@@ -55,7 +56,7 @@ function strands({ row, first, last, strand }) {
 
 // The qualities of a region of FASTQ, in the order of the bases that are shown, or of the first of them; or the refusal.
 function qualitiesOf({ row, first, last, strand }) {
-    const read = now.file.exact(now.kept, row, first, last, true);
+    const read = now.file.exact(qualitiesAsRows(now.proved, now.kept, row), 0, first, last);
     if (read.refusal !== 0n || strand !== "other") return read;
     now.proved.bytes(read.out).reverse();
     return read;
@@ -179,8 +180,22 @@ function keysOf(regions, width) {
     return failed ?? { keys, parts: parts.unwritten ? undefined : [...parts] };
 }
 
-// One answer against the key of an exercise: the counts, and at each place of the key what the proved code says of it alone.
-function scored(exercise, edition, typed, most) {
+// What the proved code says of one place of a key alone, as a mark: a function of the two bytes, of which the second may be missing. Each pair is asked once.
+function marker(edition) {
+    const { proved } = now;
+    const known = new Map();
+    return (key, typed) => {
+        const pair = 1000 * key + (typed ?? 999);
+        if (!known.has(pair)) {
+            const one = proved.using(() => proved.call("score_typed", proved.lend([key]), proved.lend(typed === undefined ? [] : [typed]), edition));
+            known.set(pair, one.right === 1n ? "|" : one.wrong === 1n ? "x" : "-");
+        }
+        return known.get(pair);
+    };
+}
+
+// One answer against the key of an exercise: the counts, and a mark at each place of the key.
+function scored(exercise, mark, typed, most) {
     const { proved, file, kept } = now;
     return proved.using(() => {
         const lent = proved.lend(typed);
@@ -188,18 +203,14 @@ function scored(exercise, edition, typed, most) {
         if (told.refusal !== 0n) return refused(told);
         const { right, wrong, missing, surplus, score, key } = told;
         const places = Math.min(most, key.length);
-        let marks = "";
-        for (let k = 0; k < places; k++) {
-            const one = proved.call("score_typed", key.part(k, 1), lent.part(Math.min(k, lent.length), k < lent.length ? 1 : 0), edition);
-            marks += one.right === 1n ? "|" : one.wrong === 1n ? "x" : "-";
-        }
+        const bases = proved.bytes(key.part(0, places)).slice();
+        let marks = Array.from(bases, (base, k) => mark(base, typed[k])).join("");
         if (places === key.length) {
-            const count = (mark) => BigInt(marks.split(mark).length - 1);
+            const count = (one) => BigInt(marks.split(one).length - 1);
             if (count("|") !== right || count("x") !== wrong || count("-") !== missing) throw new Error("the marks are not the counts");
             marks += "+".repeat(Math.min(Number(surplus), most));
         }
-        const shownKey = letters(proved.bytes(key.part(0, places)));
-        return { right, wrong, missing, surplus, score, marks, typed: letters(typed.subarray(0, marks.length)), key: shownKey, whole: places === key.length };
+        return { right, wrong, missing, surplus, score, marks, typed: letters(typed.subarray(0, marks.length)), key: letters(bases), whole: places === key.length };
     });
 }
 
@@ -222,13 +233,20 @@ export const READS = {
         const { proved } = now;
         if (!now.kept) return NOT_OPEN;
         return proved.using(() => {
-            const told = strands({ row, first, last, strand });
+            const asked = { row, first, last, strand };
+            // what both want is wanted at once
+            const [told, qualities] = allOf([() => strands(asked), () => (now.file.fastq ? qualitiesOf(asked) : undefined)]);
             if (told.refusal !== 0n) return refused(told);
             const text = (bases) => textOf(bases.part(0, Math.min(most, bases.length)));
             const count = told.found[0].bases.length;
-            const answer = { count, strands: told.found.map(({ other, bases }) => ({ other, text: text(bases) })), name: shown(nameOf(now.kept, row)) };
-            if (!(now.file instanceof Fastq)) return answer;
-            const qualities = qualitiesOf({ row, first, last, strand });
+            const answer = {
+                count,
+                strands: told.found.map(({ other, bases }) => ({ other, text: text(bases) })),
+                name: shown(nameOf(now.kept, row)),
+                first: first ?? 1n,
+                last: last ?? lengthOf(now.kept, row),
+            };
+            if (!qualities) return answer;
             return qualities.refusal === 0n ? { ...answer, qualities: shown(proved.bytes(qualities.out.part(0, Math.min(most, count)))) } : refused(qualities);
         });
     },
@@ -310,7 +328,8 @@ export const READS = {
             const lent = proved.lend(new Uint8Array(bytes));
             const said = exerciseIn(lent);
             if (said.refused) return said;
-            const scores = answers.map(({ who, typed }) => ({ who, ...scored(lent, said.exercise.edition, typedBytes(typed), most) }));
+            const mark = marker(said.exercise.edition);
+            const scores = answers.map(({ who, typed }) => ({ who, ...scored(lent, mark, typedBytes(typed), most) }));
             const failed = scores.find((score) => score.refused);
             return failed ? { ...failed, ...said } : { ...said, key: scores[0].key, whole: scores[0].whole, scores };
         });

@@ -19,9 +19,10 @@ function t(key, values) {
 function number(value) {
     return typeof value === "number" || typeof value === "bigint" ? numbers.format(value) : value;
 }
-// A text that goes by how many there are.
+// A text that goes by how many there are. A language may have more forms than English (few, many ..); one that it lacks is `other`.
 function many(key, count, values) {
-    return t(`${key}.${plural.select(Number(count)) === "one" ? "one" : "other"}`, { count, ...values });
+    const form = `${key}.${plural.select(Number(count))}`;
+    return t(form in texts ? form : `${key}.other`, { count, ...values });
 }
 // Tenths of a percent, as a percentage.
 function percent(tenths) {

@@ -7,7 +7,7 @@ const PAGE = 65536;
 const MOST = 2 ** 32; // bytes of a memory with 32-bit addresses
 const ANSWER = 32 * 8;
 
-// A row of a table, as include/wakeluri.h has it: eight numbers, and of FASTQ seven.
+// A row of a table, as include/wakeluri.h has it: eight numbers, and of FASTQ seven. What is kept are rows of eight (fastq.js).
 export const ROW = 64;
 export const FASTQ_ROW = 56;
 
@@ -155,9 +155,9 @@ export class Wakeluri {
     }
 
     // A table with a row for each record or line: `name` is a call that fills one from some bytes. It is the last room, and made anew
-    // while it has too few rows (refusal 8).
-    table(name, text, size = ROW) {
-        for (let rows = 1024; ; rows *= 8) {
+    // while it has too few rows (refusal 8); `most` rows are tried first.
+    table(name, text, size = ROW, most = 1024) {
+        for (let rows = most; ; rows = Math.max(1024, rows * 8)) {
             const table = this.room(rows * size);
             const told = this.call(name, text, table);
             if (told.refusal !== 8n) {
@@ -169,27 +169,30 @@ export class Wakeluri {
         }
     }
 
-    // One row of a table, by the header's names: of FASTQ there is no description, and the place of the qualities.
-    row(table, row, size = ROW) {
+    // One row of a table, by the header's names.
+    row(table, row) {
         const view = new DataView(this.memory.buffer, table.start, table.length);
-        const number = (k) => view.getBigUint64(size * row + 8 * k, true);
-        const more = size === ROW ? { description: [Number(number(6)), Number(number(7))] } : { description: [0, 0], qualityPosition: number(6) };
+        const number = (k) => view.getBigUint64(ROW * row + 8 * k, true);
         return {
             name: [Number(number(0)), Number(number(1))],
             length: number(2),
             position: number(3),
             lineBases: number(4),
             lineWidth: number(5),
-            ...more,
+            description: [Number(number(6)), Number(number(7))],
         };
     }
 
-    // For a walk over many rows: a function that tells where the name and the description of a row lie, as four numbers. Their places are in a room,
-    // so that the low half of each number says it. Until the memory grows.
-    spans(table, size = ROW) {
-        const view = new DataView(this.memory.buffer, table.start, table.length);
-        const half = (row, k) => view.getUint32(size * row + 8 * k, true);
-        return (row) => [half(row, 0), half(row, 1), ...(size === ROW ? [half(row, 6), half(row, 7)] : [0, 0])];
+    // The halves of a room's numbers, low half first, as JavaScript's numbers: for a walk over many rows. Until the memory grows.
+    halves(room) {
+        return new Uint32Array(this.memory.buffer, room.start, room.length / 4);
+    }
+
+    // For such a walk: a function that tells where the name and the description of a row lie, as four numbers. Their places are in a room, so that
+    // the low half of each number says it.
+    spans(table) {
+        const halves = this.halves(table);
+        return (row) => [halves[16 * row], halves[16 * row + 2], halves[16 * row + 12], halves[16 * row + 14]];
     }
 
     // Puts the name and the description of a row at other places: for rows whose file is not at hand, and whose names are kept apart.

@@ -15,7 +15,7 @@ byId("read-form").addEventListener("submit", (e) => {
         const told = await askFile("read", { ...wanted, most: SHOWN });
         if (told.refused) return show(byId("count"), t("nothing.read", { refused: refusal(told).text }), "bad");
         const bases = many("base", told.count);
-        show(byId("count"), t(told.count > SHOWN ? "read.count.first" : "read.count", { name: told.name, bases, shown: SHOWN }), "good");
+        show(byId("count"), t(told.count > SHOWN ? "read.count.first" : "read.count", { ...told, bases, shown: SHOWN }), "good");
         for (const { other, text } of told.strands) {
             const label = t(other ? "read.other" : "read.bases");
             byId("bases").append(made("p", label, { class: "quiet" }), made("pre", text, { tabindex: "0", role: "region", "aria-label": label, class: "bases" }));
@@ -26,6 +26,8 @@ byId("read-form").addEventListener("submit", (e) => {
         }
         const lines = [...told.strands.map(({ text }) => text), ...(told.qualities === undefined ? [] : [told.qualities])];
         lastRead = { ...wanted, name: told.name, text: lines.join("\n") };
+        // what is not all shown is not copied in part either
+        byId("copy").hidden = told.count > SHOWN;
         byId("read-more").hidden = false;
     });
 });
@@ -67,7 +69,8 @@ function answerSheet() {
         const code = (text) => made("code", text);
         if (told.faults) {
             show(byId("sheet-told"), many("sheet.faults", told.faults.length, { regions: told.regions }), "bad");
-            const rows = told.faults.map((fault) => [number(fault.line), code(fault.text), fault.refused ? refusal(fault).text : t(fault.fault)]);
+            const why = ({ words: said, code: numbered }) => t("refused.coded", { said, code: numbered });
+            const rows = told.faults.map((fault) => [number(fault.line), code(fault.text), fault.refused ? why(refusal(fault)) : t(fault.fault)]);
             byId("keys").append(tabled(undefined, [t("sheet.line"), t("sheet.region"), t("sheet.fault")], rows));
             return;
         }
@@ -75,10 +78,11 @@ function answerSheet() {
         show(byId("sheet-told"), many("sheet.done", told.keys.length), "good");
         // strands are shown where one is turned
         const turned = told.keys.some((key) => key.reverse);
-        const strand = (key) => (turned ? [t(key.reverse ? "strand.minus" : "strand.plus")] : []);
-        const rows = told.keys.map((key) => [number(key.line), code(key.text), ...strand(key), key.label ?? "", code(key.bases.slice(0, SHOWN))]);
+        const strand = ({ reverse }) => (turned ? [t(reverse ? "strand.minus" : "strand.plus")] : []);
+        const key = ({ bases }) => made("code", bases.length > SHOWN ? t("sheet.key.first", { first: bases.slice(0, SHOWN), shown: SHOWN, bases: many("base", bases.length) }) : bases, { class: "bases" });
+        const rows = told.keys.map((one) => [number(one.line), code(one.text), ...strand(one), one.label ?? "", key(one)]);
         const heads = ["sheet.line", "sheet.region", ...(turned ? ["strand"] : []), "sheet.label", "sheet.key"];
-        byId("keys").append(tabled(undefined, heads.map((key) => t(key)), rows));
+        byId("keys").append(tabled(undefined, heads.map((head) => t(head)), rows));
         lastSheet = told;
         byId("save-keys").hidden = told.parts === undefined;
         byId("sheet-more").hidden = false;
@@ -121,19 +125,24 @@ async function setExercise(bytes) {
 byId("exercise-file").addEventListener("change", (e) => takeExercise(e.target.files[0]));
 byId("score-form").addEventListener("submit", (e) => {
     e.preventDefault();
-    score([{ who: t("score.typed"), typed: byId("typed").value }], false);
+    score([{ who: t("score.typed"), typed: byId("typed").value }]);
 });
+let lastClass;
 async function takeClass(file) {
     if (!file) return;
+    lastClass = file;
     await working(byId("scored"), async () => {
         const rows = cells(await textOf(file));
         if (rows === null) return show(byId("scored"), t("class.bad"), "bad");
-        const answers = answersOf(rows, byId("headed").checked);
+        const headed = byId("headed").checked;
+        const answers = answersOf(rows, headed);
         if (answers.length === 0) return show(byId("scored"), t("class.empty"), "bad");
-        await score(answers, true);
+        const scoredOf = many("score.class", answers.length);
+        await score(answers, headed ? `${scoredOf} ${t("class.heading", { heading: rows[0].join(", ") })}` : scoredOf);
     });
 }
 byId("class-file").addEventListener("change", (e) => takeClass(e.target.files[0]));
+byId("headed").addEventListener("change", () => takeClass(lastClass));
 
 // The key, the answer and the marks under each other, in blocks that fit a page.
 function marked(key, { typed, marks }) {
@@ -148,6 +157,7 @@ function marked(key, { typed, marks }) {
     block.textContent = lines.join("\n");
     return block;
 }
+// Scores answers, and says so: of a class in words that are given, else the score.
 function score(answers, ofClass) {
     byId("scores").textContent = "";
     byId("score-more").hidden = true;
@@ -156,7 +166,7 @@ function score(answers, ofClass) {
         const told = await askFile("score", { bytes: exercise, answers, most: MARKED });
         if (told.refused) return show(byId("scored"), refusal(told).text, "bad");
         const one = told.scores[0];
-        show(byId("scored"), ofClass ? many("score.class", told.scores.length) : t("score.one", { ...one, score: percent(one.score) }), "good");
+        show(byId("scored"), ofClass ?? t("score.one", { ...one, score: percent(one.score) }), "good");
         const heads = ["who", "score", "right", "wrong", "missing", "surplus"].map((column) => t(`score.${column}`));
         const rows = told.scores.map((each) => [each.who, `${percent(each.score)} %`, ...[each.right, each.wrong, each.missing, each.surplus].map(number)]);
         byId("scores").append(tabled(t("score.caption", told.exercise), heads, rows), made("p", t("score.legend"), { class: "quiet" }));
@@ -181,10 +191,11 @@ byId("primer-form").addEventListener("submit", (e) => {
         if (byId("where").value === "one" && only === undefined) return show(byId("primer-told"), t("records.choose"), "bad");
         byId("stop-primer").hidden = false;
         const places = [];
-        const placed = () => many("primer.place", places.length);
+        const letters = byId("primer").value.trim();
+        const placed = () => t("primer.placed", { letters, places: many("primer.place", places.length) });
         let told, at;
         do {
-            told = await askFile("primer", { letters: byId("primer").value, only, at });
+            told = await askFile("primer", { letters, only, at });
             if (mine !== search && !told.refused) break;
             if (told.refused) {
                 byId("stop-primer").hidden = true;

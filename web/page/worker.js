@@ -4,19 +4,21 @@
 // A message is { id, ask, .. }, its answer { id, .. }. Files come as bytes, part by part: the page reads them, since WebKit lets no worker
 // read a file of a page that was itself opened as a file. For the same reason no Blob is made here. Of a file in parts an answer may be
 // { id, wanted }: then the page asks again with these bytes as `windows`.
-import { FASTQ_ROW, NoRoom, ROW, Wakeluri } from "./wakeluri.js";
-import { Fastq, Parts, Wanted, Whole } from "./held.js";
-import { fastqLines, isOfRecord, lineRead, linesNear, linesOf, recordName } from "./faults.js";
-import { about, kindOf, lineOf, shown } from "./places.js";
-import { NOT_OPEN, READS, now, refused, rowOf, span, utf8 } from "./reads.js";
+import { NoRoom, ROW, Wakeluri } from "./wakeluri.js";
+import { FastaParts, FastqParts, Wanted, Whole, WholeFastq } from "./held.js";
+import { lineWriter, qualityNumbers, sixColumns } from "./fastq.js";
+import { checkedBeside } from "./beside.js";
+import { fastqLines, isOfRecord, linesBeside, linesNear, linesOf, placeBy, recordName } from "./faults.js";
+import { kindOf, shown } from "./places.js";
+import { NOT_OPEN, READS, nameOf, now, refused, rowOf, span, utf8 } from "./reads.js";
 
 // The rows that an index tells.
 function rowsIn(index) {
-    const [call, size] = isFastq() ? ["fastq_read_index", FASTQ_ROW] : ["read_index", undefined];
-    const told = now.proved.table(call, index, size);
-    return [told, { names: index, table: told.table, count: Number(told.count), size }];
+    const { proved, file } = now;
+    if (file.fastq) return sixColumns(proved, index);
+    const told = proved.table("read_index", index);
+    return [told, { names: index, table: told.table, count: Number(told.count) }];
 }
-const isFastq = () => now.file instanceof Fastq;
 
 // The rows of the file by a rule, or why it has none.
 function rowsOf(strict) {
@@ -25,63 +27,52 @@ function rowsOf(strict) {
     return refused(told, { about: "index", before: rows.count, lines: linesAt(told, rows) });
 }
 function linesAt(told, rows) {
-    if (now.file instanceof Parts) return linesNear(told, now.file);
-    const bytes = now.proved.bytes(now.file.room);
-    return isFastq() ? fastqLines(told, bytes, undefined, { last: lastOf(rows) }) : linesOf(told, bytes);
+    const { proved, file } = now;
+    if (file.inParts) return linesNear(told, file);
+    const bytes = proved.bytes(file.room);
+    return file.fastq ? fastqLines(told, bytes, undefined, rows) : linesOf(told, bytes);
 }
-const lastOf = (rows) => (rows.count > 0 ? rowOf(rows, rows.count - 1) : undefined);
 
 // The lines that a refusal of a checker is about, and the name of its record, where it is about one.
 function placesOf(told) {
     const { proved, file, index } = now;
-    if (!isFastq()) return { lines: linesOf(told, proved.bytes(file.room), proved.bytes(index)), name: recordName(told, proved, file.room) };
+    if (!file.fastq) return { lines: linesOf(told, proved.bytes(file.room), proved.bytes(index)), name: recordName(told, proved, file.room) };
     return proved.using(() => {
         const [, rows] = file.rows();
         const number = Number(told.first) - 1;
-        const record = isOfRecord(told) && number < rows.count ? rowOf(rows, number) : undefined;
-        const lines = fastqLines(told, proved.bytes(file.room), proved.bytes(index), { record, last: lastOf(rows) });
-        return { lines, name: record && shown(span(rows, record.name)) };
+        if (!isOfRecord(told) || number >= rows.count) return { lines: fastqLines(told, proved.bytes(file.room), proved.bytes(index), rows) };
+        const at = shownOf(told, rows, number);
+        return { lines: fastqLines(told, proved.bytes(file.room), proved.bytes(index), { at }), name: shown(nameOf(rows, number)) };
     });
 }
 
-// The line of an index of a row, as bytes, in a room that is lent for it.
-function indexLine({ names, table, count }, row, room) {
-    return now.proved.call(isFastq() ? "fastq_write_line" : "write_index_line", names, table, BigInt(count), BigInt(row), room);
+// Where in a FASTQ file a fault of an index shows: at the base that its line doesn't lead to, or else at the quality; of another fault at the record.
+function shownOf(told, rows, record) {
+    if (told.refusal !== 23n) return { offset: Number(placeBy(rowOf(rows, record), 1n)) - 1, ofLine: true };
+    return { offset: elsewhere(told, rows, rowsIn(now.index)[1], record), ofLine: false };
 }
 
-// The first row, from 0, whose name or numbers are not those of the other rows; undefined where all are.
-function firstOther(rows, others) {
-    const told = ({ length, position, lineBases, lineWidth }) => `${length} ${position} ${lineBases} ${lineWidth}`;
-    for (let row = 0; row < Math.max(rows.count, others.count); row++) {
-        if (row >= rows.count || row >= others.count) return row;
-        const [one, other] = [rowOf(rows, row), rowOf(others, row)];
-        if (told(one) !== told(other) || !sameBytes(span(rows, one.name), span(others, other.name))) return row;
-    }
-    return undefined;
-}
-function sameBytes(some, others) {
-    return some.length === others.length && some.every((byte, k) => byte === others[k]);
+// The offset of the base that an index's row doesn't lead to, or of FASTQ where it leads to the base, of its quality.
+function elsewhere(told, rows, given, record) {
+    const [own, theirs] = [rowOf(rows, record), rowOf(given, record)];
+    const isQuality = rows.qualities && placeBy(own, told.second) === placeBy(theirs, told.second);
+    return Number(placeBy(isQuality ? qualityNumbers(now.proved, rows, record) : own, told.second));
 }
 
-// An index beside the rows that were made of a file in parts: a refusal of the index's own lines, the first line that says something else, or
-// neither. Where all say the same the checker would accept, since the rows lead to every base (docs/DECISIONS.md).
-function compared() {
-    const { proved, index, own } = now;
+// What the checker says of an index of a file in parts, with the lines that it is about.
+function checkedInParts() {
+    const { proved, index, own, file } = now;
     return proved.using(() => {
-        const [told, given] = rowsIn(index);
-        const bytes = proved.bytes(index);
-        if (told.refusal !== 0n) return refused(told, { about: "check", lines: lineRead(told, bytes) });
-        const row = firstOther(own, given);
-        if (row === undefined) return { same: true };
-        const there = row < given.count ? lineOf(bytes, row + 1) : undefined;
-        const line = row < own.count ? proved.output((out) => indexLine(own, row, out)) : undefined;
-        return {
-            other: {
-                line: row + 1,
-                given: there && about(bytes, there),
-                made: line && (line.refusal === 0n ? shown(proved.bytes(line.out.part(0, line.out.length - 1))) : ""),
-            },
-        };
+        const read = rowsIn(index);
+        const told = checkedBeside(proved, own, read);
+        if (told.refusal === 0n) return {};
+        const record = Number(told.first) - 1;
+        if (told.refusal === 20n) return refused(told, { about: "check", lines: linesBeside(told, file, proved.bytes(index)) });
+        const at = told.refusal === 23n ? { offset: elsewhere(told, own, read[1], record), ofLine: false } : undefined;
+        const write = lineWriter(proved, own);
+        const line = proved.output((out) => write(record, out));
+        const made = line.refusal === 0n ? shown(proved.bytes(line.out.part(0, line.out.length - 1))) : "";
+        return refused(told, { about: "check", name: shown(nameOf(own, record)), lines: linesBeside(told, file, proved.bytes(index), at, made) });
     });
 }
 
@@ -138,8 +129,8 @@ const FILES = {
         Object.assign(now, { own: undefined, kept: undefined, file: undefined, index: undefined, round });
         proved.giveBack(bottom);
         if (index !== undefined) now.index = proved.room(index);
-        if (fastq) now.file = new Fastq(proved, fasta);
-        else now.file = inParts ? new Parts(proved, fasta, strict && index === undefined) : new Whole(proved, fasta);
+        const [InParts, Held] = fastq ? [FastqParts, WholeFastq] : [FastaParts, Whole];
+        now.file = inParts ? new InParts(proved, fasta, strict && index === undefined) : new Held(proved, fasta);
         return {};
     },
 
@@ -157,9 +148,9 @@ const FILES = {
     judge({ strict }) {
         const { proved, index, file } = now;
         const from = performance.now();
-        const answer = { kind: file.length > 0 ? now.kind : undefined, inParts: file instanceof Parts, fastq: isFastq() };
+        const answer = { kind: file.length > 0 ? now.kind : undefined, inParts: file.inParts, fastq: file.fastq };
         if (index && !answer.inParts) {
-            const told = proved.call(isFastq() ? "fastq_check" : "check", file.room, index);
+            const told = proved.call(file.fastq ? "fastq_check" : "check", file.room, index);
             answer.checking = performance.now() - from;
             if (told.refusal !== 0n) return { ...answer, ...refused(told, { about: "check", ...placesOf(told) }) };
             [, now.kept] = rowsIn(index);
@@ -173,10 +164,8 @@ const FILES = {
         }
         now.own = made.rows;
         if (index && answer.inParts) {
-            const beside = compared();
-            if (beside.refused) return { ...answer, ...beside };
-            now.kept = now.own;
-            return { ...answer, accepted: beside.same, other: beside.other, records: now.own.count };
+            const checked = checkedInParts();
+            if (checked.refused) return { ...answer, ...checked };
         }
         now.kept ??= now.own;
         return { ...answer, accepted: index !== undefined, records: now.own.count };
@@ -188,7 +177,7 @@ const FILES = {
         const { own } = now;
         if (!now.kept) return NOT_OPEN;
         const has = textTest(search);
-        const [names, spans] = [now.proved.bytes(own.names), now.proved.spans(own.table, own.size)];
+        const [names, spans] = [now.proved.bytes(own.names), now.proved.spans(own.table)];
         const until = performance.now() + 100;
         const rows = [];
         let [matches, row] = [0, at];
@@ -212,11 +201,12 @@ const FILES = {
             if (made.refused) return made;
             const { rows } = made;
             const parts = [];
+            const write = lineWriter(proved, rows);
             let [room, used] = [proved.room(1 << 16), 0];
             for (let row = 0; row < rows.count; row++) {
                 let line;
                 for (;;) {
-                    line = indexLine(rows, row, room.part(used, room.length - used));
+                    line = write(row, room.part(used, room.length - used));
                     if (line.refusal !== 14n) break;
                     // full: keep what is there, and have room for this line at least
                     parts.push(proved.bytes(room.part(0, used)).slice());
@@ -236,7 +226,7 @@ const FILES = {
         const made = rowsOf(false);
         if (made.refused) return made;
         now.own = now.kept = made.rows;
-        return { records: made.rows.count, fastq: isFastq() };
+        return { records: made.rows.count };
     },
 };
 

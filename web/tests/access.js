@@ -11,9 +11,9 @@ const byId = (id) => document.getElementById(id);
 const named = (e) => {
     const by = (e.getAttribute("aria-labelledby") ?? "").split(/\s+/).filter(Boolean).map(byId);
     const text = [e.getAttribute("aria-label"), ...by.map((one) => one?.textContent), ...Array.from(e.labels ?? [], (one) => one.textContent), e.title];
-    return [...text, e.matches("button, a, [role=tab], legend, option") ? e.textContent : ""].some((one) => one?.trim());
+    return [...text, e.matches("button, a, summary, [role=tab], legend, option") ? e.textContent : ""].some((one) => one?.trim());
 };
-for (const e of all("button, a[href], input, select, textarea, progress, [role=tab], [role=tabpanel], [role=region], [role=tablist], section, table")) {
+for (const e of all("button, a[href], input, select, textarea, summary, progress, [role=tab], [role=tabpanel], [role=region], [role=tablist], section, table")) {
     if (seen(e) && !named(e) && !(e.matches("table") && e.closest("[role=region]"))) fault("no name", e);
 }
 for (const attribute of ["aria-labelledby", "aria-describedby", "aria-controls", "for"]) {
@@ -62,7 +62,7 @@ for (const e of all("main *")) {
     const scrolls = (/auto|scroll/.test(overflowY) && e.scrollHeight > e.clientHeight + 1) || (/auto|scroll/.test(overflowX) && e.scrollWidth > e.clientWidth + 1);
     if (seen(e) && scrolls && !focusable(e) && !all("*", e).some(focusable)) fault("scrolled by a mouse alone", e);
 }
-for (const e of all("button, input, select, textarea, a[href]").filter(seen)) {
+for (const e of all("button, input, select, textarea, summary, a[href]").filter(seen)) {
     const { width, height } = e.getBoundingClientRect();
     if (width < 24 || height < 24) fault("too small to press", e, `${width} ${height}`);
 }

@@ -11,7 +11,7 @@ with open(os.path.join(os.path.dirname(os.path.abspath(__file__)), "access.js"),
 INTERACTIVE = {"button", "link", "textbox", "searchbox", "combobox", "listbox", "checkbox", "tab", "tabpanel", "progressbar", "option", "ProgressIndicator", "region"}
 # Every element that Tab has to reach, in the order in which it stands; and where each is.
 REACHED = """
-    const used = Array.from(document.querySelectorAll("a[href], button, input, select, textarea, [tabindex='0']"))
+    const used = Array.from(document.querySelectorAll("a[href], button, input, select, textarea, summary, [tabindex='0']"))
         .filter((e) => e.checkVisibility() && !e.matches(":disabled, [tabindex='-1']"));
     used.forEach((e, k) => { e.dataset.reached = k; });
     return used.length;
@@ -28,6 +28,7 @@ def rules_kept(c):
     for scheme in ("light", "dark"):
         c.colours(scheme)
         c.person.fresh()
+        c.browser.run("document.getElementById('choices').open = true")
         found = [("at first", c.browser.run(RULES))]
         c.person.open(b">s\nACGT\nAC\n", b"s\t6\t3\t4\t6\n")
         found.append(("refused", c.browser.run(RULES)))
@@ -71,7 +72,7 @@ def by_keyboard(c):
     c.press(Keys.TAB, Keys.TAB)
     c.check("from the tabs to the fields", c.focused() == "first", c.focused())
     c.press("1", Keys.TAB, "3", Keys.ENTER)
-    c.person.expect("read by keyboard", c.person.says("count") + c.person.text("bases"), "b: 3 bases", "GGC")
+    c.person.expect("read by keyboard", c.person.says("count") + c.person.text("bases"), "b, 1 to 3: 3 bases", "GGC")
     c.browser.run("document.getElementById('tab-read').focus()")
     c.press(Keys.ARROW_RIGHT)
     c.check("the next part by an arrow", c.focused() == "tab-sheet" and c.at("panel-sheet").is_displayed() and not c.at("panel-read").is_displayed())
@@ -88,6 +89,7 @@ def by_keyboard(c):
 def order_of_focus(c):
     """Tab goes through all that can be used, in each part, in the order in which it is seen, shows where it is, and comes out again."""
     c.everything()
+    c.browser.run("document.getElementById('choices').open = true")
     for tab in TABS:
         c.person.tab(tab)
         count = c.browser.run(REACHED)

@@ -103,29 +103,82 @@ def bad_files(p, samples):
     p.expect("a bound that is none", p.read("1", "x"), "Refused", "whole number")
 
 
+FASTQ = b"@r1 first\nACGTN\n+r1\n!\"#$%\n@r2\nGGCC\nAA\n+\n@@II\n~~\n"
+FASTQ_INDEX = b"r1\t5\t10\t5\t6\t20\nr2\t6\t30\t4\t5\t40\n"
+
+
 def fastq(p, samples):
-    file = b"@r1 first\nACGTN\n+r1\n!\"#$%\n@r2\nGGCC\nAA\n+\n@@II\n~~\n"
-    index = b"r1\t5\t10\t5\t6\t20\nr2\t6\t30\t4\t5\t40\n"
-    p.expect("FASTQ", p.open(file), "2 records", "FASTQ")
-    p.expect("its index", repr(p.save("make")), repr(index.decode()))
-    p.expect("bases and qualities", p.read("3", "6", row=1), "4 bases", "BasesCCAA", "QualitiesII~~")
-    p.expect("the other strand", p.read("3", "6", "other", row=1), "TTGG", "last one first~~II")
-    p.expect("past its end", p.read("3", "7", row=1), "refused 17 (length 6)", never=["Qualities"])
-    p.expect("saved as FASTA", repr(p.save("save-fasta") if p.read("", "", row=0) else ""), repr(">r1\nACGTN\n"))
-    p.expect("no sheets of it", str(p.engine.run("return document.getElementById('sheeting').disabled")), "True")
+    fastq_used(p)
+    file, index = FASTQ, FASTQ_INDEX
     p.expect("with its index", p.open(file, index), "Accepted", "every base and every quality")
     p.expect("with another", p.open(file, index.replace(b"\t40", b"\t41")), "Refused", "refused 23 (record 2, base 1)", "The record is r2", "r2→6→30→4→5→41",
-             "a.fa.fai, line 2", "a.fa, line 5", "@r2", never=["leads to every"])
+             "a.fa.fai, line 2", "a.fa, line 9 (byte 40)", "@@II", never=["leads to every"])
     p.expect("nothing is read by it", str(p.engine.run("return document.getElementById('reading').disabled")), "True")
     p.save("make")
     p.expect("but by a new one", p.says("made") + p.read("1", "2", row=1), "Reads go by it now", "GG", "Qualities@@")
+    p.expect("another place of its bases", p.open(file, index.replace(b"\t30", b"\t31")), "refused 23 (record 2, base 1)", "a.fa, line 6 (byte 30)", "GGCC")
+    p.expect("another length", p.open(file, index.replace(b"\t6\t30", b"\t5\t30")), "refused 22 (record 2)", "a.fa, line 5", "@r2")
     p.expect("numbers that lead there too", p.open(b"@r\nACGT\n+\nIIII\n", b"r\t4\t3\t60\t61\t10\n"), "Accepted")
     p.expect("a line missing", p.open(file, b"r1\t5\t10\t5\t6\t20\n"), "no line for record 2", "r2")
     p.expect("a line too many", p.open(file, index + b"r3\t1\t2\t3\t4\t5\n"), "goes on", "line 3")
     p.expect("with five columns", p.open(file, b"r1\t5\t10\t5\t6\n"), "Refused", "the offset of the first quality")
-    p.expect("no '+' line", p.open(b"@r\nAC\nII\n"), "No index can be made", "no '+' line", "refused 38", "line 1")
-    p.expect("too few qualities", p.open(b"@q\nAC\n+\nII\n@r\nACGT\n+\nII\n"), "refused 39 (found 2, expected 4)", "line 5", "after 1 record")
+
+
+def fastq_used(p):
+    """What can be done with FASTQ, held or in parts."""
+    p.expect("FASTQ", p.open(FASTQ), "2 records")
+    p.expect("its index", repr(p.save("make")), repr(FASTQ_INDEX.decode()))
+    p.expect("its records", p.engine.run("return document.getElementById('records').textContent"), "r1 · 5 bases · first", "r2 · 6 bases")
+    p.expect("bases and qualities", p.read("3", "6", row=1), "4 bases", "BasesCCAA", "QualitiesII~~")
+    p.expect("the other strand", p.read("3", "6", "other", row=1), "TTGG", "last one first~~II")
+    p.expect("past its end", p.read("3", "7", row=1), "refused 17 (length 6)", never=["Qualities"])
+    p.expect("saved as FASTA", repr(p.save("save-fasta") if p.read("", "", row=0) else ""), repr(">r1 first\nACGTN\n"))
+    p.tab("sheet")
+    p.fill(regions="r2:3-5 - x\nr1\n")
+    p.expect("a sheet", p.press("answer", "sheet-told") + str([row[1:] for row in p.cells("keys")]), "2 keys", "['r2:3-5', '− (other strand)', 'x', 'TGG']", "'ACGTN'")
+    p.fill(regions="r2:3-7\nr3\n")
+    p.expect("its faults", p.press("answer", "sheet-told") + str(p.cells("keys")), "2 of 2 regions", "refused 17 (length 6)", "refused 15")
+    p.tab("exercise")
+    p.fill(records="1", **{"from": "2", "to": "5"})
+    p.save("make-exercise")
+    p.expect("an exercise", p.says("asks"), "bases 2 to 5 of r2")
+    p.fill(typed="GCGA")
+    p.expect("a score", p.press("score", "scored") + p.text("scores"), "75.0 %", "GCCA", "||x|")
+    p.tab("primer")
+    p.fill(primer="GCMA", where="all")
+    p.expect("a primer", p.press("find", "primer-told") + str(p.cells("places")), "1 place;", "['r2', '2', '5', '+")
+    p.expect("no '+' line", p.open(b"@r\nAC\nII\n"), "No index can be made", "no '+' line", "refused 38", "line 3")
+    p.expect("too few qualities", p.open(b"@q\nAC\n+\nII\n@r\nACGT\n+\nII\n"), "refused 39 (found 2, expected 4)", "line 8", "after 1 record")
+    p.expect("an uneven line", p.open(b"@q\nAC\n+\nII\n@r\nAC\nACG\n+\nII\n"), "refused 6 (found 3, expected 2)", "line 7", "ACG")
     p.expect("FASTA behind it", p.open(b"@q\nAC\n+\nII\n>s\nAC\n"), "does not begin with '@', at byte 11", "line 5")
+
+
+def fastq_in_parts(p, samples):
+    """FASTQ of which nothing is held."""
+    fastq_used(p)
+    file, index = FASTQ, FASTQ_INDEX
+    p.expect("in parts", p.open(file), "read in parts", "not kept in memory")
+    p.expect("with its index", p.open(file, index), "Accepted", "every base and every quality", "leads to the same places")
+    p.expect("with another", p.open(file, index.replace(b"\t40", b"\t41")), "Refused", "refused 23 (record 2, base 1)", "r2→6→30→4→5→41", "a.fa, line 9 (byte 40)", "r2→6→30→4→5→40")
+    p.save("make")
+    p.expect("read by a new one", p.says("made") + p.read("1", "2", row=1), "Reads go by it now", "GG", "Qualities@@")
+    p.expect("with five columns", p.open(file, b"r1\t5\t10\t5\t6\n"), "Refused", "the offset of the first quality")
+    # more than one part of the reading, and a record that is longer than a part
+    p.fresh()
+    p.engine.run("""
+        const short = new TextEncoder().encode("@s a read\\nACGTACGTAC\\n+\\n@+IIIIIIII\\n");
+        const many = new Uint8Array(300000 * short.length);
+        for (let k = 0; k < 300000; k++) many.set(short, k * short.length);
+        const line = (letter) => new Uint8Array(12 << 20).fill(letter.charCodeAt(0));
+        const dropped = new DataTransfer();
+        dropped.items.add(new File([many, "@long\\nC", line("A"), "G\\n+\\n#", line("I"), "~\\n@last\\nAC\\n+\\n!!"], "long.fq"));
+        document.body.dispatchEvent(new DragEvent("drop", { bubbles: true, cancelable: true, dataTransfer: dropped }));
+    """)
+    p.expect("300,002 records", p.judged(), "long.fq: 300,002 records")
+    p.fill(search="long")
+    p.engine.wait_for("return document.getElementById('matches').textContent.startsWith('1 of') ? 1 : null", what="a search")
+    p.expect("a record longer than a part", p.read(str((12 << 20) + 1), ""), "2 bases", "BasesAG", "QualitiesI~")
+    p.expect("its index", p.save("make"), f"s\t10\t{299999 * 34 + 10}\t10\t11\t{299999 * 34 + 23}\nlong\t12582914\t10200006\t12582914\t12582915\t22782923\nlast\t2\t35365844\t2\t3\t35365849\n")
 
 
 def records(p, samples):
@@ -141,10 +194,26 @@ def records(p, samples):
     twins = b">a\nAAAA\n>a second\nCCCC\n"
     p.open(twins)
     p.expect("two of a name are read by row", p.read("", "", row=1), "CCCC")
+    p.expect("which is said", p.engine.run("return document.querySelector('#panel-read .chosen').textContent"), "Record: a · 4 bases · second")
     p.expect("both strands", p.read("1", "2", "both", row=1), "CC", "Other strand", "GG")
     p.expect("saved as FASTA", repr(p.save("save-fasta")), repr(">a:1-2\nCC\n>a:1-2 reverse complement\nGG\n"))
     p.read("", "", row=1)
     p.expect("saved as FASTA, whole", repr(p.save("save-fasta")), repr(">a second\nCCCC\n"))
+
+
+def more_than_is_shown(p, samples):
+    """A read of more bases than are shown is not copied in part: it is saved. A sheet says that its key goes on."""
+    p.open(b">a\n" + b"ACGT" * 30000 + b"\n")
+    p.expect("the first of them", p.read("", ""), "120,000 bases", "The first 100,000 are shown: save them")
+    p.expect("no copy of a part", str(p.engine.run("return document.getElementById('copy').hidden")), "True")
+    p.expect("all are saved", str(len(p.save("save-fasta"))), str(3 + 120000 + 2000))
+    p.read("1", "100000")
+    p.expect("a copy of all", str(p.engine.run("return document.getElementById('copy').hidden")), "False")
+    p.tab("sheet")
+    p.fill(regions="a\na:1-4\n")
+    p.press("answer", "sheet-told")
+    p.expect("a key that goes on", p.cells("keys")[0][-1][100000:], "the first 100,000 of 120,000 bases")
+    p.expect("and is saved whole", str(len(p.save("save-keys"))), str(3 + 120000 + 2000 + len(">a:1-4\nACGT\n")))
 
 
 def from_the_disk(p, samples):
@@ -201,6 +270,12 @@ def exercises(p, samples):
     p.drop(("class.csv", 'who,answer\nAda,GTNAC\n"Bob, jr.",gt\nCy,"ACGTA"\n'), on="#panel-exercise")
     p.engine.wait_for("return document.getElementById('scored').textContent.startsWith('3 answers') ? 1 : null", what="a class")
     p.expect("a class", str(p.cells("scores")), "'Ada', '100.0 %', '5'", "'Bob, jr.', '40.0 %', '2', '0', '3'", "'Cy', ")
+    p.expect("what was passed over", p.text("scored"), "heading: who, answer")
+    p.engine.run("document.getElementById('headed').click()")
+    p.engine.wait_for("return document.getElementById('scored').textContent.startsWith('4 answers') ? 1 : null", what="the class without a heading")
+    p.expect("or not", str(p.cells("scores")), "'who', '0.0 %'", "'Ada', '100.0 %'")
+    p.engine.run("document.getElementById('headed').click()")
+    p.engine.wait_for("return document.getElementById('scored').textContent.startsWith('3 answers') ? 1 : null", what="the class again")
     p.expect("a class, saved", p.save("save-scores"), 'Who,Score,Right', 'Ada,100.0,5,0,0,0', '"Bob, jr.",40.0,2,0,3,0')
     # edition 2, and the file that was saved comes back
     p.fill(edition="2")
@@ -249,20 +324,17 @@ def files_in_parts(p, samples):
     """A file of which nothing is held: its index is made while it passes by, and held against the one that is given."""
     p.expect("M1, in parts", p.open(M1), "2 records", "read in parts", "not kept in memory")
     p.expect("M1, in parts, its index", repr(p.save("make")), repr("sq0\t4\t5\t4\t5\nsq1\t10\t15\t4\t5\n"))
-    p.expect("M9, in parts, with its index", p.open(M9, b"s\t6\t3\t4\t5\n"), "Accepted", "read in parts", "same names and numbers")
+    p.expect("M9, in parts, with its index", p.open(M9, b"s\t6\t3\t4\t5\n"), "Accepted", "read in parts", "leads to the same places")
     p.expect("M9, 4 to 5", p.read("4", "5"), "2 bases", "TA")
     p.expect("M9, 5 to 7", p.read("5", "7"), "Refused", "refused 17 (length 6)")
     p.expect("numbers written in another way", p.open(M9, b"s\t+6\t03\t4\t5\r\n"), "Accepted")
-    p.expect("M10, in parts", p.open(M9, b"s\t6\t3\t4\t6\n"), "Not accepted: line 1 of a.fa.fai", "keep the whole file in memory", "s→6→3→4→6", "s→6→3→4→5", never=["Refused", "leads to"])
-    p.expect("M10, read by the index that was made", p.read("4", "6"), "3 bases", "TAC")
-    # numbers that lead to every base as well are not judged in parts, and accepted of the whole file
-    p.expect("M11, in parts", p.open(b">s\nACGT\n", b"s\t4\t3\t60\t61\n"), "Not accepted: line 1", "Other numbers can lead to every base too")
-    p.engine.run("document.body.dataset.round = '0'")
-    p.fill(memory="whole")
-    p.expect("M11, then whole", p.judged(), "Accepted", never=["parts"])
-    p.expect("a line missing", p.open(M1, b"sq0\t4\t5\t4\t5\n"), "Not accepted: line 2", "has no line 2", "sq1→10→15→4→5")
-    p.expect("a line too many", p.open(M9, b"s\t6\t3\t4\t5\nt\t6\t3\t4\t5\n"), "Not accepted: line 2", "gives no line 2", "t→6→3→4→5")
-    p.expect("another name", p.open(M9, b"t\t6\t3\t4\t5\n"), "Not accepted: line 1")
+    p.expect("M10, in parts", p.open(M9, b"s\t6\t3\t4\t6\n"), "Refused", "base 5 of record 1", "The record is s.", "refused 23 (record 1, base 5)", "a.fa.fai, line 1",
+             "a.fa, line 3 (byte 8)", "s→6→3→4→6", "s→6→3→4→5", never=["leads to the same"])
+    p.expect("M11, in parts", p.open(b">s\nACGT\n", b"s\t4\t3\t60\t61\n"), "Accepted", "1 record")
+    p.expect("a line missing", p.open(M1, b"sq0\t4\t5\t4\t5\n"), "no line for record 2", "sq1→10→15→4→5")
+    p.expect("a line too many", p.open(M9, b"s\t6\t3\t4\t5\nt\t6\t3\t4\t5\n"), "Refused", "goes on", "line 2", "t→6→3→4→5")
+    p.expect("another name", p.open(M9, b"t\t6\t3\t4\t5\n"), "Refused", "different names", "a.fa.fai, line 1", "t→6→3→4→5", "s→6→3→4→5")
+    p.expect("another length", p.open(M9, b"s\t5\t3\t4\t5\n"), "refused 22 (record 1)")
     p.expect("a bad index line", p.open(M9, b"s\t6\tx\t4\t5\n"), "Refused", "field 3, the offset of the first base", "a.fa.fai, line 1")
     p.expect("nothing is read by it", str(p.engine.run("return document.getElementById('reading').disabled")), "True")
     p.save("make")
@@ -277,5 +349,5 @@ def files_in_parts(p, samples):
         test(p, samples)
 
 
-ALL = [marked_examples, pain_of_the_clipped_read, pain_of_the_stale_index, pain_of_the_buffer, bad_files, fastq, records, from_the_disk, sheets, exercises, primers]
-IN_PARTS = [files_in_parts]
+ALL = [marked_examples, pain_of_the_clipped_read, pain_of_the_stale_index, pain_of_the_buffer, bad_files, fastq, records, more_than_is_shown, from_the_disk, sheets, exercises, primers]
+IN_PARTS = [files_in_parts, fastq_in_parts]
