@@ -2,6 +2,7 @@ pub mod Bytes
 pub mod Decimal
 pub mod Fields
 pub mod Digits
+pub mod Back
 pub mod Reading
 pub mod Writing
 pub mod Lacks

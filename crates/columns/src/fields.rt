@@ -6,14 +6,13 @@ use output::Written;
 use refusal::Refusal;
 ghost use mathlib.Core.Path.{_≡_};
 ghost use mathlib.Core.Bool.{true};
-ghost use Prim.Native.Nat.{_+_, _*_, _^_, _<_, _≤_};
+ghost use Prim.Native.Nat.{_+_, _-_, _*_, _^_, _<_, _≤_};
 ghost use lib.ListN.{length, take, drop};
 ghost use Rattle.columns.specs.Bytes.{is, firstWhere, overlaid};
 ghost use Rattle.output.specs.Outcome.{leaves};
 ghost use Rattle.columns.specs.Fields.{zeroBarred, fieldSays, numbersFrom, numbersText, textOf, splits, textWritten, textWithin};
 ghost use Rattle.columns.specs.Reading.{fieldLen, behind, told};
 ghost use Rattle.columns.specs.Quick.{FrontDigits, endsAt, Quick, ReadAll};
-ghost use Rattle.columns.specs.Writing.{NumbersPut};
 
 // A field that is a number: its value, how many bytes it has, and whether it has no needless leading zero and no plus.
 pub struct Field {
@@ -253,30 +252,30 @@ fn put_front(s: &[u8], out: &mut [u8])
     copying::copy_run(s, 0, s.len(), out, 0);
 }
 
-// Puts numbers, each with a tab before it, from place `at` on; tells the place behind them.
-fn put_numbers(numbers: &[u64], out: &mut [u8], at: usize) -> usize
-    requires { ⌜ at + length (numbersText (now numbers)) ≤ length (now out) ⌝ }
-    ensures { λ r. ⌜ NumbersPut (now (numbers .entry)) (now (out .entry)) at r (now (out .exit)) ⌝ }
+// Puts numbers, each with a tab before it, in front of place `end`, from the last to the first: so no number's digits are counted again.
+fn put_numbers(numbers: &[u64], out: &mut [u8], end: usize)
+    requires { ⌜ (length (numbersText (now numbers)) ≤ end) × (end ≤ length (now out)) ⌝ }
+    ensures { λ _. ⌜ now (out .exit) ≡ overlaid (now (out .entry)) (end - length (numbersText (now (numbers .entry)))) (numbersText (now (numbers .entry))) ⌝ }
 {
-    let mut place = at;
-    let mut i = 0;
-    while i < numbers.len() {
+    let mut place = end;
+    let mut i = numbers.len();
+    while 0 < i {
+        i -= 1;
+        place = decimal::put_before(numbers[i], out, place);
+        place -= 1;
         out[place] = b'\t';
-        place += 1;
-        place += decimal::write_number(numbers[i], out, place);
-        i += 1;
     }
-    place
 }
 
-// Puts a name and numbers with tabs between, and an LF, at the front of the output.
-fn put_text(name: &[u8], numbers: &[u64], out: &mut [u8])
-    requires { ⌜ length (textOf (now name) (now numbers)) ≤ length (now out) ⌝ }
+// Puts a name and numbers with tabs between, and an LF, which are `needed` bytes, at the front of the output.
+fn put_text(name: &[u8], numbers: &[u64], out: &mut [u8], needed: usize)
+    requires { ⌜ (needed ≡ length (textOf (now name) (now numbers))) × (needed ≤ length (now out)) ⌝ }
     ensures { λ _. ⌜ now (out .exit) ≡ overlaid (now (out .entry)) 0 (textOf (now (name .entry)) (now (numbers .entry))) ⌝ }
 {
-    put_front(name, out);
-    let end = put_numbers(numbers, out, name.len());
+    let end = needed - 1;
     out[end] = b'\n';
+    put_numbers(numbers, out, end);
+    put_front(name, out);
 }
 
 // The same, if the name has no tab and no LF, and if there is room.
@@ -296,7 +295,7 @@ fn write_short(name: &[u8], numbers: &[u64], out: &mut [u8]) -> Written
             needed: needed as u64,
         });
     }
-    put_text(name, numbers, out);
+    put_text(name, numbers, out, needed);
     Written::Bytes(needed)
 }
 
