@@ -7,17 +7,12 @@ use native.Mathlib.Omega.{arith}
 use native.Mathlib.Numerals.{add-one}
 use native.Mathlib.Nat.{add-zero, zero-add, add-assoc, suc-add, add-suc}
 use lib.ListN.{length, take, drop, getD, set, length-append, length-drop, take-append-drop, drop-of-length-le}
-use lib.Seq.{drop-cons, take-all, length-take-le, take-suc, set-at, set-split, append-snoc, take-at, drop-append-add, drop-drop, take-length, paste}
-use lib.Dec.{eqb, ltb}
-use borrow.Author.Tests.{lt-ltb, le-ltb}
+use lib.Seq.{drop-cons, take-all, length-take-le, take-suc, set-at, set-split, append-snoc, take-at, drop-at, take-append-le, take-take, drop-append-add, drop-drop, take-length, paste}
+use lib.Dec.{eqb}
 
 -- some bytes, with s from a place on
 unfoldable pub overlaid : List ℕ → ℕ → List ℕ → List ℕ
 overlaid out at s = take at out ++ (s ++ drop (at + length s) out)
-
--- the same if there is room for all of s; else as they were
-unfoldable pub laidAt : List ℕ → ℕ → List ℕ → List ℕ
-laidAt out at s = cond (ltb (length out) (at + length s)) out (overlaid out at s)
 
 -- is a byte b
 abbrev pub is : ℕ → ℕ → Bool
@@ -62,14 +57,6 @@ module _ (out : List ℕ) (at : ℕ) (s : List ℕ) where
   unfolding overlaid
   overlaid-length h = simp (length-append, length-drop) (omega (arith, length-take-le at out (omega arith)))
 
-  pub laid-none : length out < at + length s → out ≡ laidAt out at s
-  unfolding laidAt
-  laid-none h = rw (lt-ltb _ _ h)
-
-  pub laid-all : at + length s ≤ length out → overlaid out at s ≡ laidAt out at s
-  unfolding laidAt
-  laid-all h = rw (le-ltb _ _ h)
-
 -- one byte more in front
 pub overlaid-front : (out : List ℕ) (at next b : ℕ) (s : List ℕ) → next ≡ suc at → at < length out
     → set (overlaid out next s) at b ≡ overlaid out at (b ∷ s)
@@ -102,14 +89,28 @@ overlaid-more out at next s t h n =
     rw (n, ← append-assoc (take at out) s y, take-at x y (at + length s) e, drop-past x y (at + length s) (length t) e, drop-drop (length t) (at + length s) out)
     (simp (append-assoc, length-append, add-assoc))
 
+-- bytes laid over in front of others
+pub overlaid-before : (out : List ℕ) (at next : ℕ) (s t : List ℕ) → next ≡ at + length s → next ≤ length out
+    → overlaid (overlaid out next t) at s ≡ overlaid out at (s ++ t)
+unfolding overlaid
+overlaid-before out at next s t e h =
+    let r : List ℕ = t ++ drop (next + length t) out in
+    let f : length (take next out) ≡ next = length-take-le next out h in
+    let a : take at (take next out ++ r) ≡ take at out = take-append-le at (take next out) r (omega arith) ∙ take-take at next out (omega arith) in
+    let b : drop (at + length s) (take next out ++ r) ≡ r = drop-at (take next out) r (at + length s) (f ∙ e) in
+    let d : at + length (s ++ t) ≡ next + length t = omega (arith, length-append s t) in
+    rw (a, b, d, append-assoc s t (drop (next + length t) out))
+
+-- one byte
+pub overlaid-one : (out : List ℕ) (at b : ℕ) → at < length out → set out at b ≡ overlaid out at (b ∷ [])
+unfolding overlaid
+overlaid-one out at b h = rw add-one (set-split out at b h)
+
 -- one byte behind others
 pub overlaid-next : (out : List ℕ) (at next : ℕ) (s : List ℕ) (b : ℕ) → next ≡ at + length s → next < length out
     → set (overlaid out at s) next b ≡ overlaid out at (s ++ (b ∷ []))
-unfolding overlaid
-overlaid-next out at next s b e h = one ∙ overlaid-more out at next s (b ∷ []) (omega arith) e
-  where
-    one : set (overlaid out at s) next b ≡ overlaid (overlaid out at s) next (b ∷ [])
-    one = rw add-one (set-split (overlaid out at s) next b (rw (overlaid-length out at s (omega arith)) h))
+overlaid-next out at next s b e h =
+    overlaid-one (overlaid out at s) next b (rw (overlaid-length out at s (omega arith)) h) ∙ overlaid-more out at next s (b ∷ []) (omega arith) e
 
 -- at the front
 pub overlaid-zero : (out s : List ℕ) → overlaid out 0 s ≡ s ++ drop (length s) out

@@ -5,7 +5,7 @@ use mathlib.Core.List.{List, [], _∷_}
 use mathlib.Core.Bool.{Bool, true, cond, not, _&&_, _||_}
 use lib.ListN.{length}
 use lib.Dec.{ltb, leb, eqb}
-use Rattle.columns.specs.Bytes.{laidAt}
+use Rattle.columns.specs.Bytes.{overlaid}
 use Rattle.columns.specs.declared.Number.{Number}
 use Rattle.columns.specs.declared.Number.the-variants.{Value, Bad}
 
@@ -64,7 +64,7 @@ width n = widthFrom n 1 n
 unfoldable pub decimalOf : ℕ → List ℕ
 decimalOf n = digits (width n) n
 
--- what writing a number at a place tells and leaves: how many digits it has; and the digits there, if all have room
-pub record NumberWritten (n : ℕ) (out : List ℕ) (at count : ℕ) (after : List ℕ) : Type 0 where
-  pub told : count ≡ length (decimalOf n)
-  pub holds : after ≡ laidAt out at (decimalOf n)
+-- what writing a number in front of a place tells and leaves: the place of its first digit, and its digits from there on
+pub record NumberPut (n : ℕ) (out : List ℕ) (end first : ℕ) (after : List ℕ) : Type 0 where
+  pub place : first + length (decimalOf n) ≡ end
+  pub holds : after ≡ overlaid out first (decimalOf n)

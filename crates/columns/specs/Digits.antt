@@ -152,18 +152,56 @@ decimal-short n b =
     rw decimal-length
     (le-of-not-gt (λ (h : 20 < width n). omega (arith, wide n .least 20 (omega arith) h)))
 
--- ---- writing
+-- ---- how many digits
 
--- what is left of n after k divisions by ten tells the number of digits
-pub digits-counted : (n k m : ℕ) → m ≡ n / 10 ^ k → (1 ≤ k → 1 ≤ m) → m < 10 → suc k ≡ length (decimalOf n)
-digits-counted n k m e h b =
-    rw (decimal-length n, wide-is n (suc k) (wide-by n k up (λ p. low (h p))))
+pub decimal-some : (n : ℕ) → 1 ≤ length (decimalOf n)
+decimal-some n = rw decimal-length (wide n .some)
+
+-- a number below ten has one digit
+pub one-digit : (n : ℕ) → n < 10 → length (decimalOf n) ≡ 1
+one-digit n b = decimal-length n ∙ wide-is n 1 (wide-by n 0 (omega arith) (λ h. absurd (omega arith)))
+
+-- any other has one more than its tenth
+pub digit-more : (n : ℕ) → 10 ≤ n → length (decimalOf n) ≡ suc (length (decimalOf (n / 10)))
+digit-more n h = rw (decimal-length n, decimal-length (n / 10)) (wide-is n (suc (width (n / 10))) (wide-by n (width (n / 10)) up (λ _. low (width (n / 10)) (wide (n / 10)))))
   where
-    up : n < 10 ^ suc k
-    up = rw (pow-succ' 10 k) (div-lt-iff-lt-mul {k = 10 ^ k} {x = n} {y = 10} (ten-pos k) .0 (omega arith))
+    up : n < 10 ^ suc (width (n / 10))
+    up = rw (pow-succ' 10 (width (n / 10))) (omega (arith, wide (n / 10) .enough))
 
-    low : 1 ≤ m → 10 ^ k ≤ n
-    low p = omega (arith, le-div-iff-mul-le {k = 10 ^ k} {x = 1} {y = n} (ten-pos k) .0 (omega arith))
+    low : (v : ℕ) → Wide (n / 10) v → 10 ^ v ≤ n
+    low zero x = omega (arith, x .some)
+    low (suc zero) x = omega arith
+    low (suc (suc u)) x = rw (pow-succ' 10 (suc u)) (omega (arith, x .least (suc u) (omega arith) (omega arith)))
+
+-- two more than its hundredth, where there is one
+pub pair-more : (n : ℕ) → 100 ≤ n → length (decimalOf n) ≡ 2 + length (decimalOf (n / 100))
+pair-more n h =
+    let e : n / 10 / 10 ≡ n / 100 = omega arith in
+    omega (arith, digit-more n (omega arith), digit-more (n / 10) (omega arith), ap (λ (k : ℕ). length (decimalOf k)) e)
+
+pub four-more : (n : ℕ) → 10000 ≤ n → length (decimalOf n) ≡ 4 + length (decimalOf (n / 10000))
+four-more n h =
+    let e : n / 100 / 100 ≡ n / 10000 = omega arith in
+    omega (arith, pair-more n (omega arith), pair-more (n / 100) (omega arith), ap (λ (k : ℕ). length (decimalOf k)) e)
+
+-- four digits at most are counted by comparing
+pub few-digits : (n : ℕ) → n < 10000 → 1 + cond (ltb n 10) 0 1 + cond (ltb n 100) 0 1 + cond (ltb n 1000) 0 1 ≡ length (decimalOf n)
+few-digits n h = go (ltb n 10) (ltb n 100) (ltb n 1000) refl refl refl
+  where
+    two : 10 ≤ n → n < 100 → length (decimalOf n) ≡ 2
+    two a b = omega (arith, digit-more n a, one-digit (n / 10) (omega arith))
+
+    go : (t u v : Bool) → ltb n 10 ≡ t → ltb n 100 ≡ u → ltb n 1000 ≡ v → 1 + cond t 0 1 + cond u 0 1 + cond v 0 1 ≡ length (decimalOf n)
+    go true true true a b c = omega (arith, one-digit n (ltb-true n 10 a))
+    go false true true a b c = omega (arith, two (ltb-false n 10 a) (ltb-true n 100 b))
+    go false false true a b c = omega (arith, pair-more n (ltb-false n 100 b), one-digit (n / 100) (omega (arith, ltb-true n 1000 c)))
+    go false false false a b c =
+        omega (arith, pair-more n (ltb-false n 100 b), digit-more (n / 100) (omega (arith, ltb-false n 1000 c)), one-digit (n / 100 / 10) (omega arith))
+    go true true false a b c = absurd (omega (arith, ltb-true n 10 a, ltb-false n 1000 c))
+    go true false v a b c = absurd (omega (arith, ltb-true n 10 a, ltb-false n 100 b))
+    go false true false a b c = absurd (omega (arith, ltb-true n 100 b, ltb-false n 1000 c))
+
+-- ---- writing
 
 -- one more division
 pub ten-times : (n k : ℕ) → n / 10 ^ k / 10 ≡ n / 10 ^ suc k

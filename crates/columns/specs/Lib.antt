@@ -1,7 +1,9 @@
 pub mod Bytes
+pub mod Among
 pub mod Decimal
 pub mod Fields
 pub mod Digits
+pub mod Back
 pub mod Reading
 pub mod Writing
 pub mod Lacks

@@ -1,15 +1,15 @@
 -- What the code's steps of writing leave, and the laws that make a written line of it.
-use Prim.Native.Nat.{ℕ, suc, _+_, _≤_, _<_}
+use Prim.Native.Nat.{ℕ, suc, _+_, _-_, _≤_, _<_}
 use mathlib.Core.Path.{_≡_, refl, sym, ap, _∙_}
 use mathlib.Core.List.{List, [], _∷_, _++_, map, map-append, append-nil, append-assoc}
 use mathlib.Core.Bool.{Bool, true, false, cond, _||_}
 use native.Mathlib.Omega.{arith}
 use native.Mathlib.Numerals.{add-one}
 use lib.ListN.{length, getD, take, drop, set, length-append, take-append-drop}
-use lib.Seq.{take-suc, append-snoc}
+use lib.Seq.{take-suc, drop-cons}
 use lib.Dec.{ltb}
 use borrow.Author.Tests.{lt-ltb, le-ltb, ltb-false}
-use Rattle.columns.specs.Bytes.{is, firstWhere, first-le, overlaid, laidAt, overlaid-length, overlaid-next, overlaid-more, overlaid-zero, laid-all}
+use Rattle.columns.specs.Bytes.{is, firstWhere, first-le, overlaid, overlaid-front, overlaid-before, overlaid-one, overlaid-zero}
 use Rattle.columns.specs.Decimal.{decimalOf}
 use Rattle.output.specs.Outcome.{leaves, refuses, pours}
 use Rattle.output.specs.Laws.{no-bytes, poured-known}
@@ -17,11 +17,6 @@ use Rattle.columns.specs.Fields.{tabbed, numbersText, textOf, splits, te
 use Rattle.output.specs.declared.Written.the-variants.{Bytes, Refused}
 use Rattle.refusal.specs.declared.Refusal.the-variants.{TooLong, NameSplit, NoRoom}
 use Rattle.refusal.specs.Numbers.{overLimit}
-
--- numbers put from a place on: the place behind them, and the output afterwards
-pub record NumbersPut (ns out : List ℕ) (at behind : ℕ) (after : List ℕ) : Type 0 where
-  pub place : behind ≡ at + length (numbersText ns)
-  pub holds : after ≡ overlaid out at (numbersText ns)
 
 -- ---- the text of numbers
 
@@ -42,55 +37,53 @@ pub text-more-length : (ns : List ℕ) (i : ℕ) → i < length ns
     → length (numbersText (take (i + 1) ns)) ≡ length (numbersText (take i ns)) + (1 + length (decimalOf (getD ns i 0)))
 text-more-length ns i h = rw add-one (ap length (text-more ns i h) ∙ simp length-append (omega arith))
 
--- the text of the first numbers is no longer than that of all
-pub text-part : (ns : List ℕ) (i : ℕ) → length (numbersText (take i ns)) ≤ length (numbersText ns)
-text-part ns i =
-    omega (arith, ap (λ (l : List ℕ). length (numbersText l)) (take-append-drop i ns), ap length (text-append (take i ns) (drop i ns)), length-append (numbersText (take i ns)) (numbersText (drop i ns)))
-
 pub text-length : (name ns : List ℕ) → length (textOf name ns) ≡ length name + length (numbersText ns) + 1
 unfolding textOf
 text-length name ns = simp length-append (omega arith)
 
--- ---- putting numbers: the text of the first i stands from a place on, and `place` is behind it
+-- ---- putting numbers, from the last to the first: the text of those from number i on stands from a place up to the end
 
-module _ (ns out : List ℕ) (at i place : ℕ) (h : i < length ns) (room : at + length (numbersText ns) ≤ length out)
-    (e : place ≡ at + length (numbersText (take i ns))) where
-  pub next-room : place + (1 + length (decimalOf (getD ns i 0))) ≤ length out
-  next-room = omega (arith, text-more-length ns i h, text-part ns (i + 1))
+-- it is no longer than that of all
+pub text-rest : (ns : List ℕ) (i : ℕ) → length (numbersText (drop i ns)) ≤ length (numbersText ns)
+text-rest ns i =
+    omega (arith, ap (λ (l : List ℕ). length (numbersText l)) (take-append-drop i ns), ap length (text-append (take i ns) (drop i ns)), length-append (numbersText (take i ns)) (numbersText (drop i ns)))
 
-  pub next-put : laidAt (set (overlaid out at (numbersText (take i ns))) place 9) (place + 1) (decimalOf (getD ns i 0)) ≡ overlaid out at (numbersText (take (i + 1) ns))
-  next-put =
-      let s : List ℕ = numbersText (take i ns) in
-      let d : List ℕ = decimalOf (getD ns i 0) in
-      let t : List ℕ = s ++ (9 ∷ []) in
-      let long : length t ≡ length s + 1 = length-append s (9 ∷ []) in
-      let fits : place + 1 + length d ≤ length (overlaid out at t) = rw (overlaid-length out at t (omega (arith, next-room))) (omega (arith, next-room)) in
-      rw (overlaid-next out at place s 9 e (omega (arith, next-room)), ← laid-all (overlaid out at t) (place + 1) d fits, overlaid-more out at (place + 1) t d (omega arith) (omega arith), append-snoc, add-one, text-more ns i h)
+-- the number before number i
+module _ (ns : List ℕ) (i : ℕ) (some : 0 < i) (h : i ≤ length ns) where
+  text-from : numbersText (drop (i - 1) ns) ≡ 9 ∷ (decimalOf (getD ns (i - 1) 0) ++ numbersText (drop i ns))
+  unfolding tabbed
+  text-from =
+      let e : suc (i - 1) ≡ i = omega arith in
+      ap (λ (l : List ℕ). numbersText l) (drop-cons ns (i - 1) 0 (omega arith)) ∙ ap (λ (k : ℕ). numbersText (getD ns (i - 1) 0 ∷ drop k ns)) e
 
--- ---- the name
+  pub text-from-length : length (numbersText (drop (i - 1) ns)) ≡ 1 + length (decimalOf (getD ns (i - 1) 0)) + length (numbersText (drop i ns))
+  text-from-length = ap length text-from ∙ simp length-append (omega arith)
 
--- the first LF before the first tab is the first of either
-pub split-is : (l : List ℕ) → firstWhere (is 10) (take (firstWhere (is 9) l) l) ≡ firstWhere splits l
-unfolding firstWhere
-split-is [] = refl
-split-is (b ∷ l) = go (is 9 b) (is 10 b) (split-is l)
-  where
-    go : (t u : Bool) → firstWhere (is 10) (take (firstWhere (is 9) l) l) ≡ firstWhere splits l
-        → firstWhere (is 10) (take (cond t 0 (suc (firstWhere (is 9) l))) (b ∷ l)) ≡ cond (t || is 10 b) 0 (suc (firstWhere splits l))
-    go true u h = refl
-    go false u h = rw h
+  module _ (out : List ℕ) (end place : ℕ) (fits : end ≤ length out) (room : length (numbersText ns) ≤ end) (e : place + length (numbersText (drop i ns)) ≡ end) where
+    pub before-room : 1 + length (decimalOf (getD ns (i - 1) 0)) ≤ place
+    before-room = omega (arith, text-from-length, text-rest ns (i - 1))
+
+    -- its digits, and the tab before them, are put in front
+    pub before-put : (first : ℕ) → first + length (decimalOf (getD ns (i - 1) 0)) ≡ place
+        → set (overlaid (overlaid out place (numbersText (drop i ns))) first (decimalOf (getD ns (i - 1) 0))) (first - 1) 9 ≡ overlaid out (first - 1) (numbersText (drop (i - 1) ns))
+    before-put first p =
+        let d : List ℕ = decimalOf (getD ns (i - 1) 0) in
+        let t : List ℕ = numbersText (drop i ns) in
+        rw (overlaid-before out first place d t (sym p) (omega arith), text-from)
+        (overlaid-front out (first - 1) first 9 (d ++ t) (omega (arith, before-room)) (omega (arith, before-room)))
 
 -- ---- the whole text
 
--- the name at the front, the numbers behind it, and the LF
-pub put-line : (name ns out : List ℕ) → length (textOf name ns) ≤ length out
-    → set (overlaid (overlaid out 0 name) (length name) (numbersText ns)) (length name + length (numbersText ns)) 10 ≡ overlaid out 0 (textOf name ns)
+-- the LF, the numbers before it, and the name at the front
+pub put-line : (name ns out : List ℕ) (end : ℕ) → end + 1 ≡ length (textOf name ns) → end < length out
+    → overlaid (overlaid (set out end 10) (end - length (numbersText ns)) (numbersText ns)) 0 name ≡ overlaid out 0 (textOf name ns)
 unfolding textOf
-put-line name ns out h =
+put-line name ns out end e h =
     let w : List ℕ = numbersText ns in
-    rw (overlaid-more out 0 (length name) name w (omega arith) (omega arith))
-    (overlaid-next out 0 (length name + length w) (name ++ w) 10 (omega (arith, length-append name w)) (omega (arith, text-length name ns))
-    ∙ rw append-assoc)
+    let long : end ≡ length name + length w = omega (arith, text-length name ns, e) in
+    let at : end - length w ≡ length name = omega arith in
+    rw (at, overlaid-one out end 10 h, overlaid-before out (length name) end w (10 ∷ []) long (omega arith))
+    (overlaid-before out 0 (length name) name (w ++ (10 ∷ [])) (omega arith) (omega arith))
 
 module _ (name ns out : List ℕ) where
   pub text-split : firstWhere splits name < length name → leaves (Refused (NameSplit (firstWhere splits name))) out ≡ textWritten name ns out

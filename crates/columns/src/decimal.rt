@@ -2,11 +2,11 @@
 // one plus may stand before them. A plus and leading zeros are read, and none is written.
 use crate::Number;
 ghost use mathlib.Core.Path.{_≡_};
-ghost use Prim.Native.Nat.{_+_, _*_, _^_, _≤_};
-ghost use lib.ListN.{length};
+ghost use mathlib.Core.Bool.{cond};
+ghost use Prim.Native.Nat.{_+_, _*_, _/_, _%_, _^_, _≤_, _<_};
+ghost use lib.ListN.{length, set};
 ghost use lib.Dec.{ltb};
-ghost use Rattle.columns.specs.Decimal.{digitsOf, numberOf, plainNumber, digits, decimalOf, NumberWritten};
-ghost use Rattle.columns.specs.Bytes.{overlaid};
+ghost use Rattle.columns.specs.Decimal.{digitsOf, numberOf, plainNumber, decimalOf, NumberPut};
 
 // The bytes of the digits 0 and 9, as numbers.
 pub(crate) const ZERO: u64 = 48;
@@ -90,44 +90,54 @@ pub(crate) fn plain_number(s: &[u8]) -> bool
     s[0] != b'0'
 }
 
-// How many digits a number is written with.
+// 1 if n is at least k, else 0.
+fn at_least(n: u64, k: u64) -> usize
+    ensures { λ r. ⌜ r ≡ cond (ltb n k) 0 1 ⌝ }
+{
+    if n < k { 0 } else { 1 }
+}
+
+// How many digits a number is written with. Four go with each division by 10,000, and what is left is compared, without a branch: of
+// 1,234,567 the division leaves 123, which is at least 10 and at least 100, and so there are 4 + 1 + 2 digits.
 pub(crate) fn digit_count(n: u64) -> usize
     ensures { λ r. ⌜ r ≡ length (decimalOf n) ⌝ }
 {
     let mut w: usize = 1;
     let mut m = n;
-    while 10 <= m {
-        m = m / 10;
-        w += 1;
+    while 10000 <= m {
+        m = m / 10000;
+        w += 4;
     }
-    w
+    w + at_least(m, 10) + at_least(m, 100) + at_least(m, 1000)
 }
 
-// Writes the last w digits of n from place `at` on.
-fn put_digits(n: u64, w: usize, out: &mut [u8], at: usize)
-    requires { ⌜ at + w ≤ length (now out) ⌝ }
-    ensures { λ _. ⌜ now (out .exit) ≡ overlaid (now (out .entry)) at (digits w n) ⌝ }
+// Writes two digits from place `at` on.
+fn put_pair(n: u64, out: &mut [u8], at: usize)
+    requires { ⌜ (n < 100) × (at + 2 ≤ length (now out)) ⌝ }
+    ensures { λ _. ⌜ now (out .exit) ≡ set (set (now (out .entry)) (at + 1) (48 + n % 10)) at (48 + n / 10) ⌝ }
+{
+    out[at + 1] = (ZERO + n % 10) as u8;
+    out[at] = (ZERO + n / 10) as u8;
+}
+
+// Writes n in front of place `end`, from its last digits to its first, two at a time; and tells the place of the first.
+pub(crate) fn put_before(n: u64, out: &mut [u8], end: usize) -> usize
+    requires { ⌜ (length (decimalOf n) ≤ end) × (end ≤ length (now out)) ⌝ }
+    ensures { λ r. ⌜ NumberPut n (now (out .entry)) end r (now (out .exit)) ⌝ }
 {
     let mut m = n;
-    let mut place = at + w;
-    while at < place {
+    let mut place = end;
+    while 100 <= m {
+        place -= 2;
+        put_pair(m % 100, out, place);
+        m = m / 100;
+    }
+    if m < 10 {
         place -= 1;
-        out[place] = (ZERO + m % 10) as u8;
-        m = m / 10;
+        out[place] = (ZERO + m) as u8;
+        return place;
     }
-}
-
-// Writes n from place `at` on, if there is room for all its digits; and tells how many they are.
-pub(crate) fn write_number(n: u64, out: &mut [u8], at: usize) -> usize
-    ensures { λ r. ⌜ NumberWritten n (now (out .entry)) at r (now (out .exit)) ⌝ }
-{
-    let w = digit_count(n);
-    if out.len() < w {
-        return w;
-    }
-    if out.len() - w < at {
-        return w;
-    }
-    put_digits(n, w, out, at);
-    w
+    place -= 2;
+    put_pair(m, out, place);
+    place
 }

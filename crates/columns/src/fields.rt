@@ -6,14 +6,14 @@ use output::Written;
 use refusal::Refusal;
 ghost use mathlib.Core.Path.{_≡_};
 ghost use mathlib.Core.Bool.{true};
-ghost use Prim.Native.Nat.{_+_, _*_, _^_, _<_, _≤_};
+ghost use Prim.Native.Nat.{_+_, _-_, _*_, _^_, _<_, _≤_};
 ghost use lib.ListN.{length, take, drop};
-ghost use Rattle.columns.specs.Bytes.{is, firstWhere, overlaid};
+ghost use Rattle.columns.specs.Bytes.{firstWhere, overlaid};
+ghost use Rattle.columns.specs.Among.{among, either};
 ghost use Rattle.output.specs.Outcome.{leaves};
 ghost use Rattle.columns.specs.Fields.{zeroBarred, fieldSays, numbersFrom, numbersText, textOf, splits, textWritten, textWithin};
 ghost use Rattle.columns.specs.Reading.{fieldLen, behind, told};
-ghost use Rattle.columns.specs.Quick.{FrontDigits, endsAt, Quick, ReadAll};
-ghost use Rattle.columns.specs.Writing.{NumbersPut};
+ghost use Rattle.columns.specs.Quick.{DigitsAt, ReadAll};
 
 // A field that is a number: its value, how many bytes it has, and whether it has no needless leading zero and no plus.
 pub struct Field {
@@ -34,18 +34,56 @@ pub enum NumbersRead {
     Refused(Refusal),
 }
 
-// The place of the first `b`; the length where there is none.
-fn first_byte(l: &[u8], b: u8) -> usize
-    ensures { λ r. ⌜ r ≡ firstWhere (is b) (now (l .entry)) ⌝ }
+// Is one of the 8 bytes from place `i` on an `a` or a `b`. The loop never stops early, so the compiler looks at all of them at once.
+fn either_in_8(l: &[u8], i: usize, a: u8, b: u8) -> bool
+    requires { ⌜ i + 8 ≤ length (now l) ⌝ }
+    ensures { λ r. ⌜ r ≡ among (either a b) (take 8 (drop i (now (l .entry)))) ⌝ }
 {
-    let mut i = 0;
+    let mut any = false;
+    for k in 0..8 {
+        any = any | (l[i + k] == a) | (l[i + k] == b);
+    }
+    any
+}
+
+// The place of the first `a` or `b` from place `from` on, byte by byte; the length where there is none.
+fn first_near(l: &[u8], from: usize, a: u8, b: u8) -> usize
+    requires { ⌜ from ≤ length (now l) ⌝ }
+    ensures { λ r. ⌜ r ≡ from + firstWhere (either a b) (drop from (now (l .entry))) ⌝ }
+{
+    let mut i = from;
     while i < l.len() {
+        if l[i] == a {
+            return i;
+        }
         if l[i] == b {
             return i;
         }
         i += 1;
     }
     i
+}
+
+// The place of the first `a` or `b`; the length where there is none. Blocks of 8 bytes that have none are passed; the last ends where the
+// bytes end, and may begin inside the one before: of 12 bytes the blocks begin at places 0 and 4.
+fn first_either(l: &[u8], a: u8, b: u8) -> usize
+    ensures { λ r. ⌜ r ≡ firstWhere (either a b) (now (l .entry)) ⌝ }
+{
+    if l.len() < 8 {
+        return first_near(l, 0, a, b);
+    }
+    let last = l.len() - 8;
+    let mut i = 0;
+    while i < last {
+        if either_in_8(l, i, a, b) {
+            return first_near(l, i, a, b);
+        }
+        i += 8;
+    }
+    if either_in_8(l, last, a, b) {
+        return first_near(l, i, a, b);
+    }
+    l.len()
 }
 
 // How many bytes the first field of `l` has, where so many tabs cut.
@@ -55,7 +93,7 @@ pub fn field_length(l: &[u8], tabs: usize) -> usize
     if tabs == 0 {
         return l.len();
     }
-    first_byte(l, b'\t')
+    first_either(l, b'\t', b'\t')
 }
 
 // Is a value 0 where it may not be: in field 4 and in field 5.
@@ -127,90 +165,71 @@ fn read_each(content: &[u8], name: usize, line: u64, numbers: &mut [u64]) -> Num
     NumbersRead::All { plain }
 }
 
-// Some digits: their value, and how many they are.
+// Some digits of a line: their value, and the place behind them.
 struct Digits {
     value: u64,
-    count: usize,
+    end: usize,
 }
 
-// The digits at the front of `s`, up to those that are no more than the largest number whatever follows.
-fn front_digits(s: &[u8]) -> Digits
-    ensures { λ r. ⌜ FrontDigits (now (s .entry)) (r .value) (r .count) ⌝ }
+// The digits at a place of a line, up to those that are no more than the largest number whatever follows. There are none where the first
+// is a 0: most numbers begin with 1 to 9, and the others are read by `read_each`.
+fn digits_at(content: &[u8], at: usize) -> Digits
+    requires { ⌜ at < length (now content) ⌝ }
+    ensures { λ r. ⌜ DigitsAt (now (content .entry)) at (r .value) (r .end) ⌝ }
 {
-    let mut value: u64 = 0;
-    let mut i = 0;
-    while i < s.len() {
-        let b = decimal::wide(s[i]);
+    let first = decimal::wide(content[at]);
+    if first <= decimal::ZERO {
+        return Digits { value: 0, end: at };
+    }
+    if decimal::NINE < first {
+        return Digits { value: 0, end: at };
+    }
+    let mut value = first - decimal::ZERO;
+    let mut i = at + 1;
+    while i < content.len() {
+        let b = decimal::wide(content[i]);
         if b < decimal::ZERO {
-            return Digits { value, count: i };
+            return Digits { value, end: i };
         }
         if decimal::NINE < b {
-            return Digits { value, count: i };
+            return Digits { value, end: i };
         }
         if decimal::ROOMY <= value {
-            return Digits { value, count: i };
+            return Digits { value, end: i };
         }
         value = value * 10 + (b - decimal::ZERO);
         i += 1;
     }
-    Digits { value, count: i }
+    Digits { value, end: i }
 }
 
-// Does a field end at a place: at a tab where more tabs cut, else at the end.
-fn field_ends(s: &[u8], at: usize, tabs: usize) -> bool
-    ensures { λ r. ⌜ r ≡ endsAt (now (s .entry)) at tabs ⌝ }
-{
-    if tabs == 0 {
-        return at == s.len();
-    }
-    if s.len() <= at {
-        return false;
-    }
-    s[at] == b'\t'
-}
-
-// A number at the front of `s`, as most are written: its first digit is 1 to 9. The length is 0 where there is none.
-fn quick_field(s: &[u8], tabs: usize) -> Field
-    ensures { λ r. ⌜ Quick (now (s .entry)) tabs r ⌝ }
-{
-    let d = front_digits(s);
-    if 0 < d.count {
-        if s[0] != b'0' {
-            if field_ends(s, d.count, tabs) {
-                return Field {
-                    value: d.value,
-                    length: d.count,
-                    plain: true,
-                };
-            }
-        }
-    }
-    Field {
-        value: 0,
-        length: 0,
-        plain: true,
-    }
-}
-
-// Reads as many numbers as the table has, if all are as most are written; else the table holds any numbers.
+// Reads as many numbers as the table has, if all are as most are written; else the table holds any numbers. Each byte is looked at once:
+// whether a number ended at a tab is seen where the next begins.
 fn read_quickly(content: &[u8], name: usize, numbers: &mut [u64]) -> bool
     ensures { λ r. ⌜ (r ≡ true → ReadAll (now (content .entry)) name (now (numbers .exit))) ⌝ }
 {
+    if content.len() == 0 {
+        return false;
+    }
+    let last = content.len() - 1;
     let mut tab = name;
     let mut i = 0;
-    while tab < content.len() {
-        if numbers.len() <= i {
+    while i < numbers.len() {
+        if last <= tab {
             return false;
         }
-        let f = quick_field(&content[tab + 1..], numbers.len() - i - 1);
-        if f.length == 0 {
+        if content[tab] != b'\t' {
             return false;
         }
-        numbers[i] = f.value;
-        tab = tab + 1 + f.length;
+        let d = digits_at(content, tab + 1);
+        if d.end <= tab + 1 {
+            return false;
+        }
+        numbers[i] = d.value;
+        tab = d.end;
         i += 1;
     }
-    i == numbers.len()
+    tab == content.len()
 }
 
 // Reads as many numbers as the table has, each behind a tab; the first tab stands behind a name of `name` bytes, or there is the end.
@@ -227,8 +246,7 @@ pub fn read_numbers(content: &[u8], name: usize, line: u64, numbers: &mut [u64])
 fn name_split(name: &[u8]) -> usize
     ensures { λ r. ⌜ r ≡ firstWhere splits (now (name .entry)) ⌝ }
 {
-    let tab = first_byte(name, b'\t');
-    first_byte(&name[..tab], b'\n')
+    first_either(name, b'\t', b'\n')
 }
 
 // How many bytes a name and numbers are written with.
@@ -253,30 +271,30 @@ fn put_front(s: &[u8], out: &mut [u8])
     copying::copy_run(s, 0, s.len(), out, 0);
 }
 
-// Puts numbers, each with a tab before it, from place `at` on; tells the place behind them.
-fn put_numbers(numbers: &[u64], out: &mut [u8], at: usize) -> usize
-    requires { ⌜ at + length (numbersText (now numbers)) ≤ length (now out) ⌝ }
-    ensures { λ r. ⌜ NumbersPut (now (numbers .entry)) (now (out .entry)) at r (now (out .exit)) ⌝ }
+// Puts numbers, each with a tab before it, in front of place `end`, from the last to the first: so no number's digits are counted again.
+fn put_numbers(numbers: &[u64], out: &mut [u8], end: usize)
+    requires { ⌜ (length (numbersText (now numbers)) ≤ end) × (end ≤ length (now out)) ⌝ }
+    ensures { λ _. ⌜ now (out .exit) ≡ overlaid (now (out .entry)) (end - length (numbersText (now (numbers .entry)))) (numbersText (now (numbers .entry))) ⌝ }
 {
-    let mut place = at;
-    let mut i = 0;
-    while i < numbers.len() {
+    let mut place = end;
+    let mut i = numbers.len();
+    while 0 < i {
+        i -= 1;
+        place = decimal::put_before(numbers[i], out, place);
+        place -= 1;
         out[place] = b'\t';
-        place += 1;
-        place += decimal::write_number(numbers[i], out, place);
-        i += 1;
     }
-    place
 }
 
-// Puts a name and numbers with tabs between, and an LF, at the front of the output.
-fn put_text(name: &[u8], numbers: &[u64], out: &mut [u8])
-    requires { ⌜ length (textOf (now name) (now numbers)) ≤ length (now out) ⌝ }
+// Puts a name and numbers with tabs between, and an LF, which are `needed` bytes, at the front of the output.
+fn put_text(name: &[u8], numbers: &[u64], out: &mut [u8], needed: usize)
+    requires { ⌜ (needed ≡ length (textOf (now name) (now numbers))) × (needed ≤ length (now out)) ⌝ }
     ensures { λ _. ⌜ now (out .exit) ≡ overlaid (now (out .entry)) 0 (textOf (now (name .entry)) (now (numbers .entry))) ⌝ }
 {
-    put_front(name, out);
-    let end = put_numbers(numbers, out, name.len());
+    let end = needed - 1;
     out[end] = b'\n';
+    put_numbers(numbers, out, end);
+    put_front(name, out);
 }
 
 // The same, if the name has no tab and no LF, and if there is room.
@@ -296,7 +314,7 @@ fn write_short(name: &[u8], numbers: &[u64], out: &mut [u8]) -> Written
             needed: needed as u64,
         });
     }
-    put_text(name, numbers, out);
+    put_text(name, numbers, out, needed);
     Written::Bytes(needed)
 }
 

@@ -1,82 +1,89 @@
--- `columns::fields::put_numbers` meets its contract. The loop's invariant: the text of the first i numbers is laid over the output from
--- `at` on, and `place` is behind it.
+-- `columns::fields::put_numbers` meets its contract. The loop's invariant: the text of the numbers from number i on is laid over the output
+-- from `place` up to the end.
 -- Assumes nothing.
 use borrow.Author.Needs.{needs}
 use Prim.Native.Nat.{_≤_, _+_, _-_}
-use mathlib.Core.Path.{_≡_, refl, _∙_}
+use mathlib.Core.Path.{_≡_, refl, ap, _∙_}
 use native.Mathlib.Omega.{arith}
-use lib.ListN.{length, getD, take}
-use lib.Seq.{take-all}
+use lib.ListN.{length, getD, drop, length-set, drop-of-length-le}
 use Rattle.columns.specs.Bytes.{overlaid, overlaid-none, overlaid-length}
 use Rattle.columns.specs.Decimal.{decimalOf}
 use Rattle.columns.specs.Fields.{tabbed, numbersText}
-use Rattle.columns.specs.Writing.{text-more-length, next-room, next-put}
+use Rattle.columns.specs.Writing.{text-from-length, before-room, before-put}
 use Rattle.columns.proofs.fields.put_numbers.Statement.{statement}
 use Rattle.columns.proofs.fields.put_numbers.Tie as tie
 
 abbrev Inv-loop : tie.InvT-loop
-Inv-loop numbers out₀ at place₀ i₀ out place i =
-    (i ≤ length numbers) × ((length out ≡ length out₀) × ((place ≡ at + length (numbersText (take i numbers))) × (out ≡ overlaid out₀ at (numbersText (take i numbers)))))
+Inv-loop numbers out₀ end place₀ i₀ out place i =
+    (i ≤ length numbers) × ((length out ≡ length out₀) × ((place + length (numbersText (drop i numbers)) ≡ end) × (out ≡ overlaid out₀ place (numbersText (drop i numbers)))))
 
 abbrev μ-loop : tie.MeasureT-loop
-μ-loop numbers out₀ at place₀ i₀ out place i = length numbers - i
+μ-loop numbers out₀ end place₀ i₀ out place i = i
 
--- there is room for the tab and the number
+-- there is room for the number and the tab before it
 room : (c : tie.In-loop Inv-loop μ-loop)
-    → (let a = c .before .before .before .before .args in c .before .loop .place + (1 + length (decimalOf (getD (a .numbers .now) (c .before .loop .i) 0))) ≤ length (a .out .now))
+    → (let a = c .before .before .before .before .args in 1 + length (decimalOf (getD (a .numbers .now) (c .before .loop .i - 1) 0)) ≤ c .before .loop .place)
 room c =
     let l = c .before in
-    next-room _ (l .before .before .before .args .out .now) _ _ _ (c .loop-test .taken) (l .before .before .before .pre) (l .loop .inv .1 .1 .0)
+    let s = l .before .before .before in
+    before-room (s .args .numbers .now) (l .loop .i) (c .loop-test .taken) (l .loop .inv .0) (s .args .out .now) (s .args .end) (l .loop .place) (s .pre .1) (s .pre .0) (l .loop .inv .1 .1 .0)
 
 loop-holds : tie.Need-loop-holds Inv-loop μ-loop
 unfolding tabbed
-loop-holds c = (omega arith, (refl, (omega arith, overlaid-none _ _)))
+loop-holds c =
+    let a = c .before .before .args in
+    let e = drop-of-length-le (a .numbers .now) {i = length (a .numbers .now)} (omega arith) in
+    (omega arith, (refl, (rw e (omega arith), rw e (overlaid-none (a .out .now) (a .end)))))
+
+sub-i : tie.Need-sub-i Inv-loop μ-loop
+sub-i c = omega arith
+
+mul-put-before : tie.Need-mul-put-before Inv-loop μ-loop
+mul-put-before c = omega arith
+
+shared-slice-read-put-before : tie.Need-shared-slice-read-put-before Inv-loop μ-loop
+shared-slice-read-put-before c = omega arith
+
+put-before-requires : tie.Need-put-before-requires Inv-loop μ-loop
+put-before-requires c κs =
+    let t = c .before .before in
+    (omega (arith, room t), omega (arith, t .before .loop .inv, t .before .before .before .before .pre .1))
+
+-- the output keeps its length
+long : (c : tie.After-put-before Inv-loop μ-loop)
+    → length (c .put-before .last .1 .0) ≡ length (c .before .before .before .before .before .before .before .args .out .now)
+long c =
+    let t = c .before .before .before in
+    ap length (c .put-before .ensures .holds)
+    ∙ (overlaid-length _ _ _ (omega (arith, t .before .loop .inv, t .before .before .before .before .pre .1, c .put-before .ensures .place)) ∙ t .before .loop .inv .1 .0)
+
+sub-place : tie.Need-sub-place Inv-loop μ-loop
+sub-place c = let p = c .before .before in omega (arith, room (p .before .before .before), p .put-before .ensures .place)
 
 slice-write-out : tie.Need-slice-write-out Inv-loop μ-loop
-slice-write-out c = omega (arith, room c)
-
-add-place : tie.Need-add-place Inv-loop μ-loop
-add-place c = omega (arith, room c)
-
-mul-write-number : tie.Need-mul-write-number Inv-loop μ-loop
-mul-write-number c = omega arith
-
-shared-slice-read-write-number : tie.Need-shared-slice-read-write-number Inv-loop μ-loop
-shared-slice-read-write-number c = omega arith
-
-write-number-requires : tie.Need-write-number-requires Inv-loop μ-loop
-write-number-requires c κs = search needs
-
-add-place-2 : tie.Need-add-place-2 Inv-loop μ-loop
-add-place-2 c = omega (arith, room (c .before .before .before .before .before), c .before .before .write-number .ensures .told)
-
-add-i : tie.Need-add-i Inv-loop μ-loop
-add-i c = omega arith
+slice-write-out c =
+    let p = c .before .before in
+    let l = p .before .before .before .before in
+    omega (arith, long p, room (p .before .before .before), p .put-before .ensures .place, l .loop .inv, l .before .before .before .pre .1)
 
 loop-less : tie.Need-loop-less Inv-loop μ-loop
 loop-less c = omega arith
 
--- the output after a turn
-turn : (c : tie.After-slice-known2 Inv-loop μ-loop)
-    → (let l = c .before .before .before .before .before .before in
-    let a = l .before .before .before .args in
-    c .before .before .write-number .last .1 .0 ≡ overlaid (a .out .now) (a .at) (numbersText (take (l .loop .i + 1) (a .numbers .now))))
-turn c =
-    let t = c .before .before .before .before .before in
-    let l = t .before in
-    c .before .before .write-number .ensures .holds
-    ∙ rw (l .loop .inv .1 .1 .1) (next-put _ _ _ _ _ (t .loop-test .taken) (l .before .before .before .pre) (l .loop .inv .1 .1 .0))
-
 loop-again : tie.Need-loop-again Inv-loop μ-loop
 loop-again c =
-    let t = c .before .before .before .before .before in
+    let p = c .before .before in
+    let t = p .before .before .before in
     let l = t .before in
-    let a = l .before .before .before .args in
-    let more = text-more-length (a .numbers .now) (l .loop .i) (t .loop-test .taken) in (
+    let s = l .before .before .before in
+    let e = p .put-before .ensures in (
       omega arith,
       (
-        rw (turn c) (overlaid-length _ _ _ (omega (arith, room t, more))),
-        (omega (arith, more, c .before .before .write-number .ensures .told), turn c),
+        simp length-set (long p),
+        (
+          omega (arith, text-from-length (s .args .numbers .now) (l .loop .i) (t .loop-test .taken) (l .loop .inv .0), l .loop .inv .1 .1 .0, e .place, room t),
+          rw (e .holds, l .loop .inv .1 .1 .1)
+              (before-put (s .args .numbers .now) (l .loop .i) (t .loop-test .taken) (l .loop .inv .0) (s .args .out .now) (s .args .end) (l .loop .place) (s .pre .1) (s .pre .0) (l .loop .inv .1 .1 .0) _ (e .place)),
+        ),
       ),
     )
 
@@ -85,9 +92,12 @@ same-length c = c .before .loop .inv .1 .0
 
 returns : tie.Need-returns Inv-loop μ-loop
 returns c =
-    let l = c .before .loop in
-    let all = take-all (l .i) (c .before .before .before .before .args .numbers .now) (omega arith) in
-    record { place = rw (← all) (l .inv .1 .1 .0); holds = rw (← all) (l .inv .1 .1 .1) }
+    let l = c .before in
+    let a = l .before .before .before .args in
+    let z : l .loop .i ≡ 0 = omega arith in
+    let p : l .loop .place + length (numbersText (a .numbers .now)) ≡ a .end = rw z at (l .loop .inv .1 .1 .0) in
+    let e : a .end - length (numbersText (a .numbers .now)) ≡ l .loop .place = omega arith in
+    rw e (rw z at (l .loop .inv .1 .1 .1))
 
 pub put-numbers-spec : {M : Type 1} → statement M
 put-numbers-spec =
@@ -96,13 +106,12 @@ put-numbers-spec =
     Inv-loop
     μ-loop
     loop-holds
+    sub-i
+    mul-put-before
+    shared-slice-read-put-before
+    put-before-requires
+    sub-place
     slice-write-out
-    add-place
-    mul-write-number
-    shared-slice-read-write-number
-    write-number-requires
-    add-place-2
-    add-i
     loop-less
     loop-again
     same-length
