@@ -115,7 +115,7 @@ body-more first k n x at l ls =
     rw (a, b, c)
 
 module _ (first : Line) (k n : ℕ) (x : Line) (at : ℕ) where
-  rest-some : (l : List ℕ) (ls : List (List ℕ)) → lineSays first (none ls) (lineOf l) ≡ judged.Good
+  pub rest-some : (l : List ℕ) (ls : List (List ℕ)) → lineSays first (none ls) (lineOf l) ≡ judged.Good
       → restSays first k n x at (l ∷ ls) ≡ restSays first (k + 1) (n + lineOf l .bases) (lineOf l) (at + lineOf l .width) ls
   unfolding restSays restOf
   rest-some l ls e = rw e (go (restOf first ls))
@@ -268,7 +268,7 @@ module _ (s : List ℕ) (i n : ℕ) (first last : Line) where
 
 -- ---- the lines of good sequences are the partners
 
-line-same : (l m : Line) → l .bases ≡ m .bases → l .width ≡ m .width → l ≡ m
+pub line-same : (l m : Line) → l .bases ≡ m .bases → l .width ≡ m .width → l ≡ m
 line-same l m b w =
     ap (λ (n : ℕ). record { width = n; bases = l .bases }) w ∙ ap (λ (n : ℕ). record { width = m .width; bases = n }) b
 

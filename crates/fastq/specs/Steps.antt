@@ -1,5 +1,6 @@
 -- What the code's steps through a record find.
-use Prim.Native.Nat.{ℕ, zero, suc, _+_}
+use Prim.Native.Nat.{ℕ, zero, suc, _+_, _-_, _≤_, _<_}
+use mathlib.Core.Path.{_≡_}
 use mathlib.Core.List.{List, [], _∷_}
 use lib.ListN.{length, take}
 use Rattle.lines.specs.declared.Line.{Line}
@@ -48,3 +49,7 @@ qualitiesAs at ps qs (judged.Bad x) = qualities.Refused x
 
 unfoldable pub qualitiesSay : ℕ → List Line → List (List ℕ) → Qualities
 qualitiesSay at ps qs = qualitiesAs at ps qs (qualitiesOf ps qs)
+
+-- n of so many partners are like the first
+unfoldable pub LikeFirst : ℕ → Line → Line → ℕ → Type 0
+LikeFirst count first last n = (n ≤ count) × ((k : ℕ) → k < n → partnerOf (count - k) first last ≡ first)

@@ -4,12 +4,14 @@
 // (38), and a quality line that is not like its partner (39).
 ghost use mathlib.Core.Path.{_≡_};
 ghost use Prim.Native.Nat.{_+_, _-_, _≤_, _<_};
-ghost use lib.ListN.{length};
-ghost use Rattle.lines.specs.Lines.{none, firstLine};
+ghost use lib.ListN.{length, take};
+ghost use Rattle.lines.specs.Lines.{lineEnd, none, firstLine};
+ghost use Rattle.lines.specs.Alike.{alike};
+ghost use Rattle.lines.specs.UpTo.{upToAt};
 ghost use Rattle.fastq.specs.Fastq.{linesAt, bodyAt, lineSays, fitsPartner, sequenceSays, recordAt};
 ghost use Rattle.fastq.specs.Parts.{partOf};
 ghost use Rattle.fastq.specs.RecordLaws.{GoodBody};
-ghost use Rattle.fastq.specs.Steps.{restSays, partnersOf, partnerOf, qualitiesSay};
+ghost use Rattle.fastq.specs.Steps.{LikeFirst, restSays, partnersOf, partnerOf, qualitiesSay};
 use definition::Parsed;
 use lines::Line;
 use lines::Span;
@@ -118,14 +120,26 @@ fn judge_line(first: Line, last: bool, l: Line) -> Verdict
     Verdict::Good
 }
 
-// The sequence lines from `at` on, which come after a record's first.
+// How many sequence lines from `at` on, which come after a record's first, are like it. A read of four lines has none, and its '+' says so.
+fn lines_like_first(s: &[u8], at: usize, first: Line) -> usize
+    ensures { λ r. ⌜ r ≡ alike first (take (length (now (s .entry))) (upToAt (now (s .entry)) 43 at)) ⌝ }
+{
+    if body_ends(s, at) {
+        return 0;
+    }
+    lines::alike::lines_like_up_to(s, at, first, b'+', s.len())
+}
+
+// The sequence lines from `at` on, which come after a record's first: those like the first are passed at once, and those behind them are
+// judged one by one.
 fn index_rest(s: &[u8], at: usize, first: Line) -> Sequence
-    requires { ⌜ (at ≤ length (now s)) × (1 ≤ at) × (first .bases ≤ at) ⌝ }
+    requires { ⌜ (at ≤ length (now s)) × (0 < first .bases) × (first .bases ≤ first .width) × (first .width ≤ at) ⌝ }
     ensures { λ r. ⌜ r ≡ restSays first 1 (first .bases) first at (bodyAt (now (s .entry)) at) ⌝ }
 {
-    let mut i = at;
-    let mut count = 1;
-    let mut bases = first.bases;
+    let passed = lines_like_first(s, at, first);
+    let mut i = at + passed * first.width;
+    let mut count = 1 + passed;
+    let mut bases = first.bases + passed * first.bases;
     let mut last = first;
     while !body_ends(s, i) {
         let l = line_at(s, i);
@@ -174,12 +188,31 @@ fn partner(left: usize, first: Line, last: Line) -> Line
     first
 }
 
-// The quality lines from `at` on, of which there are to be `count`.
+// How many of `count` partners are known to be like the first: all, or all but the last.
+fn partners_like_first(count: usize, first: Line, last: Line) -> usize
+    ensures { λ r. ⌜ LikeFirst count first last r ⌝ }
+{
+    if last.width == first.width {
+        if last.bases == first.bases {
+            return count;
+        }
+    }
+    if count == 0 {
+        return 0;
+    }
+    count - 1
+}
+
+// The quality lines from `at` on, of which there are to be `count`: those like the first partner are passed at once, and those behind them
+// are judged one by one. A line that has a base does not begin with LF, so that as a mark it bars none.
 fn judge_qualities(s: &[u8], at: usize, count: usize, first: Line, last: Line) -> Qualities
+    requires { ⌜ at ≤ length (now s) ⌝ }
     ensures { λ r. ⌜ r ≡ qualitiesSay at (partnersOf count first last) (linesAt (now (s .entry)) at) ⌝ }
 {
-    let mut i = at;
-    let mut left = count;
+    let most = partners_like_first(count, first, last);
+    let passed = lines::alike::lines_like_up_to(s, at, first, b'\n', most);
+    let mut i = at + passed * first.width;
+    let mut left = count - passed;
     while 0 < left {
         let p = partner(left, first, last);
         if s.len() <= i {
@@ -202,6 +235,21 @@ fn judge_qualities(s: &[u8], at: usize, count: usize, first: Line, last: Line) -
     Qualities::Behind(i)
 }
 
+// The end of the line at `at`, where a '+' line is to be: mostly it is a '+' and an LF.
+fn plus_end(s: &[u8], at: usize) -> usize
+    requires { ⌜ at ≤ length (now s) ⌝ }
+    ensures { λ r. ⌜ r ≡ lineEnd (now (s .entry)) at ⌝ }
+{
+    if 2 <= s.len() - at {
+        if s[at] == b'+' {
+            if s[at + 1] == b'\n' {
+                return at + 2;
+            }
+        }
+    }
+    lines::ends::line_end(s, at)
+}
+
 // The record at `at` is refused.
 fn refused(at: usize, x: Refusal) -> Step
     ensures { λ r. ⌜ r ≡ record { answer = Indexed.Refused x; next = at } ⌝ }
@@ -221,7 +269,7 @@ fn index_qualities(s: &[u8], at: usize, e: usize, name: Span, body: Body) -> Ste
     if s.len() <= next {
         return refused(at, Refusal::NoPlusLine);
     }
-    let q = lines::ends::line_end(s, next);
+    let q = plus_end(s, next);
     let first = body.first;
     let last = body.last;
     match judge_qualities(s, q, body.count, first, last) {

@@ -46,16 +46,6 @@ pub like-bases : (x : Line) (l : List ℕ) → isLike x l ≡ true → length (b
 unfolding isLike
 like-bases x l e = eqb-true _ _ (both-right (ends 10 l && eqb (length l) (x .width)) _ e)
 
-pub alike-stop : (x : Line) (ls : List (List ℕ)) → firstLike x ls ≡ false → alike x ls ≡ 0
-unfolding alike firstLike
-alike-stop x [] e = refl
-alike-stop x (l ∷ ls) e = rw e
-
-alike-on : (x : Line) (ls : List (List ℕ)) → firstLike x ls ≡ true → alike x ls ≡ suc (alike x (tailOf ls))
-unfolding alike firstLike
-alike-on x [] e = absurd (true≢false (sym e))
-alike-on x (l ∷ ls) e = rw e
-
 pub like-first : (x : Line) (ls : List (List ℕ)) → firstLike x ls ≡ true → (firstLine ls .width ≡ x .width) × (firstLine ls .bases ≡ x .bases)
 unfolding firstLike
 like-first x [] e = absurd (true≢false (sym e))
@@ -75,9 +65,6 @@ alike-flat x ((b ∷ l) ∷ ls) z = go (isLike x (b ∷ l)) (λ t. like-width x 
 pub alike-none : (x : Line) → 0 ≡ alike x []
 unfolding alike
 alike-none x = refl
-
-pub alike-next : (s : List ℕ) (x : Line) (at : ℕ) → at ≤ length s → firstLike x (seqAt s at) ≡ true → alike x (seqAt s at) ≡ suc (alike x (seqAt s (at + x .width)))
-alike-next s x at h t = alike-on x (seqAt s at) t ∙ ap (λ (ls : List (List ℕ)). suc (alike x ls)) (sym (rw (like-first x (seqAt s at) t .0) at (seqAt-next s at h)))
 
 -- ---- from line to line
 

@@ -4,15 +4,15 @@ use Prim.Native.Nat.{ℕ, zero, suc, _+_, _-_, _≤_, _<_}
 use mathlib.Core.Path.{_≡_, refl, ap, sym, _∙_}
 use mathlib.Core.List.{List, [], _∷_, _++_}
 use mathlib.Core.Bool.{Bool, true, false, cond, _&&_, true≢false}
-use lib.ListN.{length, take, drop, getD, length-drop, length-append}
+use lib.ListN.{length, take, drop, getD, drop-of-length-le, length-drop, length-append}
 use lib.Seq.{drop-cons, drop-drop, getD-drop}
 use lib.Dec.{eqb, ltb}
-use borrow.Author.Tests.{eq-eqb, ne-eqb, eqb-true, eqb-false, lt-ltb, le-ltb}
+use borrow.Author.Tests.{eq-eqb, ne-eqb, eqb-true, eqb-false, ltb-true, ltb-false, lt-ltb, le-ltb}
 use native.Mathlib.Omega.{arith}
 use native.Mathlib.Numerals.{add-one}
 use native.Mathlib.Nat.{add-zero, zero-add}
-use Rattle.lines.specs.Lines.{part, lineLen, lineEnd, chop, ends, basesOf, seqAt, none, firstLine, tailOf}
-use Rattle.lines.specs.Laws.{lineLen-hit, lineEnd-le, part-length, part-snoc, chop-hit, chop-miss, ends-chop, seqAt-step, seqAt-stop, seqAt-end, some-line, first-within}
+use Rattle.lines.specs.Lines.{part, lines, lineLen, lineEnd, chop, ends, basesOf, firstLine}
+use Rattle.lines.specs.Laws.{lineLen-hit, lineEnd-le, part-length, part-snoc, chop-hit, chop-miss, ends-chop, linesAt-cut}
 use Rattle.lines.specs.Alike.{isLike, firstLike, like-first, both-left}
 use Rattle.lines.specs.declared.Line.{Line}
 
@@ -64,7 +64,7 @@ len-clear (suc n) (b ∷ l) h = go (eqb b 10) h (λ c. len-clear n l c)
     go true c r = absurd (omega arith)
     go false c r = r (omega arith)
 
--- ---- a line of a file that is like another, by its first byte, its last, and that no LF is before that
+-- ---- a line of a file that is like another, by its last byte, and that no LF is before that
 
 module _ (s : List ℕ) (at : ℕ) (x : Line) (h : at ≤ length s) (z : 0 < x .width) where
   module _ (f : x .width ≤ length s - at) where
@@ -76,41 +76,38 @@ module _ (s : List ℕ) (at : ℕ) (x : Line) (h : at ≤ length s) (z : 0 < x .
       end-is =
           omega (arith, clear-len (x .width - 1) (drop at s) (omega (arith, length-drop at s)) c, ap lineLen (drop-drop (x .width - 1) at s), lineLen-hit s (at + (x .width - 1)) (omega arith) e)
 
-      pub like-by : (getD s at 0 ≡ 62 → ⊥) → eqb (length (chop 13 (part s at (at + (x .width - 1))))) (x .bases) ≡ firstLike x (seqAt s at)
+      pub like-by : eqb (length (chop 13 (part s at (at + (x .width - 1))))) (x .bases) ≡ firstLike x (lines (drop at s))
       unfolding firstLike isLike
-      like-by g =
+      like-by =
           let cut : chop 10 (part s at (at + x .width)) ≡ part s at (at + (x .width - 1)) = ap (chop 10) full ∙ chop-hit 10 (part s at (at + (x .width - 1))) (getD s (at + (x .width - 1)) 0) e in
           let n : length (part s at (at + x .width)) ≡ x .width = part-length s at (at + x .width) (omega arith) ∙ omega arith in
           let m : length (part s at (at + (x .width - 1))) ≡ x .width - 1 = part-length s at (at + (x .width - 1)) (omega arith) ∙ omega arith in
-          rw (seqAt-step s at (omega arith) g, end-is, ends-chop 10 (part s at (at + x .width)), cut, n, m, lt-ltb (x .width - 1) (x .width) (omega arith), eq-eqb (x .width) (x .width) refl)
+          rw (linesAt-cut s at (omega arith), end-is, ends-chop 10 (part s at (at + x .width)), cut, n, m, lt-ltb (x .width - 1) (x .width) (omega arith), eq-eqb (x .width) (x .width) refl)
 
-  -- a line that is like another has its width, its end, no LF before that, and no '>' at its front
-  module _ (t : firstLike x (seqAt s at) ≡ true) where
-    some : none (seqAt s at) ≡ false
-    unfolding firstLike
-    some = go (seqAt s at) t
+  -- a line that is like another has its width, its end, and no LF before that
+  module _ (t : firstLike x (lines (drop at s)) ≡ true) where
+    here : at < length s
+    unfolding firstLike lines
+    here = go (ltb at (length s)) refl
       where
-        go : (ls : List (List ℕ)) → firstLike x ls ≡ true → none ls ≡ false
-        go [] e = absurd (true≢false (sym e))
-        go (l ∷ ls) e = refl
+        go : (b : Bool) → ltb at (length s) ≡ b → at < length s
+        go true e = ltb-true _ _ e
+        go false e = absurd (true≢false (sym (rw (drop-of-length-le s (ltb-false _ _ e)) at t)))
 
-    pub like-fits : x .width ≤ length s - at
-    like-fits = omega (arith, first-within s at h, like-first x (seqAt s at) t)
-
-    end-there : lineEnd s at ≡ at + x .width
-    end-there =
-        let w : length (part s at (lineEnd s at)) ≡ x .width = rw (some-line s at some) at (like-first x (seqAt s at) t .0) in
+    pub like-end : lineEnd s at ≡ at + x .width
+    like-end =
+        let w : length (part s at (lineEnd s at)) ≡ x .width = rw (linesAt-cut s at here) at (like-first x (lines (drop at s)) t .0) in
         omega (arith, part-length s at (lineEnd s at) (lineEnd-le s at h), lineEnd-le s at h, w, z)
 
-    pub like-clear : hasLf (take (x .width - 1) (drop at s)) ≡ false
-    like-clear = len-clear (x .width - 1) (drop at s) (omega (arith, end-there))
+    pub like-fits : x .width ≤ length s - at
+    like-fits = omega (arith, like-end, lineEnd-le s at h)
 
-    pub like-first-byte : getD s at 0 ≡ 62 → ⊥
-    like-first-byte e = true≢false (sym (rw (seqAt-stop s at (omega (arith, like-fits)) e) at (sym some)))
+    pub like-clear : hasLf (take (x .width - 1) (drop at s)) ≡ false
+    like-clear = len-clear (x .width - 1) (drop at s) (omega (arith, like-end))
 
     ends-in : ends 10 (part s at (at + x .width)) ≡ true
     unfolding firstLike isLike
-    ends-in = both-left _ _ (both-left _ _ (rw (some-line s at some, end-there) at t))
+    ends-in = both-left _ _ (both-left _ _ (rw (linesAt-cut s at here, like-end) at t))
 
     pub like-last-byte : getD s (at + (x .width - 1)) 0 ≡ 10
     like-last-byte = go (eqb (getD s (at + (x .width - 1)) 0) 10) refl

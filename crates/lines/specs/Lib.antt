@@ -9,5 +9,7 @@ pub mod Same
 pub mod Sums
 pub mod Alike
 pub mod Clear
+pub mod UpTo
 pub mod Blocks
+pub mod LeftAt
 pub mod FirstLf

@@ -1,12 +1,13 @@
-// Lines alike: how many sequence lines in a row have the width and the bases of a given one. Such a line need not be searched for its
+// Lines alike: how many lines in a row have the width and the bases of a given one. Such a line need not be searched for its
 // end: it has an LF where its end should be, and none before. Example: after a line of 61 bytes, the LF of a line like it is 60 bytes on,
 // and two overlapping blocks of 32 bytes cover the 60 bytes before it.
 use crate::Line;
 ghost use mathlib.Core.Path.{_≡_};
 ghost use Prim.Native.Nat.{_+_, _≤_, _<_};
 ghost use lib.ListN.{length, take, drop};
-ghost use Rattle.lines.specs.Lines.{seqAt};
+ghost use Rattle.lines.specs.Lines.{lines, seqAt};
 ghost use Rattle.lines.specs.Alike.{firstLike, alike};
+ghost use Rattle.lines.specs.UpTo.{upToAt};
 ghost use Rattle.lines.specs.Clear.{hasLf};
 ghost use Rattle.lines.specs.Blocks.{lfInEither};
 
@@ -99,10 +100,10 @@ fn lf_within(s: &[u8], at: usize, n: usize) -> bool
     lf_among_many(s, at, n)
 }
 
-// Does the sequence line at `at` end in LF, with the width and the bases of `like`. It looks where the end should be.
+// Does the line at `at`, whatever it begins with, end in LF, with the width and the bases of `like`. It looks where the end should be.
 fn is_like(s: &[u8], at: usize, like: Line) -> bool
     requires { ⌜ (at ≤ length (now s)) × (0 < like .width) ⌝ }
-    ensures { λ r. ⌜ r ≡ firstLike like (seqAt (now (s .entry)) at) ⌝ }
+    ensures { λ r. ⌜ r ≡ firstLike like (lines (drop at (now (s .entry)))) ⌝ }
 {
     if s.len() - at < like.width {
         return false;
@@ -111,18 +112,16 @@ fn is_like(s: &[u8], at: usize, like: Line) -> bool
     if lf_within(s, at, like.width - 1) {
         return false;
     }
-    if s[at] == b'>' {
-        return false;
-    }
     if s[last] != b'\n' {
         return false;
     }
     crate::chopped(&s[at..last], b'\r') == like.bases
 }
 
-// How many sequence lines from `at` on end in LF with the width and the bases of `like`, up to the first that does not.
-pub fn lines_like(s: &[u8], at: usize, like: Line) -> usize
-    ensures { λ r. ⌜ r ≡ alike like (seqAt (now (s .entry)) at) ⌝ }
+// How many lines from `at` on end in LF with the width and the bases of `like`, up to the first that does not, or that begins with `mark`, and
+// at most `most`. The mark is looked at last: the blocks of `is_like` load the byte too, and the compiler would not load them whole.
+pub fn lines_like_up_to(s: &[u8], at: usize, like: Line, mark: u8, most: usize) -> usize
+    ensures { λ r. ⌜ r ≡ alike like (take most (upToAt (now (s .entry)) mark at)) ⌝ }
 {
     if s.len() < at {
         return 0;
@@ -132,9 +131,22 @@ pub fn lines_like(s: &[u8], at: usize, like: Line) -> usize
     }
     let mut i = at;
     let mut n = 0;
-    while is_like(s, i, like) {
+    while n < most {
+        if !is_like(s, i, like) {
+            return n;
+        }
+        if s[i] == mark {
+            return n;
+        }
         i += like.width;
         n += 1;
     }
     n
+}
+
+// How many sequence lines from `at` on end in LF with the width and the bases of `like`, up to the first that does not.
+pub fn lines_like(s: &[u8], at: usize, like: Line) -> usize
+    ensures { λ r. ⌜ r ≡ alike like (seqAt (now (s .entry)) at) ⌝ }
+{
+    lines_like_up_to(s, at, like, b'>', s.len())
 }

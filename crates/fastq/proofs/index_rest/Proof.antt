@@ -1,9 +1,9 @@
--- `fastq::index_rest` meets its contract: the lines passed, and what those from here on say, together are what all say.
+-- `fastq::index_rest` meets its contract: the lines passed, at once or one by one, and what those from here on say, together are what all say.
 -- Assumes nothing.
 use borrow.Author.Needs.{needs}
 use mathlib.Core.Path.{_≡_, refl, sym, _∙_}
 use mathlib.Core.Bool.{false}
-use Prim.Native.Nat.{_≤_, _<_, _+_, _-_}
+use Prim.Native.Nat.{_≤_, _<_, _+_, _*_, _-_}
 use native.Mathlib.Omega.{arith}
 use lib.ListN.{length}
 use Rattle.lines.specs.Lines.{none, firstLine}
@@ -11,18 +11,57 @@ use borrow.Author.Tests.{not-true, not-false}
 use Rattle.fastq.specs.Fastq.{linesAt, bodyAt}
 use Rattle.fastq.specs.Steps.{restSays}
 use Rattle.fastq.specs.Laws.{rest-ends, rest-on, rest-stops, some-here, line-within, bases-most}
+use Rattle.fastq.specs.Passing.{rest-passed, passed-room, passed-few}
 use Rattle.fastq.proofs.index_rest.Statement.{statement}
 use Rattle.fastq.proofs.index_rest.Tie as tie
 
 abbrev Inv-loop : tie.InvT-loop
-Inv-loop s at first i₀ count₀ bases₀ last₀ i count bases last =
+Inv-loop s at first passed i₀ count₀ bases₀ last₀ i count bases last =
     (i ≤ length s) × (count ≤ i) × (bases ≤ i) × (restSays first count bases last i (bodyAt s i) ≡ restSays first 1 (first .bases) first at (bodyAt s at))
 
 abbrev μ-loop : tie.MeasureT-loop
-μ-loop s at first i₀ count₀ bases₀ last₀ i count bases last = length s - i
+μ-loop s at first passed i₀ count₀ bases₀ last₀ i count bases last = length s - i
+
+lines-like-first-requires : tie.Need-lines-like-first-requires Inv-loop μ-loop
+lines-like-first-requires c κs = search needs
+
+-- the lines like the first end in the file, have no more bases than bytes, and are no more than bytes
+room : (c : tie.After-lines-like-first Inv-loop μ-loop)
+    → (c .before .before .args .at + c .lines-like-first .result * c .before .before .args .first .width ≤ length (c .before .before .args .s .now))
+    × (c .lines-like-first .result * c .before .before .args .first .bases ≤ c .lines-like-first .result * c .before .before .args .first .width)
+    × (c .lines-like-first .result ≤ c .lines-like-first .result * c .before .before .args .first .width)
+room c =
+    let a = c .before .before .args in
+    let p = c .before .before .pre in
+    let r = passed-room (a .s .now) (a .first) 43 (length (a .s .now)) (a .at) (c .lines-like-first .result) (p .0) (p .2) (c .lines-like-first .ensures) in
+    (r .0, r .1, passed-few (c .lines-like-first .result) (a .first .width) (omega arith))
+
+mul-i : tie.Need-mul-i Inv-loop μ-loop
+mul-i c = omega (arith, room (c .before))
+
+add-i : tie.Need-add-i Inv-loop μ-loop
+add-i c = omega (arith, room (c .before))
+
+add-count : tie.Need-add-count Inv-loop μ-loop
+add-count c = omega (arith, room (c .before))
+
+mul-bases : tie.Need-mul-bases Inv-loop μ-loop
+mul-bases c = omega (arith, room (c .before .before))
+
+add-bases : tie.Need-add-bases Inv-loop μ-loop
+add-bases c = omega (arith, room (c .before .before .before))
 
 loop-holds : tie.Need-loop-holds Inv-loop μ-loop
-loop-holds c = (omega arith, omega arith, omega arith, refl)
+loop-holds c =
+    let e = c .before .before .before in
+    let a = e .before .before .args in
+    let p = e .before .before .pre in
+    let r = room e in (
+      r .0,
+      omega (arith, r),
+      omega (arith, r),
+      rest-passed (a .s .now) (a .first) (λ z. omega arith) (a .at) (length (a .s .now)) (e .lines-like-first .result) (p .0) (e .lines-like-first .ensures),
+    )
 
 body-ends-requires : tie.Need-body-ends-requires Inv-loop μ-loop
 body-ends-requires c κs = search needs
@@ -31,15 +70,15 @@ line-at-requires : tie.Need-line-at-requires Inv-loop μ-loop
 line-at-requires c κs = search needs
 
 -- there is a line at i
-some : (c : tie.After-line-at Inv-loop μ-loop) → none (bodyAt (c .before .before .before .before .before .args .s .now) (c .before .before .before .loop .i)) ≡ false
+some : (c : tie.After-line-at Inv-loop μ-loop) → none (bodyAt (c .before .before .before .before .before .before .before .before .before .args .s .now) (c .before .before .before .loop .i)) ≡ false
 some c = sym (c .before .before .body-ends .ensures) ∙ not-true _ (c .before .if1 .taken)
 
 within : (c : tie.After-line-at Inv-loop μ-loop)
     → (c .before .before .before .loop .i < c .before .before .before .loop .i + c .line-at .result .width)
-    × (c .before .before .before .loop .i + c .line-at .result .width ≤ length (c .before .before .before .before .before .args .s .now))
+    × (c .before .before .before .loop .i + c .line-at .result .width ≤ length (c .before .before .before .before .before .before .before .before .before .args .s .now))
     × (c .line-at .result .bases ≤ c .line-at .result .width)
 within c =
-    let s = c .before .before .before .before .before .args .s .now in
+    let s = c .before .before .before .before .before .before .before .before .before .args .s .now in
     let i = c .before .before .before .loop .i in
     let w = line-within s i (some-here s i (some c)) in
     rw (c .line-at .ensures) (w .0, w .1, bases-most (linesAt s i))
@@ -66,11 +105,11 @@ returns c =
 enum-told : tie.Need-enum-told Inv-loop μ-loop
 enum-told c = search needs
 
-add-count : tie.Need-add-count Inv-loop μ-loop
-add-count c = omega (arith, within (c .before .before .before .before .before))
+add-count-2 : tie.Need-add-count-2 Inv-loop μ-loop
+add-count-2 c = omega (arith, within (c .before .before .before .before .before))
 
-add-bases : tie.Need-add-bases Inv-loop μ-loop
-add-bases c = omega (arith, within (c .before .before .before .before .before .before))
+add-bases-2 : tie.Need-add-bases-2 Inv-loop μ-loop
+add-bases-2 c = omega (arith, within (c .before .before .before .before .before .before))
 
 loop-less : tie.Need-loop-less Inv-loop μ-loop
 loop-less c = omega (arith, within (c .before .before .before .before .before .before))
@@ -96,6 +135,12 @@ index-rest-spec =
     (tie.spec
     Inv-loop
     μ-loop
+    lines-like-first-requires
+    mul-i
+    add-i
+    add-count
+    mul-bases
+    add-bases
     loop-holds
     body-ends-requires
     line-at-requires
@@ -105,8 +150,8 @@ index-rest-spec =
     enum-known-x
     returns
     enum-told
-    add-count
-    add-bases
+    add-count-2
+    add-bases-2
     loop-less
     loop-again
     returns-2)

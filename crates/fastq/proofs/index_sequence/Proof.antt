@@ -44,7 +44,7 @@ returns-2 c =
     c .refused2 .ensures ∙ sequence-blank _ _ _ _ (l .before .before .before .before .pre .0) (l .before .before .before .before .pre .1) _ (sym (l .before .before .body-ends .ensures) ∙ l .before .if1 .left) (l .line-at .ensures) (c .before .if2 .taken)
 
 index-rest-requires : tie.Need-index-rest-requires
-index-rest-requires c κs = let w = within (c .before .before .before) in (w .0, omega (arith, w), omega (arith, w))
+index-rest-requires c κs = let w = within (c .before .before .before) in (w .0, omega (arith, w), w .2, omega (arith, w))
 
 enum-known-x : tie.Need-enum-known-x
 enum-known-x c = search needs

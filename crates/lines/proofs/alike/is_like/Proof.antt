@@ -5,7 +5,7 @@ use mathlib.Core.Path.{_≡_, sym, _∙_, ap}
 use mathlib.Core.Bool.{true≢false}
 use lib.Dec.{eqb}
 use native.Mathlib.Omega.{arith}
-use Rattle.lines.specs.Clear.{like-by, like-fits, like-clear, like-first-byte, like-last-byte, not-true}
+use Rattle.lines.specs.Clear.{like-by, like-fits, like-clear, like-last-byte, not-true}
 use borrow.Author.Needs.{needs}
 use Rattle.lines.proofs.alike.is_like.Statement.{statement}
 use Rattle.lines.proofs.alike.is_like.Tie as tie
@@ -35,13 +35,7 @@ shared-slice-read-if3 : tie.Need-shared-slice-read-if3
 shared-slice-read-if3 c = search needs
 
 returns-3 : tie.Need-returns-3
-returns-3 c = not-true _ (λ t. like-first-byte _ _ _ (c .before .before .before .before .before .before .before .before .before .pre .0) (c .before .before .before .before .before .before .before .before .before .pre .1) t (c .if3 .taken))
-
-shared-slice-read-if4 : tie.Need-shared-slice-read-if4
-shared-slice-read-if4 c = search needs
-
-returns-4 : tie.Need-returns-4
-returns-4 c = not-true _ (λ t. c .if4 .taken (like-last-byte _ _ _ (c .before .before .before .before .before .before .before .before .before .before .before .pre .0) (c .before .before .before .before .before .before .before .before .before .before .before .pre .1) t))
+returns-3 c = not-true _ (λ t. c .if3 .taken (like-last-byte _ _ _ (c .before .before .before .before .before .before .before .before .before .pre .0) (c .before .before .before .before .before .before .before .before .before .pre .1) t))
 
 sub-chopped : tie.Need-sub-chopped
 sub-chopped c = search needs
@@ -55,10 +49,10 @@ part-chopped-end c = search needs
 chopped-requires : tie.Need-chopped-requires
 chopped-requires c κs = search needs
 
-returns-5 : tie.Need-returns-5
-returns-5 c =
-    let p = c .before .before .before .before .before .before .before .before .before .before .before .before .before .before .pre in
-    rw (c .before .chopped .ensures) (like-by _ _ _ (p .0) (p .1) (omega arith) (sym (c .before .before .before .before .before .before .before .before .lf-within .ensures) ∙ c .before .before .before .before .before .before .before .if2 .left) (c .before .before .before .if4 .left) (c .before .before .before .before .before .if3 .left))
+returns-4 : tie.Need-returns-4
+returns-4 c =
+    let p = c .before .before .before .before .before .before .before .before .before .before .before .before .pre in
+    rw (c .before .chopped .ensures) (like-by _ _ _ (p .0) (p .1) (omega arith) (sym (c .before .before .before .before .before .before .lf-within .ensures) ∙ c .before .before .before .before .before .if2 .left) (c .before .before .before .if3 .left))
 
 pub is-like-spec : {M : Type 1} → statement M
 is-like-spec =
@@ -73,10 +67,8 @@ is-like-spec =
     returns-2
     shared-slice-read-if3
     returns-3
-    shared-slice-read-if4
-    returns-4
     sub-chopped
     part-chopped-start
     part-chopped-end
     chopped-requires
-    returns-5)
+    returns-4)
