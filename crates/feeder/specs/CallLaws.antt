@@ -38,8 +38,8 @@ module _ (f : Feeder) (p t : List ℕ) (r : Feeder) where
         unfolding pieceOf overLimit
         piece-long h e = record { is = rw (ne-eqb _ _ z, l, s, lt-ltb limit (f .total + length p) (omega arith), e); rest = refl }
 
-        pub piece-fed : (g : Fed) (u : List ℕ) → f .total + length p ≤ limit → FeedDone (f .rule) (record { phase = f .phase; rows = f .rows; held = f .held }) p t g u
-            → r ≡ keptBy (f .rule) (f .total + length p) (g .phase) (g .rows) (g .held) → CallDone (pieceOf f p (numbersIn t)) t r u
+        pub piece-fed : (g : Fed) (u : List ℕ) → f .total + length p ≤ limit → FeedDone (f .rule) (record { phase = f .phase; rows = f .rows; waiting = f .waiting }) p t g u
+            → r ≡ keptBy (f .rule) (f .total + length p) (g .phase) (g .rows) (g .waiting) → CallDone (pieceOf f p (numbersIn t)) t r u
         unfolding pieceOf overLimit
         piece-fed g u h d e = record {
           is = rw (ne-eqb _ _ z, l, s, le-ltb limit (f .total + length p) h, e) (ap (keptIn (f .rule) (f .total + length p)) (d .is));
@@ -57,11 +57,11 @@ module _ (f : Feeder) (t : List ℕ) (r : Feeder) where
     end-unsound s e = record { is = rw (l, s, e); rest = refl }
 
     module _ (s : soundOf f ≡ true) where
-      pub end-empty : f .held .width ≡ 0 → r ≡ closedBy (f .rule) (f .phase) (f .rows) → CallDone (endOf f (numbersIn t)) t r t
+      pub end-empty : f .waiting .width ≡ 0 → r ≡ closedBy (f .rule) (f .phase) (f .rows) → CallDone (endOf f (numbersIn t)) t r t
       unfolding endOf
       end-empty h e = record { is = rw (l, s, eq-eqb _ _ h, e); rest = refl }
 
-      pub end-judged : (out : Out) (g : Settled) (u : List ℕ) → (f .held .width ≡ 0 → ⊥) → out ≡ outOf (f .rule) (f .phase) (f .held) true → SettleDone out (f .rows) t g u
+      pub end-judged : (out : Out) (g : Settled) (u : List ℕ) → (f .waiting .width ≡ 0 → ⊥) → out ≡ outOf (f .rule) (f .phase) (f .waiting) true → SettleDone out (f .rows) t g u
           → r ≡ closedBy (f .rule) (g .phase) (g .rows) → CallDone (endOf f (numbersIn t)) t r u
       unfolding endOf stepBy
       end-judged out g u h o d e = record {
@@ -69,7 +69,7 @@ module _ (f : Feeder) (t : List ℕ) (r : Feeder) where
         rest = d .rest;
       }
 
--- what a test says that is turned round
+-- a negated test
 pub not-true : (b : Bool) → not b ≡ true → b ≡ false
 not-true true e = sym e
 not-true false e = refl

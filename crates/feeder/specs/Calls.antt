@@ -1,4 +1,4 @@
--- What the calls of a feeder leave and tell, for any state and any bytes (docs/RULES.md, R57).
+-- What the calls of a feeder leave and answer, for any state and any bytes (docs/RULES.md, R57).
 use Prim.Native.Nat.{ℕ, _+_, _-_}
 use mathlib.Core.Path.{_≡_}
 use mathlib.Core.List.{List}
@@ -31,11 +31,11 @@ limit = 1099511627776
 
 -- the start of a file
 abbrev pub begunBy : Rule → Feeder
-begunBy rule = record { rule = rule; total = 0; rows = 0; phase = Definition 0; held = noLine }
+begunBy rule = record { rule = rule; total = 0; rows = 0; phase = Definition 0; waiting = noLine }
 
 -- behind a refusal, or the end: the rows that stand, and nothing more
 abbrev pub stopped : Rule → ℕ → Phase → Feeder
-stopped rule n p = record { rule = rule; total = 0; rows = n; phase = p; held = noLine }
+stopped rule n p = record { rule = rule; total = 0; rows = n; phase = p; waiting = noLine }
 
 -- refused
 abbrev pub refusedBy : Feeder → Refusal → Feeder
@@ -48,14 +48,14 @@ live (Lines d t z) = true
 live (Halted n) = false
 live Ended = false
 
--- one that takes none, told bytes or the end: a refusal stays, and behind a good end this is refusal 26
+-- a feeder that takes no bytes, given some or the end: a refusal stays, and behind a good end this is refusal 26
 unfoldable pub stillStopped : Feeder → Phase → Feeder
 stillStopped f (Halted n) = f
 stillStopped f Ended = refusedBy f AlreadyEnded
 stillStopped f (Definition at) = f
 stillStopped f (Lines d t z) = f
 
--- could a call have left these numbers: none is over the limit, and they agree
+-- could a call have left these numbers: none is over the limit, and they fit together
 unfoldable pub soundWaiting : Waiting → Bool
 soundWaiting t =
     ((((leb (t .bases) (t .width) && leb (t .name) (t .width)) && leb (t .text) (t .width)) && leb (t .kept) (t .width)) && leb (t .width) limit) && (not (t .whole) || ltb (t .bases) (t .width))
@@ -81,7 +81,7 @@ soundPhase (Halted n) = true
 soundPhase Ended = true
 
 unfoldable pub soundOf : Feeder → Bool
-soundOf f = (leb (f .total) limit && soundPhase (f .phase)) && soundWaiting (f .held)
+soundOf f = (leb (f .total) limit && soundPhase (f .phase)) && soundWaiting (f .waiting)
 
 -- ---- the calls
 
@@ -96,16 +96,16 @@ with f t = record { feeder = f; table = t }
 -- what lines leave: behind a refusal only that
 unfoldable pub keptBy : Rule → ℕ → Phase → ℕ → Waiting → Feeder
 keptBy rule total (Halted n) rows t = stopped rule rows (Halted n)
-keptBy rule total (Definition at) rows t = record { rule = rule; total = total; rows = rows; phase = Definition at; held = t }
-keptBy rule total (Lines d so z) rows t = record { rule = rule; total = total; rows = rows; phase = Lines d so z; held = t }
-keptBy rule total Ended rows t = record { rule = rule; total = total; rows = rows; phase = Ended; held = t }
+keptBy rule total (Definition at) rows t = record { rule = rule; total = total; rows = rows; phase = Definition at; waiting = t }
+keptBy rule total (Lines d so z) rows t = record { rule = rule; total = total; rows = rows; phase = Lines d so z; waiting = t }
+keptBy rule total Ended rows t = record { rule = rule; total = total; rows = rows; phase = Ended; waiting = t }
 
 abbrev pub keptIn : Rule → ℕ → FedSum Filling Waiting → With
 keptIn rule total x = with (keptBy rule total (x .state .phase) (x .state .rows) (x .held)) (x .state .table)
 
 -- where a feeder stands
 abbrev pub fedOf : Feeder → List ℕ → FedSum Filling Waiting
-fedOf f t = record { state = filling (f .phase) (f .rows) t; held = f .held }
+fedOf f t = record { state = filling (f .phase) (f .rows) t; held = f .waiting }
 
 -- a piece: none changes nothing; then 26, then 1, then its lines
 unfoldable pub pieceOf : Feeder → List ℕ → List ℕ → With
@@ -132,7 +132,7 @@ unfoldable pub endOf : Feeder → List ℕ → With
 endOf f t =
     cond (live (f .phase))
     (cond (soundOf f)
-    (closedIn (f .rule) (cond (eqb (f .held .width) 0) (filling (f .phase) (f .rows) t) (stepBy (f .rule) (filling (f .phase) (f .rows) t) (f .held) true)))
+    (closedIn (f .rule) (cond (eqb (f .waiting .width) 0) (filling (f .phase) (f .rows) t) (stepBy (f .rule) (filling (f .phase) (f .rows) t) (f .waiting) true)))
     (with (refusedBy f TooLong) t))
     (with (stillStopped f (f .phase)) t)
 
@@ -142,7 +142,7 @@ pub record CallDone (w : With) (before : List ℕ) (r : Feeder) (after : List �
   pub is : with r (numbersIn after) ≡ w
   pub rest : restOf after ≡ restOf before
 
--- the refusal that a feeder tells; 0, 0 and 0 for none
+-- the refusal of a feeder; 0, 0 and 0 for none
 unfoldable pub refusalIn : Phase → refused.Numbers
 refusalIn (Halted n) = n
 refusalIn (Definition at) = record { refusal = 0; first = 0; second = 0 }

@@ -1,4 +1,4 @@
--- Laws that the code goes by: of the bytes of a line, of a definition by its numbers, of a place, and of a row that is stored.
+-- Laws that the code's proofs cite: of the bytes of a line, of a definition by its numbers, of a place, and of a stored row.
 use Prim.Native.Nat.{ℕ, zero, suc, _+_, _-_, _*_, _/_, _%_, _^_, _≤_, _<_, min}
 use mathlib.Core.Path.{_≡_, refl, ap, sym, _∙_}
 use mathlib.Core.List.{List, [], _∷_}
@@ -249,14 +249,14 @@ module _ (rule : Rule) (x : FedSum Filling Waiting) (l : List ℕ) where
   absorb-open w = rw w
 
 module _ (rule : Rule) (f : Fed) (l before after : List ℕ) where
-  step-is : (last : Bool) (out : Out) → last ≡ begins l → out ≡ outOf rule (f .phase) (f .held) last
-      → applied (f .rows) (numbersIn before) out ≡ stepBy rule (filling (f .phase) (f .rows) (numbersIn before)) (f .held) (begins l)
+  step-is : (last : Bool) (out : Out) → last ≡ begins l → out ≡ outOf rule (f .phase) (f .waiting) last
+      → applied (f .rows) (numbersIn before) out ≡ stepBy rule (filling (f .phase) (f .rows) (numbersIn before)) (f .waiting) (begins l)
   unfolding stepBy
-  step-is last out b o = ap (applied (f .rows) (numbersIn before)) (o ∙ ap (outOf rule (f .phase) (f .held)) b)
+  step-is last out b o = ap (applied (f .rows) (numbersIn before)) (o ∙ ap (outOf rule (f .phase) (f .waiting)) b)
 
-  pub absorbed-whole : (last : Bool) (out : Out) (s : Settled) (n held : Waiting) → 0 < length l → f .held .whole ≡ true → last ≡ begins l → out ≡ outOf rule (f .phase) (f .held) last
-      → SettleDone out (f .rows) before s after → n ≡ noLine → held ≡ growBy n l → AbsorbDone rule f l before (record { phase = s .phase; rows = s .rows; held = held }) after
-  absorbed-whole last out s n held z w b o d hn hh = record {
+  pub absorbed-whole : (last : Bool) (out : Out) (s : Settled) (n waiting : Waiting) → 0 < length l → f .waiting .whole ≡ true → last ≡ begins l → out ≡ outOf rule (f .phase) (f .waiting) last
+      → SettleDone out (f .rows) before s after → n ≡ noLine → waiting ≡ growBy n l → AbsorbDone rule f l before (record { phase = s .phase; rows = s .rows; waiting = waiting }) after
+  absorbed-whole last out s n waiting z w b o d hn hh = record {
     is =
         fed-same (d .is ∙ step-is last out b o) (hh ∙ ap (λ (t : Waiting). growBy t l) hn ∙ sym (new-line l z))
         ∙ sym (absorb-whole rule (fedIn f (numbersIn before)) l w);
@@ -264,8 +264,8 @@ module _ (rule : Rule) (f : Fed) (l before after : List ℕ) where
   }
 
 module _ (rule : Rule) (f : Fed) (l before : List ℕ) where
-  pub absorbed-open : (held : Waiting) → f .held .whole ≡ false → held ≡ growBy (f .held) l → AbsorbDone rule f l before (record { phase = f .phase; rows = f .rows; held = held }) before
-  absorbed-open held w hh = record { is = fed-same refl hh ∙ sym (absorb-open rule (fedIn f (numbersIn before)) l w); rest = refl }
+  pub absorbed-open : (waiting : Waiting) → f .waiting .whole ≡ false → waiting ≡ growBy (f .waiting) l → AbsorbDone rule f l before (record { phase = f .phase; rows = f .rows; waiting = waiting }) before
+  absorbed-open waiting w hh = record { is = fed-same refl hh ∙ sym (absorb-open rule (fedIn f (numbersIn before)) l w); rest = refl }
 
 -- ---- line by line
 
@@ -297,7 +297,7 @@ module _ (rule : Rule) (f : Fed) (p : List ℕ) (i : ℕ) (t : List ℕ) where
       again : (x : FedSum Filling Waiting) (l : List ℕ) (ls : List (List ℕ)) → absorbSums (machine rule) (absorbSum (machine rule) x l) ls ≡ absorbSums (machine rule) x (l ∷ ls)
       again x l ls = unfold absorbSums in refl
 
-  pub feed-fits : (c e : ℕ) (g : Fed) (u : List ℕ) → i < e → e ≤ length p → FitsWithin (c + i) (f .phase) (f .held) → AbsorbDone rule f (part p i e) t g u → FitsWithin (c + e) (g .phase) (g .held)
+  pub feed-fits : (c e : ℕ) (g : Fed) (u : List ℕ) → i < e → e ≤ length p → FitsWithin (c + i) (f .phase) (f .waiting) → AbsorbDone rule f (part p i e) t g u → FitsWithin (c + e) (g .phase) (g .waiting)
   feed-fits c e g u h k fits d =
       let n : c + i + length (part p i e) ≡ c + e = omega (arith, part-length p i e k) in
       let r = fits-absorb rule (c + i) (fedIn f (numbersIn t)) (part p i e) (omega (arith, part-length p i e k)) fits in

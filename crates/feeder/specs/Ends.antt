@@ -1,4 +1,4 @@
--- The end of a file: with it, what the lines of all its bytes give, by either rule; and so what one call on the whole file gives: `fed-whole`.
+-- The end of a file. With it a feeder has what the lines of all bytes give, by either rule; and so what one call on the whole file gives: `fed-whole`.
 use Prim.Native.Nat.{ℕ, _+_, _≤_}
 use mathlib.Core.Path.{_≡_, refl, ap, sym, _∙_}
 use mathlib.Core.List.{List, [], _∷_, _++_, append-nil}
@@ -60,12 +60,12 @@ module _ (rule : Rule) (t : List ℕ) where
 
     -- else the line that waits is judged
     live-ends : (q : Phase) (n : ℕ) (b : List ℕ) (u : Waiting) → live q ≡ true → feedSum (machine rule) (start rule t) s ≡ record { state = filling q n b; held = u }
-        → keptBy rule (length s) q n u ≡ record { rule = rule; total = length s; rows = n; phase = q; held = u }
+        → keptBy rule (length s) q n u ≡ record { rule = rule; total = length s; rows = n; phase = q; waiting = u }
         → endOf (stateAt rule t s .feeder) (stateAt rule t s .table) ≡ closedIn rule (finishSum (machine rule) (feedSum (machine rule) (start rule t) s))
-    live-ends q n b u l e k = rw (e, k) (judged (record { rule = rule; total = length s; rows = n; phase = q; held = u }) refl)
+    live-ends q n b u l e k = rw (e, k) (judged (record { rule = rule; total = length s; rows = n; phase = q; waiting = u }) refl)
       where
         at : Feeder
-        at = record { rule = rule; total = length s; rows = n; phase = q; held = u }
+        at = record { rule = rule; total = length s; rows = n; phase = q; waiting = u }
 
         sound : soundOf at ≡ true
         sound = fits-sound at (length s) h h (rw (zero-add (length s), e) at (fits-piece rule 0 (start rule t) s (fits-start rule t)))
@@ -90,7 +90,7 @@ module _ (rule : Rule) (t : List ℕ) where
 
 -- ---- the whole file
 
--- what a call on a whole file tells and leaves
+-- what a call on a whole file answers and leaves
 pub record WholeTold (f : Found) (t : List ℕ) (w : With) : Type 0 where
   pub rows : w .feeder .rows ≡ length (f .rows)
   pub refusal : refusalIn (w .feeder .phase) ≡ stopNumbers (f .stop)

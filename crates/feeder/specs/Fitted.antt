@@ -1,5 +1,5 @@
--- The machine by the complete rule gives, over the lines of a whole file, what indexing the file by that rule gives: a record's lines are
--- taken one by one (LineByLine), and the first misfit decides.
+-- Over the lines of a whole file the machine by the complete rule gives what indexing the file by that rule gives. It takes a record's lines
+-- one by one (LineByLine), and the first misfit decides.
 use Prim.Native.Nat.{ℕ, zero, suc, _+_, _-_, _≤_, _<_}
 use mathlib.Core.Path.{_≡_, refl, ap, sym, _∙_}
 use mathlib.Core.List.{List, [], _∷_, _++_}
@@ -147,7 +147,7 @@ verdictAs d n k e (bad x) = record { answer = indexed.Refused x; next = record {
 abbrev stepOf : Opened → byLine.SoFar → ℕ → Step
 stepOf d t e = verdictAs d (byLine.numbersTold (d .end) t) (byLine.basesTold t) e (byLine.verdictTold t)
 
--- what a record gives whose lines so far are known, with those that follow
+-- what a record gives, by its lines so far and those that follow
 abbrev restOf : Opened → SoFar → ℕ → List (List ℕ) → Step
 restOf d so z qs = stepOf d (byLine.takeLines (soFarOf so) z qs) (z + sumWidths qs)
 
@@ -251,7 +251,7 @@ module _ (d : Opened) (so : SoFar) (z : ℕ) (l : List ℕ) (qs : List (List ℕ
   unfolding byLine.takeLines
   rest-misfits n k p o e = rw (e, misfit-stays qs n k p o (z + length l))
 
--- ---- what is told
+-- ---- the answer
 
 record Told : Type 0 where
   rows : ℕ
@@ -285,7 +285,7 @@ module _ (all : ℕ) where
   halted-stays m n t [] = refl
   halted-stays m n t (l ∷ ls) = ap (λ (st : Filling). toldOf (run st ls)) (step-halted Complete m n t (waitingOf l) (none (seqOf ls))) ∙ halted-stays m n t ls
 
-  -- what is awaited finds in some lines
+  -- what a phase finds in some lines
   abbrev FromDefinition : List (List ℕ) → Type 0
   FromDefinition ls = (at n : ℕ) (t : List ℕ) → rowCount t ≡ all → toldOf (run (filling (Definition at) n t) ls) ≡ foundTold t n (heldIn (all - n) all (groupsBy complete (groups ls) at))
 

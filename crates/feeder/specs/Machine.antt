@@ -1,5 +1,5 @@
--- The indexer as a machine over lines, by either rule, with the table that it fills. Each line is told whether its sequence ends behind it:
--- the next byte is '>', or the file ends.
+-- The indexer as a machine over lines, by either rule, with the table that it fills. With each line it learns whether the sequence ends behind
+-- it: the next byte is '>', or the file ends.
 use Prim.Native.Nat.{ℕ, _+_, _-_}
 use mathlib.Core.Path.{_≡_}
 use mathlib.Core.List.{List}
@@ -99,7 +99,7 @@ toldRow d (Rows n m) = rowOf d n m
 unfoldable pub passedOut : Opened → SoFar → ℕ → Bool → Out
 passedOut d t z last = cond last (Emits (toldRow d t) z) (Keeps (Lines d t z))
 
--- a line with bases beside rows, behind m bases: each is where the rows say, or the first that is not is told
+-- a line with bases beside rows, behind m bases: each lies where the rows say, or the first that does not is refused
 abbrev pub placedOut : Opened → Numbers → ℕ → ℕ → Bool → Placed → Out
 placedOut d n m z last There = passedOut d (Rows n m) z last
 placedOut d n m z last (Elsewhere p o) = halt (NoIndexFits (o .0) (p .0))
@@ -121,7 +121,7 @@ unfoldable pub lineOut : Rule → Opened → SoFar → ℕ → Line → Bool →
 lineOut Strict d t z x last = strictOut d t z x last
 lineOut Complete d t z x last = completeOut d t z x last
 
--- a line, by what is awaited
+-- a line, by what the machine awaits
 unfoldable pub outOf : Rule → Phase → Waiting → Bool → Out
 outOf rule (Definition at) t last = definitionOut rule at (t .width) last (sumSays (unpack t))
 outOf rule (Lines d so z) t last = lineOut rule d so z (record { width = t .width; bases = t .bases }) last
@@ -130,7 +130,7 @@ outOf rule Ended t last = Keeps Ended
 
 -- ---- with the table
 
--- what is awaited, how many rows are written, and the numbers of the table
+-- what the machine awaits, how many rows are written, and the numbers of the table
 pub record Filling : Type 0 where
   pub phase : Phase
   pub rows : ℕ
@@ -154,7 +154,7 @@ machine rule = record { sum = waitingOf; judge = stepBy rule; whole = λ t. t .w
 -- ---- what each part of the code leaves
 
 abbrev pub fedIn : Fed → List ℕ → FedSum Filling Waiting
-fedIn f t = record { state = filling (f .phase) (f .rows) t; held = f .held }
+fedIn f t = record { state = filling (f .phase) (f .rows) t; held = f .waiting }
 
 pub record SettleDone (out : Out) (n : ℕ) (before : List ℕ) (r : Settled) (after : List ℕ) : Type 0 where
   pub is : filling (r .phase) (r .rows) (numbersIn after) ≡ applied n (numbersIn before) out

@@ -1,4 +1,4 @@
--- Lines alike, passed at once: lines that are like a record's rows, and even with them, take the machine where one after another does, by
+-- Lines alike, passed at once: lines that are like a record's rows, and even with them, bring the machine to where it comes line by line, by
 -- either rule.
 use Prim.Native.Nat.{ℕ, zero, suc, _+_, _*_, _/_, _%_, _^_, _≤_, _<_}
 use mathlib.Core.Path.{_≡_, refl, ap, sym, _∙_}
@@ -45,8 +45,8 @@ use Rattle.feeder.specs.CodeLaws.{bases-there, feed-line, FeedOn, feed-f
 unfoldable pub sameLine : Waiting → Numbers → Bool
 sameLine t n = (((((t .whole && not (t .starts)) && eqb (t .width) (n .width)) && eqb (t .bases) (n .bases)) && eqb (t .name) 0) && eqb (t .text) 0) && eqb (t .kept) 0
 
--- k lines from i on that are passed: the one that waits is like the rows, its first base is the first of a line and lies where the rows say
--- that the base behind m others lies, and so many lines are like it
+-- k lines from i on that are passed: the line that waits is like the rows; its first base begins a row, and lies where the rows put the base
+-- behind m others; and so many lines are like it
 pub record EvenLines (n : Numbers) (m z : ℕ) (t : Waiting) (p : List ℕ) (i k : ℕ) : Type 0 where
   pub same : sameLine t n ≡ true
   pub column : m % n .bases ≡ 0
@@ -58,7 +58,7 @@ pub record TurnDone (rule : Rule) (f : Fed) (p : List ℕ) (i : ℕ) (before : L
   pub is : absorbSums (machine rule) (fedIn g (numbersIn after)) (lines (drop j p)) ≡ absorbSums (machine rule) (fedIn f (numbersIn before)) (lines (drop i p))
   pub rest : restOf after ≡ restOf before
   pub within : j ≤ length p
-  pub fits : FitsWithin (2 ^ 41 + j) (g .phase) (g .held)
+  pub fits : FitsWithin (2 ^ 41 + j) (g .phase) (g .waiting)
 
 -- the same by any rule, with the table as it was
 pub record PassDone (f : Fed) (p : List ℕ) (i : ℕ) (g : Fed) (j : ℕ) : Type 0 where
@@ -67,8 +67,8 @@ pub record PassDone (f : Fed) (p : List ℕ) (i : ℕ) (g : Fed) (j : ℕ) : Typ
 
 -- ---- a line that is like some rows
 
-abbrev pub heldLike : Numbers → Waiting
-heldLike n = record { width = n .width; bases = n .bases; whole = true; starts = false; name = 0; text = 0; kept = 0 }
+abbrev pub waitingLike : Numbers → Waiting
+waitingLike n = record { width = n .width; bases = n .bases; whole = true; starts = false; name = 0; text = 0; kept = 0 }
 
 pub seven : (a b c d f g h : Bool) → ((((((a && b) && c) && d) && f) && g) && h) ≡ true
     → (a ≡ true) × (b ≡ true) × (c ≡ true) × (d ≡ true) × (f ≡ true) × (g ≡ true) × (h ≡ true)
@@ -78,17 +78,17 @@ pub off : (b : Bool) → not b ≡ true → b ≡ false
 off true e = sym e
 off false e = refl
 
-same-held : (t : Waiting) (n : Numbers) → sameLine t n ≡ true → t ≡ heldLike n
+same-waiting : (t : Waiting) (n : Numbers) → sameLine t n ≡ true → t ≡ waitingLike n
 unfolding sameLine
-same-held t n e =
+same-waiting t n e =
     let x = seven (t .whole) (not (t .starts)) (eqb (t .width) (n .width)) (eqb (t .bases) (n .bases)) (eqb (t .name) 0) (eqb (t .text) 0) (eqb (t .kept) 0) e in
     same (t .width) (t .bases) (t .whole) (t .starts) (t .name) (t .text) (t .kept) (eqb-true _ _ (x .2)) (eqb-true _ _ (x .3)) (x .0) (off (t .starts) (x .1)) (eqb-true _ _ (x .4)) (eqb-true _ _ (x .5)) (eqb-true _ _ (x .6))
   where
     same : (w b : ℕ) (u v : Bool) (x y z : ℕ) → w ≡ n .width → b ≡ n .bases → u ≡ true → v ≡ false → x ≡ 0 → y ≡ 0 → z ≡ 0
-        → record { width = w; bases = b; whole = u; starts = v; name = x; text = y; kept = z } ≡ heldLike n
+        → record { width = w; bases = b; whole = u; starts = v; name = x; text = y; kept = z } ≡ waitingLike n
     same w b u v x y z p q r s i j k = rw (p, q, r, s, i, j, k)
 
-pub like-waiting : (n : Numbers) (l : List ℕ) → isLike (lineBy n) l ≡ true → begins l ≡ false → waitingOf l ≡ heldLike n
+pub like-waiting : (n : Numbers) (l : List ℕ) → isLike (lineBy n) l ≡ true → begins l ≡ false → waitingOf l ≡ waitingLike n
 unfolding waitingOf sumOf isLike
 like-waiting n l e g = rw (g, both-left (ends 10 l) _ (both-left (ends 10 l && eqb (length l) (n .width)) _ e), like-width (lineBy n) l e, like-bases (lineBy n) l e)
 
@@ -108,13 +108,13 @@ seq-line s i l ls h e = go (begins (part s i (lineEnd s i))) refl (rw (linesAt-c
 pub next-times : (k a : ℕ) → suc k * a ≡ k * a + a
 next-times k a = rw (← add-one k, add-mul k 1 a, one-mul a)
 
--- ---- lines that are like the one that waits, whatever is awaited behind k of them
+-- ---- lines like the one that waits, whatever the machine awaits behind k of them
 
-module _ (rule : Rule) (n : Numbers) (some : 0 < n .width) (F : ℕ → Phase) (c : ℕ) (on : (k : ℕ) → k * n .width ≤ c → outOf rule (F k) (heldLike n) false ≡ Keeps (F (suc k))) (r : ℕ) (b p : List ℕ) where
+module _ (rule : Rule) (n : Numbers) (some : 0 < n .width) (F : ℕ → Phase) (c : ℕ) (on : (k : ℕ) → k * n .width ≤ c → outOf rule (F k) (waitingLike n) false ≡ Keeps (F (suc k))) (r : ℕ) (b p : List ℕ) where
   abbrev pub fedAt : ℕ → FedSum Filling Waiting
-  fedAt k = record { state = filling (F k) r b; held = heldLike n }
+  fedAt k = record { state = filling (F k) r b; held = waitingLike n }
 
-  pub step-on : (k : ℕ) → k * n .width ≤ c → stepBy rule (filling (F k) r b) (heldLike n) false ≡ filling (F (suc k)) r b
+  pub step-on : (k : ℕ) → k * n .width ≤ c → stepBy rule (filling (F k) r b) (waitingLike n) false ≡ filling (F (suc k)) r b
   unfolding stepBy applied
   step-on k h = rw (on k h)
 
@@ -159,7 +159,7 @@ module _ (d : Opened) (n : Numbers) (m z : ℕ) (some : 0 < n .bases) (apart : n
   rowsAt k = Lines d (Rows n (m + k * n .bases)) (z + k * n .width)
 
   -- one more of them is fine by either rule
-  even-out : (rule : Rule) (k : ℕ) → z + k * n .width + n .bases < 2 ^ 62 → outOf rule (rowsAt k) (heldLike n) false ≡ Keeps (Lines d (Rows n (m + k * n .bases + n .bases)) (z + k * n .width + n .width))
+  even-out : (rule : Rule) (k : ℕ) → z + k * n .width + n .bases < 2 ^ 62 → outOf rule (rowsAt k) (waitingLike n) false ≡ Keeps (Lines d (Rows n (m + k * n .bases + n .bases)) (z + k * n .width + n .width))
   unfolding outOf lineOut strictOut furtherOut fitsLast
   even-out Strict k h = rw (eq-eqb (n .bases) (n .bases) refl, eq-eqb (n .width) (n .width) refl)
   even-out Complete k h = unfold completeOut basesOut rowsOut passedOut in rw (ne-eqb (n .bases) 0 (λ e. omega arith), ← there)
@@ -168,7 +168,7 @@ module _ (d : Opened) (n : Numbers) (m z : ℕ) (some : 0 < n .bases) (apart : n
       there = bases-there n (m + k * n .bases) (z + k * n .width) (n .bases) some apart some h (eqb (z + k * n .width) (placeBy n (m + k * n .bases))) refl
           (eq-eqb _ _ (place-on k)) (omega (arith, column-on k))
 
-  pub even-next : (rule : Rule) (k : ℕ) → z + k * n .width + n .bases < 2 ^ 62 → outOf rule (rowsAt k) (heldLike n) false ≡ Keeps (rowsAt (suc k))
+  pub even-next : (rule : Rule) (k : ℕ) → z + k * n .width + n .bases < 2 ^ 62 → outOf rule (rowsAt k) (waitingLike n) false ≡ Keeps (rowsAt (suc k))
   even-next rule k h = even-out rule k h ∙ rw (next-times k (n .bases), next-times k (n .width)) (rw (next-sum m k (n .bases), next-sum z k (n .width)))
     where
       next-sum : (a k c : ℕ) → a + k * c + c ≡ a + (k * c + c)
@@ -176,7 +176,7 @@ module _ (d : Opened) (n : Numbers) (m z : ℕ) (some : 0 < n .bases) (apart : n
 
 -- ---- the pass
 
-module _ (f : Fed) (p : List ℕ) (i : ℕ) (h : i ≤ length p) (fits : FitsWithin (2 ^ 41 + i) (f .phase) (f .held)) where
+module _ (f : Fed) (p : List ℕ) (i : ℕ) (h : i ≤ length p) (fits : FitsWithin (2 ^ 41 + i) (f .phase) (f .waiting)) where
   pub pass-none : PassDone f p i f i
   pass-none = record { on = omega arith; turn = λ rule t. record { is = refl; rest = refl; within = h; fits = fits } }
 
@@ -202,7 +202,7 @@ module _ (f : Fed) (p : List ℕ) (i : ℕ) (h : i ≤ length p) (fits : FitsWit
     pub rows-some : (0 < n .bases) × (0 < n .width)
     rows-some = (numbers-small .some, omega (arith, numbers-small .apart))
 
-    module _ (k : ℕ) (v : length p ≤ 2 ^ 40) (e : EvenLines n m z (f .held) p i k) where
+    module _ (k : ℕ) (v : length p ≤ 2 ^ 40) (e : EvenLines n m z (f .waiting) p i k) where
       pub lines-within : i + k * n .width ≤ length p
       lines-within = rw (← e .count) at (alike-within p (lineBy n) i h)
 
@@ -217,9 +217,9 @@ module _ (f : Fed) (p : List ℕ) (i : ℕ) (h : i ≤ length p) (fits : FitsWit
       )
 
       abbrev behind : Fed
-      behind = record { phase = Lines d (Rows n (m + k * n .bases)) (z + k * n .width); rows = f .rows; held = f .held }
+      behind = record { phase = Lines d (Rows n (m + k * n .bases)) (z + k * n .width); rows = f .rows; waiting = f .waiting }
 
-      behind-fits : FitsWithin (2 ^ 41 + (i + k * n .width)) (behind .phase) (behind .held)
+      behind-fits : FitsWithin (2 ^ 41 + (i + k * n .width)) (behind .phase) (behind .waiting)
       behind-fits = record {
         most = fits .most + k * n .width;
         phase = unfold SmallPhase in (
@@ -227,24 +227,24 @@ module _ (f : Fed) (p : List ℕ) (i : ℕ) (h : i ≤ length p) (fits : FitsWit
           (numbers-weak (fits .most) (fits .most + k * n .width) (omega arith) n numbers-small, omega (arith, count-small, bases-within)),
           omega (arith, place-small),
         );
-        held = fits .held;
+        waiting = fits .waiting;
         both = omega (arith, fits .both);
       }
 
       abbrev rows : ℕ → Phase
       rows = rowsAt d n m z (numbers-small .some) (numbers-small .apart) (e .column) (e .place)
 
-      rows-next : (rule : Rule) (j : ℕ) → j * n .width ≤ 2 ^ 40 → outOf rule (rows j) (heldLike n) false ≡ Keeps (rows (suc j))
+      rows-next : (rule : Rule) (j : ℕ) → j * n .width ≤ 2 ^ 40 → outOf rule (rows j) (waitingLike n) false ≡ Keeps (rows (suc j))
       rows-next rule j q = even-next d n m z (numbers-small .some) (numbers-small .apart) (e .column) (e .place) rule j (omega (arith, q, place-small, fits .both, v, numbers-small .bases, h))
 
       abbrev rowsFed : Rule → List ℕ → ℕ → FedSum Filling Waiting
       rowsFed rule t = fedAt rule n (rows-some .1) rows (2 ^ 40) (rows-next rule) (f .rows) (numbersIn t) p
 
       start-is : (rule : Rule) (t : List ℕ) → fedIn f (numbersIn t) ≡ rowsFed rule t 0
-      start-is rule t = rw (awaits, same-held (f .held) n (e .same), zero-mul (n .bases), zero-mul (n .width), add-zero m, add-zero z)
+      start-is rule t = rw (awaits, same-waiting (f .waiting) n (e .same), zero-mul (n .bases), zero-mul (n .width), add-zero m, add-zero z)
 
       end-is : (rule : Rule) (t : List ℕ) → fedIn behind (numbersIn t) ≡ rowsFed rule t k
-      end-is rule t = rw (same-held (f .held) n (e .same))
+      end-is rule t = rw (same-waiting (f .waiting) n (e .same))
 
       pub pass-some : PassDone f p i behind (i + k * n .width)
       pass-some = record {
@@ -265,7 +265,7 @@ module _ (f : Fed) (p : List ℕ) (i : ℕ) (h : i ≤ length p) (fits : FitsWit
 
 module _ (rule : Rule) (f : Fed) (p : List ℕ) (i : ℕ) (t : List ℕ) where
   -- a line
-  pub turn-line : (e : ℕ) (g : Fed) (u : List ℕ) → i < length p → e ≡ lineEnd p i → FitsWithin (2 ^ 41 + i) (f .phase) (f .held) → AbsorbDone rule f (part p i e) t g u → TurnDone rule f p i t g e u
+  pub turn-line : (e : ℕ) (g : Fed) (u : List ℕ) → i < length p → e ≡ lineEnd p i → FitsWithin (2 ^ 41 + i) (f .phase) (f .waiting) → AbsorbDone rule f (part p i e) t g u → TurnDone rule f p i t g e u
   turn-line e g u h q fits d = record {
     is = feed-line rule f p i t e g u h q d;
     rest = d .rest;

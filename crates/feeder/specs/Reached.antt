@@ -1,4 +1,4 @@
--- What holds of every state that is reached from the start of a file: it is sound, it takes bytes unless it is refused, and a refusal stays.
+-- Every state that calls reach from the start of a file is sound, and takes bytes unless it is refused; and a refusal stays.
 use Prim.Native.Nat.{ℕ, zero, suc, _+_, _-_, _≤_, _<_, _^_}
 use mathlib.Core.Path.{_≡_, refl, ap, sym, _∙_}
 use mathlib.Core.List.{List, [], _∷_, _++_}
@@ -87,10 +87,10 @@ module _ (m : ℕ) (h : m ≤ limit) where
   small-phase (Halted n) s = refl
   small-phase Ended s = refl
 
-pub fits-sound : (f : Feeder) (c : ℕ) → c ≤ limit → f .total ≤ limit → FitsWithin c (f .phase) (f .held) → soundOf f ≡ true
+pub fits-sound : (f : Feeder) (c : ℕ) → c ≤ limit → f .total ≤ limit → FitsWithin c (f .phase) (f .waiting) → soundOf f ≡ true
 unfolding soundOf
 fits-sound f c h k s =
-    rw (le-leb (f .total) limit k, small-phase (s .most) (omega (arith, s .both)) (f .phase) (s .phase), small-waiting (f .held) (s .held) (omega (arith, s .both)))
+    rw (le-leb (f .total) limit k, small-phase (s .most) (omega (arith, s .both)) (f .phase) (s .phase), small-waiting (f .waiting) (s .waiting) (omega (arith, s .both)))
 
 -- ---- no line ends a file
 

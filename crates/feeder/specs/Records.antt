@@ -35,7 +35,7 @@ use Rattle.feeder.specs.WaitingLaws.{new-line}
 use Rattle.feeder.specs.Machine.{rowOf, numbersOfLine, lineBy, firstOut, furtherOut, strictOut, toldRow, passedOut, rowsOut, basesOut, completeOut, lineOut, outOf, Filling, filling, applied, stepBy, machine}
 use Rattle.feeder.specs.CodeLaws.{bases-there, begins-part}
 use Rattle.feeder.specs.SmallLaws.{two}
-use Rattle.feeder.specs.Passing.{heldLike, like-waiting, seq-line, next-times, column-on, place-on, fedAt, step-on, all-on}
+use Rattle.feeder.specs.Passing.{waitingLike, like-waiting, seq-line, next-times, column-on, place-on, fedAt, step-on, all-on}
 
 -- ---- a sequence that lies whole in a piece
 
@@ -43,12 +43,12 @@ use Rattle.feeder.specs.Passing.{heldLike, like-waiting, seq-line, next-
 unfoldable pub mayEnd : Line → Line → Bool
 mayEnd l x = (ltb 0 (l .bases) && leb (l .bases) (x .bases)) && leb (l .width) (x .width)
 
--- what is left of a piece from i on, where no line waits
+-- what is left of a piece from i on, if no line waits
 abbrev pub left : Rule → List ℕ → Filling → ℕ → FedSum Filling Waiting
 left rule p st i = absorbSums (machine rule) (record { state = st; held = noLine }) (lines (drop i p))
 
--- a sequence from e on: whatever its record, wherever it lies, and by either rule, it gives the row of its first line's numbers and of its
--- bases, and the next record begins at `next`
+-- a sequence from e on: whatever its record, wherever it lies, and by either rule, it gives the row with its first line's numbers and its count
+-- of bases, and the next record begins at `next`
 pub record SequenceAt (p : List ℕ) (e : ℕ) (r : Sequence) : Type 0 where
   pub here : e < length p
   pub starts : eqb (getD p e 0) 62 ≡ false
@@ -57,7 +57,7 @@ pub record SequenceAt (p : List ℕ) (e : ℕ) (r : Sequence) : Type 0 where
   pub gives : (rule : Rule) (d : Opened) (z n : ℕ) (t : List ℕ) → z + length p < 2 ^ 61
       → left rule p (filling (Lines d Blank z) n t) e ≡ left rule p (applied n t (Emits (rowOf d (numbersOfLine z (r .line)) (r .bases)) (z + (r .next - e)))) (r .next)
 
--- ---- a line, where none waits
+-- ---- a line, if none waits
 
 module _ (rule : Rule) (p : List ℕ) where
   -- it waits
@@ -196,9 +196,9 @@ module _ (d : Opened) (x : Line) (z : ℕ) (some : 0 < x .bases) (apart : x .bas
       q : z + suc k * x .width + x .width ≡ z + (suc k * x .width + x .width)
       q = omega arith
 
-  on-out : (rule : Rule) (k : ℕ) → z + suc k * x .width + x .bases < 2 ^ 62 → outOf rule (goesOn rule k) (heldLike nums) false ≡ Keeps (goesOn rule (suc k))
+  on-out : (rule : Rule) (k : ℕ) → z + suc k * x .width + x .bases < 2 ^ 62 → outOf rule (goesOn rule k) (waitingLike nums) false ≡ Keeps (goesOn rule (suc k))
   on-out Strict k v = unfold outOf lineOut strictOut furtherOut fitsLast in rw (eq-eqb (x .bases) (x .bases) refl, eq-eqb (x .width) (x .width) refl) (ap Keeps (next-rows k))
-  on-out Complete k v = complete-out k (heldLike nums) some (omega arith) v false ∙ (unfold passedOut in ap Keeps (next-rows k))
+  on-out Complete k v = complete-out k (waitingLike nums) some (omega arith) v false ∙ (unfold passedOut in ap Keeps (next-rows k))
 
   -- the last
   last-out : (rule : Rule) (k : ℕ) (t : Waiting) → 0 < t .bases → t .bases ≤ x .bases → t .width ≤ x .width → z + suc k * x .width + t .bases < 2 ^ 62
@@ -206,21 +206,21 @@ module _ (d : Opened) (x : Line) (z : ℕ) (some : 0 < x .bases) (apart : x .bas
   last-out Strict k t b l w v = unfold outOf lineOut strictOut furtherOut fitsLast in rw (le-leb (t .width) (x .width) w, le-leb (t .bases) (x .bases) l)
   last-out Complete k t b l w v = complete-out k t b l v true ∙ (unfold passedOut toldRow in refl)
 
-  first-out : (rule : Rule) → outOf rule (Lines d Blank z) (heldLike nums) false ≡ Keeps (goesOn rule 0)
+  first-out : (rule : Rule) → outOf rule (Lines d Blank z) (waitingLike nums) false ≡ Keeps (goesOn rule 0)
   first-out Strict = unfold outOf lineOut strictOut firstOut in rw (ne-eqb (x .bases) 0 (λ e. omega arith), one-mul (x .bases), one-mul (x .width))
   first-out Complete = unfold outOf lineOut completeOut basesOut passedOut in rw (ne-eqb (x .bases) 0 (λ e. omega arith), one-mul (x .width))
 
-  first-last : (rule : Rule) → outOf rule (Lines d Blank z) (heldLike nums) true ≡ Emits (rowOf d nums (1 * x .bases)) (z + 1 * x .width)
+  first-last : (rule : Rule) → outOf rule (Lines d Blank z) (waitingLike nums) true ≡ Emits (rowOf d nums (1 * x .bases)) (z + 1 * x .width)
   first-last Strict = unfold outOf lineOut strictOut firstOut in rw (ne-eqb (x .bases) 0 (λ e. omega arith), one-mul (x .bases), one-mul (x .width))
   first-last Complete = unfold outOf lineOut completeOut basesOut passedOut toldRow in rw (ne-eqb (x .bases) 0 (λ e. omega arith), one-mul (x .bases), one-mul (x .width))
 
-  pub phase-on : (rule : Rule) (k : ℕ) → z + k * x .width + x .bases < 2 ^ 62 → outOf rule (phaseAt rule k) (heldLike nums) false ≡ Keeps (phaseAt rule (suc k))
+  pub phase-on : (rule : Rule) (k : ℕ) → z + k * x .width + x .bases < 2 ^ 62 → outOf rule (phaseAt rule k) (waitingLike nums) false ≡ Keeps (phaseAt rule (suc k))
   phase-on rule zero v = first-out rule
   phase-on rule (suc k) v = on-out rule k v
 
-  pub phase-last : (rule : Rule) (k : ℕ) → z + k * x .width + x .bases < 2 ^ 62 → outOf rule (phaseAt rule k) (heldLike nums) true ≡ Emits (rowOf d nums (suc k * x .bases)) (z + suc k * x .width)
+  pub phase-last : (rule : Rule) (k : ℕ) → z + k * x .width + x .bases < 2 ^ 62 → outOf rule (phaseAt rule k) (waitingLike nums) true ≡ Emits (rowOf d nums (suc k * x .bases)) (z + suc k * x .width)
   phase-last rule zero v = first-last rule
-  phase-last rule (suc k) v = last-out rule k (heldLike nums) some (omega arith) (omega arith) v ∙ rw (next-times (suc k) (x .bases), next-times (suc k) (x .width)) (ap (Emits (rowOf d nums (suc k * x .bases + x .bases))) q)
+  phase-last rule (suc k) v = last-out rule k (waitingLike nums) some (omega arith) (omega arith) v ∙ rw (next-times (suc k) (x .bases), next-times (suc k) (x .width)) (ap (Emits (rowOf d nums (suc k * x .bases + x .bases))) q)
     where
       q : z + suc k * x .width + x .width ≡ z + (suc k * x .width + x .width)
       q = omega arith
@@ -242,10 +242,10 @@ module _ (p : List ℕ) (e : ℕ) (h : e ≤ length p) (v : length p ≤ 2 ^ 40)
       abbrev F : ℕ → Phase
       F = phaseAt d x z some apart rule
 
-      F-on : (j : ℕ) → j * x .width ≤ 2 ^ 40 → outOf rule (F j) (heldLike (numbersOfLine z x)) false ≡ Keeps (F (suc j))
+      F-on : (j : ℕ) → j * x .width ≤ 2 ^ 40 → outOf rule (F j) (waitingLike (numbersOfLine z x)) false ≡ Keeps (F (suc j))
       F-on j q = phase-on d x z some apart rule j (omega (arith, q, u, v, apart, w))
 
-      lines-before : left rule p (filling (Lines d Blank z) n t) e ≡ absorbSums (machine rule) (record { state = filling (F k) n t; held = heldLike (numbersOfLine z x) }) (lines (drop behind p))
+      lines-before : left rule p (filling (Lines d Blank z) n t) e ≡ absorbSums (machine rule) (record { state = filling (F k) n t; held = waitingLike (numbersOfLine z x) }) (lines (drop behind p))
       lines-before =
           left-line rule p (filling (Lines d Blank z) n t) e (e + x .width) (first .bytes) (omega (arith, like-width x (first .bytes) (first .like), apart)) (first .here)
           ∙ ap (λ (y : Waiting). absorbSums (machine rule) (record { state = filling (Lines d Blank z) n t; held = y }) (lines (drop (e + x .width) p))) (like-waiting (numbersOfLine z x) (first .bytes) (first .like) (first .starts))
@@ -258,7 +258,7 @@ module _ (p : List ℕ) (e : ℕ) (h : e ≤ length p) (v : length p ≤ 2 ^ 40)
     so-far z = omega (arith, next-times k (x .width))
 
     judged-alike : (rule : Rule) (d : Opened) (z n : ℕ) (t : List ℕ) (u : z + length p < 2 ^ 61) → eqb (getD p behind 0) 62 ≡ true
-        → stepBy rule (filling (F rule d z n t u k) n t) (heldLike (numbersOfLine z x)) (eqb (getD p behind 0) 62)
+        → stepBy rule (filling (F rule d z n t u k) n t) (waitingLike (numbersOfLine z x)) (eqb (getD p behind 0) 62)
         ≡ applied n t (Emits (rowOf d (numbersOfLine z x) (x .bases + k * x .bases)) (z + (behind - e)))
     unfolding stepBy
     judged-alike rule d z n t u g = rw (g, phase-last d x z some apart rule k (omega (arith, u, v, w, apart)), so-many, so-far z)
@@ -272,7 +272,7 @@ module _ (p : List ℕ) (e : ℕ) (h : e ≤ length p) (v : length p ≤ 2 ^ 40)
       ahead = w;
       gives = λ rule d z n t u.
           lines-before rule d z n t u
-          ∙ left-ready rule p (record { state = filling (F rule d z n t u k) n t; held = heldLike (numbersOfLine z x) }) behind refl w
+          ∙ left-ready rule p (record { state = filling (F rule d z n t u k) n t; held = waitingLike (numbersOfLine z x) }) behind refl w
           ∙ ap (λ (st : Filling). left rule p st behind) (judged-alike rule d z n t u g);
     }
 
@@ -289,31 +289,31 @@ module _ (p : List ℕ) (e : ℕ) (h : e ≤ length p) (v : length p ≤ 2 ^ 40)
       last = line-at p behind y (omega (arith, w)) hy (may .0) q
 
       module _ (rule : Rule) (d : Opened) (z n : ℕ) (t : List ℕ) (u : z + length p < 2 ^ 61) where
-        abbrev held : FedSum Filling Waiting
-        held = record { state = filling (F rule d z n t u k) n t; held = heldLike (numbersOfLine z x) }
+        abbrev stood : FedSum Filling Waiting
+        stood = record { state = filling (F rule d z n t u k) n t; held = waitingLike (numbersOfLine z x) }
 
-        taken : absorbSums (machine rule) held (lines (drop behind p))
-            ≡ absorbSums (machine rule) (record { state = filling (goesOn d x z some apart rule k) n t; held = heldLike (numbersOfLine z y) }) (lines (drop (behind + y .width) p))
-        taken = ap (absorbSums (machine rule) held) (last .here) ∙ line-taken (last .bytes) (lines (drop (behind + y .width) p)) (last .starts) (last .like)
+        taken : absorbSums (machine rule) stood (lines (drop behind p))
+            ≡ absorbSums (machine rule) (record { state = filling (goesOn d x z some apart rule k) n t; held = waitingLike (numbersOfLine z y) }) (lines (drop (behind + y .width) p))
+        taken = ap (absorbSums (machine rule) stood) (last .here) ∙ line-taken (last .bytes) (lines (drop (behind + y .width) p)) (last .starts) (last .like)
           where
             line-taken : (l : List ℕ) (ls : List (List ℕ)) → begins l ≡ false → isLike y l ≡ true
-                → absorbSums (machine rule) held (l ∷ ls) ≡ absorbSums (machine rule) (record { state = filling (goesOn d x z some apart rule k) n t; held = heldLike (numbersOfLine z y) }) ls
+                → absorbSums (machine rule) stood (l ∷ ls) ≡ absorbSums (machine rule) (record { state = filling (goesOn d x z some apart rule k) n t; held = waitingLike (numbersOfLine z y) }) ls
             line-taken l ls b m = unfold absorbSums absorbSum in
                 rw (b, step-on rule (numbersOfLine z x) (omega (arith, apart)) (F rule d z n t u) (2 ^ 40) (F-on rule d z n t u) n t p k (omega (arith, w, v)), like-waiting (numbersOfLine z y) l m b)
 
         so-far-last : z + suc k * x .width + y .width ≡ z + (behind + y .width - e)
         so-far-last = omega (arith, next-times k (x .width))
 
-        judged-last : stepBy rule (filling (goesOn d x z some apart rule k) n t) (heldLike (numbersOfLine z y)) (eqb (getD p (behind + y .width) 0) 62)
+        judged-last : stepBy rule (filling (goesOn d x z some apart rule k) n t) (waitingLike (numbersOfLine z y)) (eqb (getD p (behind + y .width) 0) 62)
             ≡ applied n t (Emits (rowOf d (numbersOfLine z x) (x .bases + k * x .bases + y .bases)) (z + (behind + y .width - e)))
         unfolding stepBy
-        judged-last = rw (g, last-out d x z some apart rule k (heldLike (numbersOfLine z y)) (may .0) (may .1) (may .2) (omega (arith, u, v, w, may, apart, next-times k (x .width))), so-many, so-far-last)
+        judged-last = rw (g, last-out d x z some apart rule k (waitingLike (numbersOfLine z y)) (may .0) (may .1) (may .2) (omega (arith, u, v, w, may, apart, next-times k (x .width))), so-many, so-far-last)
 
         last-gives : left rule p (filling (Lines d Blank z) n t) e ≡ left rule p (applied n t (Emits (rowOf d (numbersOfLine z x) (x .bases + k * x .bases + y .bases)) (z + (behind + y .width - e)))) (behind + y .width)
         last-gives =
             lines-before rule d z n t u
             ∙ taken
-            ∙ left-ready rule p (record { state = filling (goesOn d x z some apart rule k) n t; held = heldLike (numbersOfLine z y) }) (behind + y .width) refl q
+            ∙ left-ready rule p (record { state = filling (goesOn d x z some apart rule k) n t; held = waitingLike (numbersOfLine z y) }) (behind + y .width) refl q
             ∙ ap (λ (st : Filling). left rule p st (behind + y .width)) judged-last
 
       pub ends-last : SequenceAt p e (record { line = x; bases = x .bases + k * x .bases + y .bases; next = behind + y .width })

@@ -71,8 +71,8 @@ pub record SmallRows (d : Opened) (n : Numbers) (k z : ℕ) (x : Line) : Type 0 
 pub record FitsWithin (c : ℕ) (p : Phase) (t : Waiting) : Type 0 where
   pub most : ℕ
   pub phase : SmallPhase most p
-  pub held : SmallWaiting t
+  pub waiting : SmallWaiting t
   pub both : most + t .width ≤ c
 
 abbrev pub Fits : ℕ → Fed → Type 0
-Fits c f = FitsWithin c (f .phase) (f .held)
+Fits c f = FitsWithin c (f .phase) (f .waiting)

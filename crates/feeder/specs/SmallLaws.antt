@@ -300,7 +300,7 @@ none-small = record { bases = omega arith; ended = λ e. absurd (true≢false (s
 
 module _ (rule : Rule) where
   open-fits : (c m : ℕ) (p : Phase) (t : Waiting) (l : List ℕ) → 0 < length l → SmallPhase m p → SmallWaiting t → m + t .width ≤ c → FitsWithin (c + length l) p (growBy t l)
-  open-fits c m p t l z s h k = record { most = m; phase = s; held = grow-small t l h z; both = omega (arith, k, grown-width t l h z) }
+  open-fits c m p t l z s h k = record { most = m; phase = s; waiting = grow-small t l h z; both = omega (arith, k, grown-width t l h z) }
 
   pub fits-absorb : (c : ℕ) (x : FedSum Filling Waiting) (l : List ℕ) → 0 < length l → FitsWithin c (x .state .phase) (x .held)
       → FitsWithin (c + length l) (absorbSum (machine rule) x l .state .phase) (absorbSum (machine rule) x l .held)
@@ -313,13 +313,13 @@ module _ (rule : Rule) where
       go true e =
           rw (new-line l z)
           (open-fits c (f .most + x .held .width) (stepBy rule (x .state) (x .held) (begins l) .phase) noLine l z
-          (step-small rule (f .most) (x .held) (begins l) (f .held) e (x .state) (f .phase)) none-small (omega (arith, f .both)))
-      go false e = open-fits c (f .most) (x .state .phase) (x .held) l z (f .phase) (f .held) (f .both)
+          (step-small rule (f .most) (x .held) (begins l) (f .waiting) e (x .state) (f .phase)) none-small (omega (arith, f .both)))
+      go false e = open-fits c (f .most) (x .state .phase) (x .held) l z (f .phase) (f .waiting) (f .both)
 
   fits-lines : (ls : List (List ℕ)) (s : List ℕ) → lines s ≡ ls → (c : ℕ) (x : FedSum Filling Waiting) → FitsWithin c (x .state .phase) (x .held)
       → FitsWithin (c + sumWidths ls) (absorbSums (machine rule) x ls .state .phase) (absorbSums (machine rule) x ls .held)
   unfolding absorbSums sumWidths
-  fits-lines [] s e c x f = record { most = f .most; phase = f .phase; held = f .held; both = omega (arith, f .both) }
+  fits-lines [] s e c x f = record { most = f .most; phase = f .phase; waiting = f .waiting; both = omega (arith, f .both) }
   fits-lines (l ∷ ls) s e c x f =
       rw (sym (add-assoc c (length l) (sumWidths ls)))
       (fits-lines ls (drop (length l) s) (lines-behind s l ls e) (c + length l) (absorbSum (machine rule) x l) (fits-absorb c x l (lines-some s l ls e) f))
@@ -397,13 +397,13 @@ phase-sound (Lines d t z) e = let x = three (soundOpened d) (leb z limit) (sound
 phase-sound (Halted n) e = tt
 phase-sound Ended e = tt
 
-pub sound-fits : (f : Feeder) → soundOf f ≡ true → (f .total ≤ limit) × FitsWithin (2 ^ 41) (f .phase) (f .held)
+pub sound-fits : (f : Feeder) → soundOf f ≡ true → (f .total ≤ limit) × FitsWithin (2 ^ 41) (f .phase) (f .waiting)
 unfolding soundOf
 sound-fits f e =
-    let x = three (leb (f .total) limit) (soundPhase (f .phase)) (soundWaiting (f .held)) e in
-    let w = waiting-sound (f .held) (x .2) in
-    (leb-true _ _ (x .0), record { most = limit; phase = phase-sound (f .phase) (x .1); held = w .0; both = omega (arith, w .1) })
+    let x = three (leb (f .total) limit) (soundPhase (f .phase)) (soundWaiting (f .waiting)) e in
+    let w = waiting-sound (f .waiting) (x .2) in
+    (leb-true _ _ (x .0), record { most = limit; phase = phase-sound (f .phase) (x .1); waiting = w .0; both = omega (arith, w .1) })
 
 -- what fits is small enough for every sum
 pub fits-small : (c : ℕ) (p : Phase) (t : Waiting) → FitsWithin c p t → c < 2 ^ 60 → SmallPhase (2 ^ 60) p × SmallWaiting t × (t .width < 2 ^ 60)
-fits-small c p t f h = (phase-weak (f .most) (2 ^ 60) (omega (arith, f .both)) p (f .phase), f .held, omega (arith, f .both))
+fits-small c p t f h = (phase-weak (f .most) (2 ^ 60) (omega (arith, f .both)) p (f .phase), f .waiting, omega (arith, f .both))

@@ -1,4 +1,4 @@
--- However a file is split, its pieces leave the state that its bytes leave: `pieces-same`. What is told before the end is what the lines give
+-- However a file is split, its pieces leave the state that its bytes leave: `pieces-same`. Before the end the answer is what those lines give
 -- that have come with their LF and one byte more: `fed-told`.
 use Prim.Native.Nat.{ℕ, _+_, _≤_, _<_}
 use mathlib.Core.Path.{_≡_, refl, ap, sym, _∙_}
@@ -77,7 +77,7 @@ module _ (rule : Rule) where
     stateAt a = keptIn rule (length a) (feedSum (machine rule) start a)
 
     pub fits-start : FitsWithin 0 (first .phase) noLine
-    fits-start = record { most = 0; phase = unfold SmallPhase in omega arith; held = none-small; both = omega arith }
+    fits-start = record { most = 0; phase = unfold SmallPhase in omega arith; waiting = none-small; both = omega arith }
 
     -- one piece more, by where the bytes before it leave the machine
     module _ (a p : List ℕ) where
@@ -106,9 +106,9 @@ module _ (rule : Rule) where
 
     -- else the piece is read: here the machine stands at q
     module _ (a : List ℕ) (q : Phase) (n : ℕ) (b : List ℕ) (u : Waiting) (l : live q ≡ true) (e : feedSum (machine rule) start a ≡ record { state = filling q n b; held = u })
-        (k : (c : ℕ) → keptBy rule c q n u ≡ record { rule = rule; total = c; rows = n; phase = q; held = u }) where
+        (k : (c : ℕ) → keptBy rule c q n u ≡ record { rule = rule; total = c; rows = n; phase = q; waiting = u }) where
       abbrev at : Feeder
-      at = record { rule = rule; total = length a; rows = n; phase = q; held = u }
+      at = record { rule = rule; total = length a; rows = n; phase = q; waiting = u }
 
       sound-at : length a ≤ limit → soundOf at ≡ true
       sound-at h = fits-sound at (length a) h h (rw (zero-add (length a), e) at (fits-piece rule 0 start a fits-start))
@@ -171,7 +171,7 @@ module _ (rule : Rule) (t : List ℕ) where
   pub split-same : (ps qs : List (List ℕ)) → joined ps ≡ joined qs → length (joined ps) ≤ limit → allPieces (with (begunBy rule) t) ps ≡ allPieces (with (begunBy rule) t) qs
   split-same ps qs e h = pieces-same ps h ∙ ap (stateAt rule t) e ∙ sym (pieces-same qs (rw e at h))
 
-  -- K1: before the end, what all lines but the last give, each told by the next byte whether its sequence ends behind it
+  -- K1: before the end, what all lines but the last give; the byte behind a line says whether its sequence ends there
   abbrev pub judgedSoFar : List ℕ → Filling
   judgedSoFar s = judgeMost (stepLine rule) (filling (Definition 0) 0 t) (lines s) .state
 
@@ -225,7 +225,7 @@ pub ended-refused : (f : Feeder) (c : ℕ) (p t : List ℕ) → f .phase ≡ End
 unfolding pieceOf endOf live stillStopped
 ended-refused f c p t e = (rw (eqb·suc-zero (length p), e), rw e, refl)
 
--- 1 for a piece with which the total passes the limit: none of it is read, and the rows stay
+-- 1 for a piece that brings the total over the limit: none of it is read, and the rows stay
 pub passes-limit : (f : Feeder) (c : ℕ) (p t : List ℕ) → live (f .phase) ≡ true → limit < f .total + length (c ∷ p) → pieceOf f (c ∷ p) t ≡ with (refusedBy f TooLong) t
 unfolding pieceOf overLimit
 passes-limit f c p t l h = rw (eqb·suc-zero (length p), l, lt-ltb limit (f .total + length (c ∷ p)) h) (go (soundOf f))

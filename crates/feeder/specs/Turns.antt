@@ -1,4 +1,4 @@
--- How the code goes through a piece, where records lie whole in it: each part leaves what its lines leave, one after another.
+-- How the code goes through a piece in which records lie whole: each part leaves what its lines leave, one after another.
 use Prim.Native.Nat.{ℕ, zero, suc, _+_, _-_, _^_, _≤_, _<_}
 use mathlib.Core.Path.{_≡_, refl, ap, sym, _∙_}
 use mathlib.Core.List.{List, [], _∷_}
@@ -97,18 +97,18 @@ module _ (rule : Rule) (f : Fed) (t : List ℕ) where
   unfolding readied
   readied-whole x w = rw w
 
-  pub ready-whole : (out : Out) (s : Settled) (n : Waiting) (u : List ℕ) → f .held .whole ≡ true → out ≡ outOf rule (f .phase) (f .held) true → SettleDone out (f .rows) t s u → n ≡ noLine
-      → ReadyDone rule f t (record { phase = s .phase; rows = s .rows; held = n }) u
+  pub ready-whole : (out : Out) (s : Settled) (n : Waiting) (u : List ℕ) → f .waiting .whole ≡ true → out ≡ outOf rule (f .phase) (f .waiting) true → SettleDone out (f .rows) t s u → n ≡ noLine
+      → ReadyDone rule f t (record { phase = s .phase; rows = s .rows; waiting = n }) u
   ready-whole out s n u w o d e = record { is = fed-same (d .is ∙ judged) e ∙ sym (readied-whole (fedIn f (numbersIn t)) w); rest = d .rest }
     where
-      judged : applied (f .rows) (numbersIn t) out ≡ stepBy rule (filling (f .phase) (f .rows) (numbersIn t)) (f .held) true
+      judged : applied (f .rows) (numbersIn t) out ≡ stepBy rule (filling (f .phase) (f .rows) (numbersIn t)) (f .waiting) true
       judged = unfold stepBy in ap (applied (f .rows) (numbersIn t)) o
 
-  pub ready-open : f .held .whole ≡ false → ReadyDone rule f t f t
+  pub ready-open : f .waiting .whole ≡ false → ReadyDone rule f t f t
   unfolding readied
   ready-open w = record { is = rw w; rest = refl }
 
-  module _ (p : List ℕ) (i : ℕ) (h : i < length p) (b : eqb (getD p i 0) 62 ≡ true) (fits : FitsWithin (2 ^ 41 + i) (f .phase) (f .held)) where
+  module _ (p : List ℕ) (i : ℕ) (h : i < length p) (b : eqb (getD p i 0) 62 ≡ true) (fits : FitsWithin (2 ^ 41 + i) (f .phase) (f .waiting)) where
     readied-is : (x : FedSum Filling Waiting) → absorbSums (machine rule) (readied rule x) (lines (drop i p)) ≡ absorbSums (machine rule) x (lines (drop i p))
     unfolding readied
     readied-is x = go (x .held .whole) refl
@@ -125,7 +125,7 @@ module _ (rule : Rule) (f : Fed) (t : List ℕ) where
         go : (w : Bool) → x .held .whole ≡ w
             → FitsWithin c (cond {A = FedSum Filling Waiting} w (record { state = stepBy rule (x .state) (x .held) true; held = noLine }) x .state .phase)
             (cond {A = FedSum Filling Waiting} w (record { state = stepBy rule (x .state) (x .held) true; held = noLine }) x .held)
-        go true w = record { most = g .most + x .held .width; phase = step-small rule (g .most) (x .held) true (g .held) w (x .state) (g .phase); held = none-small; both = omega (arith, g .both) }
+        go true w = record { most = g .most + x .held .width; phase = step-small rule (g .most) (x .held) true (g .waiting) w (x .state) (g .phase); waiting = none-small; both = omega (arith, g .both) }
         go false w = g
 
     pub ready-turn : (r : Fed) (u : List ℕ) → ReadyDone rule f t r u → TurnDone rule f p i t r i u
@@ -241,7 +241,7 @@ module _ (at rows : ℕ) (p : List ℕ) (i : ℕ) (t : List ℕ) where
       rest = d .rest ∙ o .rest;
     }
 
-module _ (f : Fed) (p : List ℕ) (i : ℕ) (h : i < length p) (t : List ℕ) (fits : FitsWithin (2 ^ 41 + i) (f .phase) (f .held)) where
+module _ (f : Fed) (p : List ℕ) (i : ℕ) (h : i < length p) (t : List ℕ) (fits : FitsWithin (2 ^ 41 + i) (f .phase) (f .waiting)) where
   pub whole-none : WholeDone f p i t f i t
   whole-none = record { on = omega arith; turn = λ rule. record { is = refl; rest = refl; within = omega (arith, h); fits = fits } }
 
@@ -250,14 +250,14 @@ module _ (f : Fed) (p : List ℕ) (i : ℕ) (h : i < length p) (t : List ℕ) (f
     unfolding SmallPhase
     whole-place = let s = rw a at (fits .phase) in omega (arith, s, fits .both)
 
-    pub whole-records : (r : Reached) (u : List ℕ) → noBytes (f .held) ≡ true → RecordsDone at (f .rows) p i t r u
-        → WholeDone f p i t (record { phase = Definition (r .next); rows = r .rows; held = f .held }) (r .at) u
+    pub whole-records : (r : Reached) (u : List ℕ) → noBytes (f .waiting) ≡ true → RecordsDone at (f .rows) p i t r u
+        → WholeDone f p i t (record { phase = Definition (r .next); rows = r .rows; waiting = f .waiting }) (r .at) u
     whole-records r u e d = record {
       on = d .on;
       turn = λ rule. record {
-        is = rw (a, no-bytes (f .held) e) (sym (d .gives rule));
+        is = rw (a, no-bytes (f .waiting) e) (sym (d .gives rule));
         rest = d .rest;
         within = omega (arith, d .ahead);
-        fits = record { most = r .next; phase = unfold SmallPhase in omega arith; held = fits .held; both = omega (arith, whole-place, d .next, ap (λ (x : Waiting). x .width) (no-bytes (f .held) e)) };
+        fits = record { most = r .next; phase = unfold SmallPhase in omega arith; waiting = fits .waiting; both = omega (arith, whole-place, d .next, ap (λ (x : Waiting). x .width) (no-bytes (f .waiting) e)) };
       };
     }

@@ -1,5 +1,5 @@
--- What a feeder keeps of a line that waits: the numbers of the indexer's sum of a line (LineSums), without those of a definition where the
--- line does not begin with '>'. So a sequence line is only measured.
+-- What a feeder keeps of a line that waits: the numbers of the indexer's sum of a line (LineSums), without those of a definition if the line
+-- does not begin with '>'. So a sequence line is only measured.
 use Prim.Native.Nat.{ℕ}
 use mathlib.Core.List.{List}
 use mathlib.Core.Bool.{Bool, true, false, cond}

@@ -1,5 +1,5 @@
--- What is kept of a line is enough to judge it, and is made from what is kept of an open line and further bytes: the laws by which splitting
--- a file anywhere changes nothing.
+-- What a feeder keeps of a line is enough to judge it, and follows from what it keeps of an open line and further bytes. So splitting a file
+-- anywhere changes nothing.
 use Prim.Native.Nat.{ℕ, zero, suc, _+_, _≤_, _<_}
 use mathlib.Core.Path.{_≡_, refl, ap, sym, _∙_}
 use mathlib.Core.List.{List, [], _∷_, _++_}
@@ -27,7 +27,7 @@ lines-some (b ∷ s) l ls h =
 sum-grows : (q l : List ℕ) → ends 10 q ≡ false → 0 < length l → sumOf (q ++ l) ≡ grow (sumOf q) l
 sum-grows q l e h = sums-law 0 .grows q l e h
 
--- what a sequence line does not keep is not asked for
+-- nobody needs what a sequence line does not keep
 some-slim : (s : Sum) (l : List ℕ) → eqb (s .line .width) 0 ≡ false → slim (grow s l) ≡ slim (grow (unpack (slim s)) l)
 unfolding grow
 some-slim s l h = go (s .starts) refl

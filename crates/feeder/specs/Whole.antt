@@ -1,5 +1,5 @@
--- The machine by the ported rule gives, over the lines of a whole file, what indexing the file gives. So any pieces and the end leave the
--- table, the count and the refusal of one call on all their bytes: `fed-whole`.
+-- Over the lines of a whole file the machine by the ported rule gives what indexing the file gives. So any pieces and the end leave the table,
+-- the count and the refusal of one call on all their bytes: `fed-whole`.
 use Prim.Native.Nat.{ℕ, zero, suc, _+_, _-_, _≤_, _<_}
 use mathlib.Core.Path.{_≡_, refl, ap, sym, _∙_}
 use mathlib.Core.List.{List, [], _∷_, _++_, append-nil}
@@ -113,7 +113,7 @@ out-same (old.wants-line d x m z) t last g = further-same d x m z (record { widt
 out-same (old.halted stop.Ended) t last g = absurd g
 out-same (old.halted (stop.Refused f)) t last g = refl
 
--- what is not kept of a sequence line is not asked for
+-- nobody needs what is not kept of a sequence line
 pub slim-says : (s : Sum) → sumSays (unpack (slim s)) ≡ sumSays s
 unfolding sumSays
 slim-says s = go (s .starts) refl
@@ -200,7 +200,7 @@ module _ (t : List ℕ) where
       ∙ judge-same ls (old.stepLine (rowCount t) st l last)
       (rw (sym (old-step st l last)) at (applied-sure (st .free) (st .rows) (out st l last) (s .room) (going-out (st .phase) (sumOf l .line) (sumSays (sumOf l)) last (s .going))))
 
--- ---- what is told at the end
+-- ---- the answer at the end
 
 unfoldable pub stopNumbers : Stop → refused.Numbers
 stopNumbers stop.Ended = record { refusal = 0; first = 0; second = 0 }

@@ -1,4 +1,4 @@
-// A line of a sequence by the complete rule: each base has to be where the numbers of the record say. Refuses one that is not (42).
+// A line of a sequence by the complete rule: each base has to lie where the numbers of the record say. Refuses the first that does not (42).
 use crate::Opened;
 use crate::Out;
 use crate::Phase;
@@ -20,7 +20,7 @@ ghost use Rattle.walking.specs.Places.{firstElsewhere};
 ghost use Rattle.feeder.specs.Machine.{toldRow, passedOut, rowsOut, basesOut, completeOut};
 ghost use Rattle.feeder.specs.Small.{SmallRows, FitsIn};
 
-// Where numbers say that the base behind `count` others lies: is it `at`. No product is made.
+// Do the numbers say that the base behind `count` others lies at `at`. It divides, since a product might not fit.
 pub(crate) fn is_place(n: Numbers, count: usize, at: usize) -> bool
     requires { ⌜ (0 < n .bases) × (0 < n .width) ⌝ }
     ensures { λ r. ⌜ r ≡ eqb at (placeBy n count) ⌝ }

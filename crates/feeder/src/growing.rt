@@ -1,4 +1,4 @@
-// The line that waits for its next byte, by numbers: how it grows with further bytes, and what it says as a definition. No byte is kept.
+// The line that waits for its next byte, by numbers: how it grows with further bytes, and what it says as a definition. It keeps no byte.
 use crate::Waiting;
 use definition::Definition;
 use definition::Fault;

@@ -1,4 +1,4 @@
-// A line that is judged, by either rule, and the row that it may give. Refuses as each rule does, and a row without room in the table (8).
+// Judges a line, by either rule, and stores the row that it may give. Refuses as each rule does, and a row without room in the table (8).
 use crate::Opened;
 use crate::Out;
 use crate::Phase;
@@ -27,7 +27,7 @@ fn judge_line(rule: Rule, d: Opened, so_far: SoFar, at: usize, x: Line, last: bo
     }
 }
 
-// The line that waits, by what is awaited, and whether its sequence ends behind it.
+// Judges the line that waits, by what the feeder awaits, and whether the sequence ends behind it.
 pub(crate) fn judge(rule: Rule, phase: Phase, t: Waiting, last: bool) -> Out
     requires { ⌜ SmallPhase (2 ^ 60) phase × SmallWaiting t × (t .width < 2 ^ 60) ⌝ }
     ensures { λ r. ⌜ r ≡ outOf rule phase t last ⌝ }

@@ -1,8 +1,8 @@
 // The indexer fed with a file while it arrives, in any pieces, by the ported or the complete rule. Between two pieces a feeder keeps numbers
-// and no bytes: what it awaits, how many rows are written, and of the line that waits for its next byte its width, its bases and where a
-// name and a description lie in it. A line is judged, and a row written, once its LF and the next byte, or the end, have come. A refusal
-// stays: each later call only repeats it. Refuses bytes or a second end behind a good end (26), a piece with which the file is over the
-// size limit (1), and what indexing the file refuses (2 to 8, 42). A state that no call leaves is refused (1) too.
+// and no bytes: what it awaits, how many rows are written, and of the line that waits for its next byte the width, the bases and where a
+// name and a description lie in it. It judges a line, and writes a row, once the line's LF and the next byte, or the end, have come. A
+// refusal stays: each later call only repeats it. Refuses bytes or a second end behind a good end (26), a piece that brings the file over
+// the size limit (1), and what indexing the file refuses (2 to 8, 42). It also refuses a state that no call leaves (1).
 mod complete;
 mod growing;
 mod judging;
@@ -24,9 +24,9 @@ ghost use Rattle.feeder.specs.Calls as calls;
 ghost use Rattle.table.specs.Numbers.{numbersIn};
 ghost use Rattle.feeder.specs.Calls.{begunBy, refusedBy, live, stillStopped, keptBy, pieceOf, closedBy, endOf, CallDone, refusalIn};
 
-// A line that waits for its next byte, by numbers: its bytes and its bases, whether its LF has come, whether it begins with '>'. If it does,
-// how many bytes of a name are behind that, the place behind the name and the whitespace that follows it, and how many bytes there
-// are up to the last that is no whitespace; else 0.
+// A line that waits for its next byte, by numbers: its bytes and its bases, whether its LF has come, whether it begins with '>'. If it does:
+// how many bytes of a name follow, the place behind the name and its whitespace, and how many bytes there are up to the last that is no
+// whitespace. Else these are 0.
 pub struct Waiting {
     pub width: usize,
     pub bases: usize,
@@ -37,7 +37,7 @@ pub struct Waiting {
     pub kept: usize,
 }
 
-// A record whose definition line has been read: where that begins, where it ends, and what it says.
+// A record whose definition line has been read: where the line begins, where it ends, and what it says.
 pub struct Opened {
     pub at: usize,
     pub end: usize,
@@ -52,7 +52,7 @@ pub enum SoFar {
     Rows(Numbers, usize),
 }
 
-// What is awaited: a definition at an offset; a line of a record's sequence, at an offset; nothing behind a refusal, or behind the end.
+// What the feeder awaits: a definition at an offset; a line of a record's sequence, at an offset; nothing, behind a refusal or the end.
 pub enum Phase {
     Definition(usize),
     Lines(Opened, SoFar, usize),
@@ -60,23 +60,23 @@ pub enum Phase {
     Ended,
 }
 
-// What a line gives: what is awaited next; or a row, and the offset behind its record.
+// What a line gives: what to await next; or a row, and the offset behind its record.
 enum Out {
     Keeps(Phase),
     Emits(Record, usize),
 }
 
-// What is awaited, and how many rows are written.
+// What the feeder awaits, and how many rows are written.
 struct Settled {
     phase: Phase,
     rows: usize,
 }
 
-// What is awaited, how many rows are written, and the line that waits.
+// What the feeder awaits, how many rows are written, and the line that waits.
 struct Fed {
     phase: Phase,
     rows: usize,
-    held: Waiting,
+    waiting: Waiting,
 }
 
 // What a part of a piece leaves, and where the piece goes on.
@@ -85,7 +85,7 @@ struct Turn {
     at: usize,
 }
 
-// The sequence of a record that lies whole in a piece: its first line, its bases, and where the next record begins; 0 where it is none.
+// The sequence of a record that lies whole in a piece: its first line, its bases, and where the next record begins; 0 if there is none.
 struct Sequence {
     line: Line,
     bases: usize,
@@ -99,13 +99,13 @@ struct Reached {
     at: usize,
 }
 
-// A file on its way: the rule, how many bytes have come, how many rows are written, what is awaited, and the line that waits.
+// A file on its way: the rule, how many bytes have come, how many rows are written, what to await, and the line that waits.
 pub struct Feeder {
     pub rule: Rule,
     pub total: usize,
     pub rows: usize,
     pub phase: Phase,
-    pub held: Waiting,
+    pub waiting: Waiting,
 }
 
 // Does a feeder take bytes.
@@ -129,7 +129,7 @@ fn stopped(rule: Rule, rows: usize, phase: Phase) -> Feeder
         total: 0,
         rows,
         phase,
-        held: growing::no_line(),
+        waiting: growing::no_line(),
     }
 }
 
@@ -140,7 +140,7 @@ fn refused(f: Feeder, x: Refusal) -> Feeder
     stopped(rule, f.rows, Phase::Halted(x.numbers()))
 }
 
-// A feeder that takes no bytes, told some, or the end.
+// A feeder that takes no bytes, given some, or the end.
 fn still_stopped(f: Feeder) -> Feeder
     ensures { λ r. ⌜ r ≡ stillStopped f (f .phase) ⌝ }
 {
@@ -155,10 +155,10 @@ fn still_stopped(f: Feeder) -> Feeder
 
 // What the lines of a piece leave.
 fn kept(rule: Rule, total: usize, f: Fed) -> Feeder
-    ensures { λ r. ⌜ r ≡ keptBy rule total (f .phase) (f .rows) (f .held) ⌝ }
+    ensures { λ r. ⌜ r ≡ keptBy rule total (f .phase) (f .rows) (f .waiting) ⌝ }
 {
     let phase = f.phase;
-    let held = f.held;
+    let waiting = f.waiting;
     match phase {
         Phase::Halted(n) => stopped(rule, f.rows, Phase::Halted(n)),
         Phase::Definition(at) => Feeder {
@@ -166,21 +166,21 @@ fn kept(rule: Rule, total: usize, f: Fed) -> Feeder
             total,
             rows: f.rows,
             phase: Phase::Definition(at),
-            held,
+            waiting,
         },
         Phase::Lines(d, so_far, at) => Feeder {
             rule,
             total,
             rows: f.rows,
             phase: Phase::Lines(d, so_far, at),
-            held,
+            waiting,
         },
         Phase::Ended => Feeder {
             rule,
             total,
             rows: f.rows,
             phase: Phase::Ended,
-            held,
+            waiting,
         },
     }
 }
@@ -210,7 +210,7 @@ fn no_refusal() -> refusal::Numbers
 }
 
 impl Feeder {
-    // The start of a file that is indexed by a rule.
+    // The start of a file, by a rule.
     pub fn start(rule: Rule) -> Self
         ensures { λ r. ⌜ r ≡ begunBy rule ⌝ }
     {
@@ -219,7 +219,7 @@ impl Feeder {
             total: 0,
             rows: 0,
             phase: Phase::Definition(0),
-            held: growing::no_line(),
+            waiting: growing::no_line(),
         }
     }
 
@@ -241,11 +241,11 @@ impl Feeder {
             return refused(self, Refusal::TooLong);
         }
         let rule = self.rule;
-        let held = self.held;
+        let waiting = self.waiting;
         let f = Fed {
             phase,
             rows: self.rows,
-            held,
+            waiting,
         };
         let g = taking::absorb_lines(rule, f, p, table);
         kept(rule, self.total + p.len(), g)
@@ -263,8 +263,8 @@ impl Feeder {
             return refused(self, Refusal::TooLong);
         }
         let rule = self.rule;
-        let held = self.held;
-        if held.width == 0 {
+        let waiting = self.waiting;
+        if waiting.width == 0 {
             return closed(
                 rule,
                 Settled {
@@ -273,7 +273,7 @@ impl Feeder {
                 },
             );
         }
-        let out = judging::judge(rule, phase, held, true);
+        let out = judging::judge(rule, phase, waiting, true);
         closed(rule, judging::settle(out, self.rows, table))
     }
 

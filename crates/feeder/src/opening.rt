@@ -1,5 +1,5 @@
-// A record that is opened by its definition line, and the row of one. Refuses a bad definition line (2 to 4), and by the ported rule a record
-// without sequence lines (5).
+// A definition line opens a record; and the row of a record. Refuses a bad definition line (2 to 4), and by the ported rule a record without
+// sequence lines (5).
 use crate::Opened;
 use crate::Out;
 use crate::Phase;

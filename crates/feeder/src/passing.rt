@@ -1,5 +1,5 @@
-// Lines of a record's rows that are alike, passed at once. A line that is like the record's first, and begins where the next base should be,
-// is fine by either rule; so are those like it behind it.
+// Passes lines that are alike at once. A line that is like the record's first, and begins where the next base should lie, is fine by either
+// rule; so are those like it behind it.
 use crate::Fed;
 use crate::Phase;
 use crate::SoFar;
@@ -59,18 +59,18 @@ pub(crate) fn pass_alike(f: Fed, p: &[u8], i: usize) -> Turn
     ensures { λ r. ⌜ PassDone f (now (p .entry)) i (r .fed) (r .at) ⌝ }
 {
     let phase = f.phase;
-    let held = f.held;
+    let waiting = f.waiting;
     match phase {
         Phase::Lines(d, so_far, at) => match so_far {
             SoFar::Rows(n, count) => {
-                let k = even_lines(n, count, at, held, p, i);
+                let k = even_lines(n, count, at, waiting, p, i);
                 if k == 0 {
                     return Turn { fed: f, at: i };
                 }
                 let fed = Fed {
                     phase: Phase::Lines(d, SoFar::Rows(n, count + k * n.bases), at + k * n.width),
                     rows: f.rows,
-                    held,
+                    waiting,
                 };
                 Turn {
                     fed,

@@ -1,6 +1,6 @@
-// Records that lie whole in a piece, with the first byte of the next: their rows are written at once, with no state between their lines. Their
-// lines are alike, but for a last one that is no longer; by either rule such a record has the same row. Any other is left to be taken line by
-// line, and so is one for which the table has no room.
+// Records that lie whole in a piece, with the first byte of the next: their rows are written at once, with no state between their lines. The
+// lines are alike, except the last, which may be shorter; both rules give such a record the same row. Any other record goes line by line,
+// and so does one for which the table has no room.
 use crate::Opened;
 use crate::Reached;
 use crate::Sequence;
@@ -26,16 +26,16 @@ fn no_sequence() -> Sequence
     }
 }
 
-// May a line be the last of some that are like another.
+// May a line be the last of some lines that are alike.
 fn may_end(l: Line, first: Line) -> bool
     ensures { λ r. ⌜ r ≡ mayEnd l first ⌝ }
 {
     (0 < l.bases) & (l.bases <= first.bases) & (l.width <= first.width)
 }
 
-// Does it look as if many lines like the first were behind it: then the record's end may not have come, and its lines are passed at once by
-// those that take them line by line. It is only a guess, and so promises nothing. A '>' in front of one of the next three tells short records
-// apart whose definition lines are as wide as their lines of bases.
+// Does it look as if many lines like the first follow it. Then the record's end may not have come, and `taking` passes the lines at once. It
+// is only a guess, and so promises nothing. A '>' in front of one of the next three lines means short records whose definition lines are as
+// wide as their lines of bases.
 fn is_long(p: &[u8], i: usize, first: Line) -> bool
     requires { ⌜ (i ≤ length (now p)) × (length (now p) ≤ 2 ^ 40) × (first .width ≤ length (now p)) × (0 < first .width) ⌝ }
 {
@@ -101,7 +101,7 @@ fn whole_sequence(p: &[u8], e: usize) -> Sequence
     no_sequence()
 }
 
-// The record from `i` on, which begins at `at` in the file: its row is written, and this is where the next begins. Or it is left: `i`.
+// Takes the record from `i` on, which begins at `at` in the file: writes its row, and answers where the next begins. Or leaves it: `i`.
 fn take_record(at: usize, rows: usize, p: &[u8], i: usize, table: &mut [u8]) -> usize
     requires { ⌜ (i < length (now p)) × (length (now p) ≤ 2 ^ 40) × (at ≤ 2 ^ 42) ⌝ }
     ensures { λ r. ⌜ RecordDone at rows (now (p .entry)) i (now (table .entry)) r (now (table .exit)) ⌝ }

@@ -1,4 +1,4 @@
-// States that a call can have left: no number is over the size limit, and they agree. Any other is refused by the calls.
+// States that a call can have left: no number is over the size limit, and they agree. The calls refuse any other.
 use crate::Feeder;
 use crate::Opened;
 use crate::Phase;
@@ -47,7 +47,7 @@ fn sound_numbers(n: Numbers) -> bool
         & (n.bases < n.width)
 }
 
-// Does a run end before `at`. The sum is not made: it may not fit.
+// Does a run end before `at`. It makes no sum, which might not fit.
 fn ends_before(n: Numbers, at: usize) -> bool
     ensures { λ r. ⌜ r ≡ ltb (n .position) at && ltb (n .bases) (at - n .position) ⌝ }
 {
@@ -85,6 +85,6 @@ pub(crate) fn is_sound(f: Feeder) -> bool
     ensures { λ r. ⌜ r ≡ soundOf f ⌝ }
 {
     let phase = f.phase;
-    let held = f.held;
-    (f.total <= refusal::LIMIT) & sound_phase(phase) & sound_waiting(held)
+    let waiting = f.waiting;
+    (f.total <= refusal::LIMIT) & sound_phase(phase) & sound_waiting(waiting)
 }

@@ -1,4 +1,4 @@
-// The bytes of a piece: each line behind what waits, and then the lines that are like it at once.
+// Takes the bytes of a piece: each line behind what waits, and then the lines like it at once.
 use crate::Fed;
 use crate::Phase;
 use crate::Turn;
@@ -17,29 +17,29 @@ ghost use Rattle.feeder.specs.Passing.{TurnDone};
 ghost use Rattle.feeder.specs.Turns.{noBytes, ReadyDone, WholeDone};
 ghost use Rattle.feeder.specs.Small.{SmallWaiting, SmallPhase, Fits};
 
-// The bytes of one line, from `i` to `e` of a piece, behind what waits: a whole line is judged, and these wait; an open one grows.
+// Takes the bytes of one line, from `i` to `e` of a piece, behind what waits: a whole line is judged, and these bytes wait; an open one grows.
 fn absorb(rule: Rule, f: Fed, p: &[u8], i: usize, e: usize, table: &mut [u8]) -> Fed
-    requires { ⌜ (i < e) × (e ≤ length (now p)) × (length (now p) ≤ 2 ^ 41) × SmallPhase (2 ^ 60) (f .phase) × SmallWaiting (f .held) × (f .held .width < 2 ^ 60) ⌝ }
+    requires { ⌜ (i < e) × (e ≤ length (now p)) × (length (now p) ≤ 2 ^ 41) × SmallPhase (2 ^ 60) (f .phase) × SmallWaiting (f .waiting) × (f .waiting .width < 2 ^ 60) ⌝ }
     ensures { λ r. ⌜ AbsorbDone rule f (part (now (p .entry)) i e) (now (table .entry)) r (now (table .exit)) ⌝ }
 {
-    let held = f.held;
+    let waiting = f.waiting;
     let phase = f.phase;
-    if held.whole {
-        let out = judging::judge(rule, phase, held, p[i] == b'>');
+    if waiting.whole {
+        let out = judging::judge(rule, phase, waiting, p[i] == b'>');
         let s = judging::settle(out, f.rows, table);
         let next = s.phase;
         let line = growing::grown(growing::no_line(), &p[i..e]);
         return Fed {
             phase: next,
             rows: s.rows,
-            held: line,
+            waiting: line,
         };
     }
-    let line = growing::grown(held, &p[i..e]);
+    let line = growing::grown(waiting, &p[i..e]);
     Fed {
         phase,
         rows: f.rows,
-        held: line,
+        waiting: line,
     }
 }
 
@@ -53,21 +53,21 @@ fn take_line(rule: Rule, f: Fed, p: &[u8], i: usize, table: &mut [u8]) -> Turn
     passing::pass_alike(g, p, e)
 }
 
-// A whole line that waits, behind which its sequence ends, is judged: the next byte is '>'.
+// Judges a whole line that waits and ends its sequence: the next byte is '>'.
 fn ready(rule: Rule, f: Fed, table: &mut [u8]) -> Fed
-    requires { ⌜ SmallPhase (2 ^ 60) (f .phase) × SmallWaiting (f .held) × (f .held .width < 2 ^ 60) ⌝ }
+    requires { ⌜ SmallPhase (2 ^ 60) (f .phase) × SmallWaiting (f .waiting) × (f .waiting .width < 2 ^ 60) ⌝ }
     ensures { λ r. ⌜ ReadyDone rule f (now (table .entry)) r (now (table .exit)) ⌝ }
 {
-    let held = f.held;
+    let waiting = f.waiting;
     let phase = f.phase;
-    if held.whole {
-        let out = judging::judge(rule, phase, held, true);
+    if waiting.whole {
+        let out = judging::judge(rule, phase, waiting, true);
         let s = judging::settle(out, f.rows, table);
         let next = s.phase;
         return Fed {
             phase: next,
             rows: s.rows,
-            held: growing::no_line(),
+            waiting: growing::no_line(),
         };
     }
     f
@@ -86,14 +86,14 @@ fn is_clear(t: Waiting) -> bool
         & (t.kept == 0)
 }
 
-// Records that lie whole in the piece from `i` on, where a definition is awaited and no line waits.
+// Takes records that lie whole in the piece from `i` on, if the feeder awaits a definition and no line waits.
 fn take_whole(f: Fed, p: &[u8], i: usize, table: &mut [u8]) -> Turn
     requires { ⌜ (i < length (now p)) × (length (now p) ≤ 2 ^ 40) × Fits (2 ^ 41 + i) f ⌝ }
     ensures { λ r. ⌜ WholeDone f (now (p .entry)) i (now (table .entry)) (r .fed) (r .at) (now (table .exit)) ⌝ }
 {
     let phase = f.phase;
-    let held = f.held;
-    if !is_clear(held) {
+    let waiting = f.waiting;
+    if !is_clear(waiting) {
         return Turn { fed: f, at: i };
     }
     match phase {
@@ -102,7 +102,7 @@ fn take_whole(f: Fed, p: &[u8], i: usize, table: &mut [u8]) -> Turn
             let fed = Fed {
                 phase: Phase::Definition(r.next),
                 rows: r.rows,
-                held,
+                waiting,
             };
             Turn { fed, at: r.at }
         }

@@ -1,4 +1,4 @@
--- `feeder::passing::even_lines` meets its contract: lines are counted only where each test says that they are even with the rows.
+-- `feeder::passing::even_lines` meets its contract: it counts lines only if each test says that they are even with the rows.
 -- Assumes nothing.
 use mathlib.Core.Path.{_≡_, sym, _∙_}
 use native.Mathlib.Omega.{arith}

@@ -1,4 +1,4 @@
--- `feeder::passing::pass_alike` meets its contract: where lines are even, they are passed; else nothing changes.
+-- `feeder::passing::pass_alike` meets its contract: it passes lines that are even; else nothing changes.
 -- Assumes nothing.
 use native.Mathlib.Omega.{arith}
 use Rattle.feeder.specs.Passing.{rows-some, pass-small, pass-some}

@@ -1,4 +1,4 @@
--- `feeder::records::take_record` meets its contract: what the lines of a whole record give is its row, and any other record is left.
+-- `feeder::records::take_record` meets its contract: the lines of a whole record give its row, and it leaves any other record.
 -- Assumes nothing.
 use native.Mathlib.Omega.{arith}
 use mathlib.Core.Path.{_≡_, refl, sym, _∙_}

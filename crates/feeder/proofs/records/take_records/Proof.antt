@@ -1,4 +1,4 @@
--- `feeder::records::take_records` meets its contract: each record that is taken leads on from the first.
+-- `feeder::records::take_records` meets its contract: each record that is taken goes on from the one before.
 -- Assumes nothing.
 use Prim.Native.Nat.{_-_, _<_}
 use lib.ListN.{length}

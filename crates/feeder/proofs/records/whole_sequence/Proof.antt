@@ -1,4 +1,4 @@
--- `feeder::records::whole_sequence` meets its contract: lines that are alike, and one that is no longer, behind which the next record begins.
+-- `feeder::records::whole_sequence` meets its contract: the lines are alike, then comes one that is not longer, and behind it the next record begins.
 -- Assumes nothing.
 use native.Mathlib.Omega.{arith}
 use mathlib.Core.Path.{_≡_, sym, _∙_}

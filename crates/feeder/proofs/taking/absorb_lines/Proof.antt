@@ -11,7 +11,7 @@ use Rattle.feeder.proofs.taking.absorb_lines.Statement.{statement}
 use Rattle.feeder.proofs.taking.absorb_lines.Tie as tie
 
 abbrev Inv-loop : tie.InvT-loop
-Inv-loop rule p table₀ fed₀ i₀ table fed i = (length table ≡ length table₀) × (i ≤ length p) × FitsWithin (2 ^ 41 + i) (fed .phase) (fed .held) × FeedOn rule fed₀ p table₀ fed i table
+Inv-loop rule p table₀ fed₀ i₀ table fed i = (length table ≡ length table₀) × (i ≤ length p) × FitsWithin (2 ^ 41 + i) (fed .phase) (fed .waiting) × FeedOn rule fed₀ p table₀ fed i table
 
 abbrev μ-loop : tie.MeasureT-loop
 μ-loop rule p table₀ fed₀ i₀ table fed i = length p - i

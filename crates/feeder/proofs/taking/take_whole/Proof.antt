@@ -1,4 +1,4 @@
--- `feeder::taking::take_whole` meets its contract: records are taken where a definition is awaited and no line waits; else nothing changes.
+-- `feeder::taking::take_whole` meets its contract: it takes records if the feeder awaits a definition and no line waits; else nothing changes.
 -- Assumes nothing.
 use native.Mathlib.Omega.{arith}
 use mathlib.Core.Path.{_≡_, sym, _∙_}

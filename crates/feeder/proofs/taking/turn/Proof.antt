@@ -1,4 +1,4 @@
--- `feeder::taking::turn` meets its contract: each part leads on from where the one before it left.
+-- `feeder::taking::turn` meets its contract: each part goes on from where the one before it stopped.
 -- Assumes nothing.
 use native.Mathlib.Omega.{arith}
 use Prim.Native.Nat.{_+_, _^_}
