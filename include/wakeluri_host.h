@@ -1,5 +1,5 @@
-/* What stands around the entry points for a host in C: refusals by name and in words, the version, the rows of a table, a region as a
- * struct. wakeluri.h includes it. The entry points are proved; what is here only hands numbers on, and is tested.
+/* Around the entry points, for a host in C: refusals by name and in words, the version, the rows of a table, a region as a struct.
+ * wakeluri.h includes it. The entry points are proved; what is here only hands numbers on, and is tested.
  *
  * wakeluri_version, wakeluri_form, wakeluri_words, wakeluri_read_bases and wakeluri_read_text are in the libraries that `tools/dev clibs` makes, which have the
  * proved code in them too. The rest needs no library.
@@ -22,7 +22,7 @@
 /* The bytes of a row of a FASTQ file's table: seven numbers. */
 #define WAKELURI_FASTQ_ROW_BYTES 56
 
-/* Why a call gave no answer, and what its two numbers say, `first` and `second`, where they are named. */
+/* Why a call gave no answer, and the names of its two numbers, `first` and `second`, if it has them. `tools/dev generated` writes the list. */
 enum wakeluri_refusal {
     WAKELURI_FINE = 0, /* there is no refusal */
     WAKELURI_TOO_LONG = 1, /* an input is longer than 1,099,511,627,776 bytes */
@@ -89,7 +89,7 @@ struct wakeluri_record {
     uint64_t row;
 };
 
-/* Some bases of a row's record, counted from 1, both bounds included; a bound is absent where its flag is 0. */
+/* Some bases of a row's record, counted from 1, both bounds included; a bound is absent if its flag is 0. */
 struct wakeluri_region {
     uint64_t row, has_start, start, has_end, end;
 };
@@ -101,12 +101,12 @@ uint64_t wakeluri_form(void);
 /* A refusal's number in words, without its places. The text is the library's own, and stays. */
 const char *wakeluri_words(uint64_t number);
 
-/* The bases from `start` to `end` of a record, for a host whose calls are dear: `out` has room for end - start + 1 bytes. Tells the refusal's
- * number, 0 for none; wakeluri_read_exact tells its two numbers. */
+/* The bases from `start` to `end` of a record, for a host whose calls are dear: `out` has room for end - start + 1 bytes. Returns the
+ * refusal's number, 0 for none; wakeluri_read_exact gives its two numbers. */
 uint64_t wakeluri_read_bases(const struct wakeluri_record *record, uint64_t start, uint64_t end, uint8_t *out);
 
-/* A record, and how a host makes a text of its own from bytes: PyUnicode_DecodeLatin1, say, which is told NULL as its third argument. Before
- * `due`, nanoseconds of the monotonic clock, the host needs no look at the file. */
+/* A record, and how a host makes a text of its own from bytes: PyUnicode_DecodeLatin1, say, with NULL as its third argument. Before `due`,
+ * nanoseconds of the monotonic clock, the host needs no look at the file. */
 struct wakeluri_texts {
     struct wakeluri_record record;
     void *(*make)(const char *bases, ptrdiff_t count, const char *errors);
@@ -116,16 +116,16 @@ struct wakeluri_texts {
 /* The longest text that wakeluri_read_text gives. */
 #define WAKELURI_TEXT 65536
 
-/* The bases from `start` to `end` of a record as a text that the host makes, in one call, for a host whose calls are dear. A text of no bases where
- * the read is refused, it would be too long, or `due` has come: wakeluri_read_exact says which. */
+/* The bases from `start` to `end` of a record as a text that the host makes, in one call, for a host whose calls are dear. The text has no bases
+ * if the read is refused, if it would be too long, or if `due` has come: wakeluri_read_exact says which. */
 void *wakeluri_read_text(const struct wakeluri_texts *of, uint32_t start, uint32_t end);
 
-/* Whether the library is one that this header speaks of. */
+/* Whether the library fits this header. */
 static inline int wakeluri_fits(void) {
     return wakeluri_version() / 100 == WAKELURI_VERSION / 100 && wakeluri_form() == WAKELURI_FORM;
 }
 
-/* The numbers of a row of a table; all are 0 where the table has no such row. */
+/* The numbers of a row of a table; all are 0 if the table has no such row. */
 static inline struct wakeluri_numbers wakeluri_numbers_of(const uint8_t *table, size_t table_length, uint64_t row) {
     uint64_t n[8] = {0, 0, 0, 0, 0, 0, 0, 0};
     struct wakeluri_numbers numbers;

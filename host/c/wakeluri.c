@@ -1,4 +1,4 @@
-/* What stands around the proved entry points, in C: include/wakeluri_host.h says what each is for. */
+/* Around the proved entry points, in C: include/wakeluri_host.h says what each is for. */
 #define _GNU_SOURCE
 #include "wakeluri.h"
 
@@ -19,7 +19,7 @@ uint64_t wakeluri_read_bases(const struct wakeluri_record *record, uint64_t star
     return wakeluri_read_region(record->of, &region, out, room).refusal;
 }
 
-/* Whether a time has come, by a clock that a look at costs little: it is some milliseconds late at most. */
+/* Whether a time has come, by a clock that is cheap to read: it is some milliseconds late at most. */
 static int is_due(uint64_t due) {
     struct timespec now;
 #ifdef CLOCK_MONOTONIC_COARSE
@@ -37,7 +37,7 @@ void *wakeluri_read_text(const struct wakeluri_texts *of, uint32_t start, uint32
     return of->make((const char *)bases, is_read ? (ptrdiff_t)(end - start) + 1 : 0, NULL);
 }
 
-/* The same words as Reason::words_of of host/wakeluri/src/reason.rs, which a test holds against these. */
+/* The words of Reason::words_of in host/wakeluri/src/reason.rs: `tools/dev generated` writes them here. */
 const char *wakeluri_words(uint64_t number) {
     switch (number) {
     case WAKELURI_FINE: return "there is no refusal";

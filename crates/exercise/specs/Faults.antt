@@ -21,7 +21,7 @@ use Rattle.exercise.specs.Judging.{FieldSaid, judgedAt, field-said, good
 use Rattle.exercise.specs.Judging.FieldSaid.{passes, stops}
 use Rattle.exercise.specs.declared.Exercise.{Exercise}
 use Rattle.exercise.specs.declared.ExerciseRead.the-variants as read
-use Rattle.exercise.specs.declared.Held.{Held}
+use Rattle.exercise.specs.declared.Kept.{Kept}
 use Rattle.exercise.specs.declared.Judged.{Judged}
 use Rattle.exercise.specs.declared.Judged.the-variants.{Next, Refused}
 
@@ -31,17 +31,17 @@ module _ (newest : ℕ) (s : List ℕ) where
   abbrev AllGood : ℕ → Type 0
   AllGood r = (k : ℕ) → k < r → Good newest s k
 
-  -- the reader comes to field r, with something held
+  -- the reader comes to field r, with something kept
   record Reached (r : ℕ) : Type 0 where
-    held : Held
-    known : Known s r held
+    kept : Kept
+    known : Known s r kept
     within : fieldAt s r ≤ length s
-    same : saysFrom newest s ≡ walk newest held (fieldAt s r) 0 (drop (fieldAt s r) s)
+    same : saysFrom newest s ≡ walk newest kept (fieldAt s r) 0 (drop (fieldAt s r) s)
 
   reached : (r : ℕ) → AllGood r → Reached r
   unfolding saysFrom fieldAt
   reached zero good = record {
-    held = begun;
+    kept = begun;
     known = record {
       least = omega arith;
       most = omega arith;
@@ -57,13 +57,13 @@ module _ (newest : ℕ) (s : List ℕ) where
   reached (suc r) good = go (reached r (λ k q. good k (omega (arith, q)))) (good r (omega arith))
     where
       go : Reached r → Good newest s r → Reached (suc r)
-      go c g = on (good-passed newest s r (c .held) (c .known) there g)
+      go c g = on (good-passed newest s r (c .kept) (c .known) there g)
         where
           there : fieldAt s r < length s
           there = omega (arith, g .whole)
 
-          on : (h : Held) × ((judgedAt newest (c .held) s r ≡ Next h (sizeOf s r)) × Known s (suc r) h) → Reached (suc r)
-          on (h, (e, k)) = record { held = h; known = k; within = g .whole; same = c .same ∙ sym (step-pass newest (c .held) (fieldAt s r) s there h (sizeOf s r) e) }
+          on : (h : Kept) × ((judgedAt newest (c .kept) s r ≡ Next h (sizeOf s r)) × Known s (suc r) h) → Reached (suc r)
+          on (h, (e, k)) = record { kept = h; known = k; within = g .whole; same = c .same ∙ sym (step-pass newest (c .kept) (fieldAt s r) s there h (sizeOf s r) e) }
 
   within-limit : length s ≤ limit → readAs newest s ≡ saysFrom newest s
   unfolding readAs overLimit
@@ -71,12 +71,12 @@ module _ (newest : ℕ) (s : List ℕ) where
 
   -- ---- with a fault
 
-  at-end : (r : ℕ) → fieldAt s r ≡ length s → (c : Reached r) → saysFrom newest s ≡ ended (c .held) (length s)
+  at-end : (r : ℕ) → fieldAt s r ≡ length s → (c : Reached r) → saysFrom newest s ≡ ended (c .kept) (length s)
   at-end r e c =
       let m : length s ≤ fieldAt s r = omega (arith, e) in
-      c .same ∙ (walk-end newest (c .held) (fieldAt s r) s m ∙ ap (ended (c .held)) e)
+      c .same ∙ (walk-end newest (c .kept) (fieldAt s r) s m ∙ ap (ended (c .kept)) e)
 
-  not-ended : (h : Held) (at : ℕ) → (h .wanted ≡ 5 → ⊥) → ended h at ≡ read.Refused (MalformedExercise at)
+  not-ended : (h : Kept) (at : ℕ) → (h .wanted ≡ 5 → ⊥) → ended h at ≡ read.Refused (MalformedExercise at)
   unfolding ended
   not-ended h at n = rw (ne-eqb (h .wanted) 5 n)
 
@@ -86,27 +86,27 @@ module _ (newest : ℕ) (s : List ℕ) where
   refused-if _ (long m) = rw (lt-ltb limit (length s) m)
   refused-if x (wrong-field fit r good i f) =
       let c = reached r good in
-      within-limit fit ∙ (c .same ∙ step-stop newest (c .held) (fieldAt s r) s i x (wrong-refused newest s r (c .held) (c .known) i f))
+      within-limit fit ∙ (c .same ∙ step-stop newest (c .kept) (fieldAt s r) s i x (wrong-refused newest s r (c .kept) (c .known) i f))
   refused-if _ (missing fit r good e tag f none) =
       let c = reached r good in
-      within-limit fit ∙ (at-end r e c ∙ not-ended (c .held) (length s) (λ w. none (stood s r (c .held) (c .known) tag (f .least) (omega (arith, f .most, w)))))
+      within-limit fit ∙ (at-end r e c ∙ not-ended (c .kept) (length s) (λ w. none (stood s r (c .kept) (c .known) tag (f .least) (omega (arith, f .most, w)))))
 
   -- ---- without
 
-  exercise : Held → Exercise
+  exercise : Kept → Exercise
   exercise h = record { «name_start» = h .«name_start»; «name_length» = h .«name_length»; start = h .start; end = h .end; edition = h .edition }
 
-  is-ended : (h : Held) (at : ℕ) → h .wanted ≡ 5 → ended h at ≡ read.Read (exercise h)
+  is-ended : (h : Kept) (at : ℕ) → h .wanted ≡ 5 → ended h at ≡ read.Read (exercise h)
   unfolding ended exercise
   is-ended h at w = rw (eq-eqb (h .wanted) 5 w)
 
   -- all of the four stood, so none is wanted
-  all-stood : (r : ℕ) (h : Held) → Known s r h → Stands s r 4 → h .wanted ≡ 5
+  all-stood : (r : ℕ) (h : Kept) → Known s r h → Stands s r 4 → h .wanted ≡ 5
   all-stood r h k p =
       let f : Four (tagOf s (p .place)) = record { least = omega (arith, p .tagged); most = omega (arith, p .tagged) } in
       omega (arith, k .below (p .place) (p .before) f, p .tagged, k .most)
 
-  says : (r : ℕ) (h : Held) → Known s r h → h .wanted ≡ 5 → Says s (exercise h)
+  says : (r : ℕ) (h : Kept) → Known s r h → h .wanted ≡ 5 → Says s (exercise h)
   unfolding exercise
   says r h k w =
       let a = k .name (omega (arith, w)) in
@@ -133,8 +133,8 @@ module _ (newest : ℕ) (s : List ℕ) where
   pub reads-if : Faultless newest s → (x : Exercise) × ((readAs newest s ≡ read.Read x) × Says s x)
   reads-if f =
       let c = reached (f .fields) (f .good) in
-      let w = all-stood (f .fields) (c .held) (c .known) (f .all 4 (record { least = omega arith; most = omega arith })) in
-      (exercise (c .held), (within-limit (f .fit) ∙ (at-end (f .fields) (f .end) c ∙ is-ended (c .held) (length s) w), says (f .fields) (c .held) (c .known) w))
+      let w = all-stood (f .fields) (c .kept) (c .known) (f .all 4 (record { least = omega arith; most = omega arith })) in
+      (exercise (c .kept), (within-limit (f .fit) ∙ (at-end (f .fields) (f .end) c ∙ is-ended (c .kept) (length s) w), says (f .fields) (c .kept) (c .known) w))
 
   -- ---- there is a first fault, or none
 
@@ -143,16 +143,16 @@ module _ (newest : ℕ) (s : List ℕ) where
     none : Faultless newest s → Either
 
   ends : length s ≤ limit → (r : ℕ) → AllGood r → fieldAt s r ≡ length s → Either
-  ends fit r good e = go (eqb (c .held .wanted) 5) refl
+  ends fit r good e = go (eqb (c .kept .wanted) 5) refl
     where
       c : Reached r
       c = reached r good
 
-      go : (t : Bool) → eqb (c .held .wanted) 5 ≡ t → Either
-      go true w = none (record { fit = fit; fields = r; good = good; end = e; all = λ tag f. stood s r (c .held) (c .known) tag (f .least) (omega (arith, f .most, eqb-true (c .held .wanted) 5 w)) })
+      go : (t : Bool) → eqb (c .kept .wanted) 5 ≡ t → Either
+      go true w = none (record { fit = fit; fields = r; good = good; end = e; all = λ tag f. stood s r (c .kept) (c .known) tag (f .least) (omega (arith, f .most, eqb-true (c .kept .wanted) 5 w)) })
       go false w =
-          let f : Four (c .held .wanted) = record { least = c .known .least; most = under (c .held .wanted) (c .known .most) (eqb-false (c .held .wanted) 5 w) } in
-          fault _ (missing fit r good e (c .held .wanted) f (not-yet s r (c .held) (c .known) f))
+          let f : Four (c .kept .wanted) = record { least = c .known .least; most = under (c .kept .wanted) (c .known .most) (eqb-false (c .kept .wanted) 5 w) } in
+          fault _ (missing fit r good e (c .kept .wanted) f (not-yet s r (c .kept) (c .known) f))
         where
           under : (n : ℕ) → n ≤ 5 → (n ≡ 5 → ⊥) → n ≤ 4
           under n m q = side (ltb n 5) refl
@@ -184,7 +184,7 @@ module _ (newest : ℕ) (s : List ℕ) where
       next i J (passes h g k) = onward (join g)
 
       go : (t : Bool) → ltb (fieldAt s r) (length s) ≡ t → Step r
-      go true e = next (ltb-true _ _ e) (judgedAt newest (c .held) s r) (field-said newest s r (c .held) (c .known) (ltb-true _ _ e))
+      go true e = next (ltb-true _ _ e) (judgedAt newest (c .kept) s r) (field-said newest s r (c .kept) (c .known) (ltb-true _ _ e))
       go false e = over (ends fit r good (omega (arith, ltb-false (fieldAt s r) (length s) e, c .within)))
 
   -- from field r on, with so many bytes left at most

@@ -10,7 +10,7 @@ use lib.ListN.{length, getD, take, drop, length-append}
 use lib.Seq.{take-append-seam, drop-append-seam, take-at, drop-at}
 use borrow.Author.Tests.{lt-ltb, le-ltb, eqb-true, ne-eqb}
 use Rattle.exercise.specs.Numbers.{bigFrom, bigBytes, length-bigBytes, big-back}
-use Rattle.exercise.specs.Reading.{knownTo, bad, nameField, startField, endField, editionField, valued, sized, judge, ended, begun, heldBy, lengthBy, unless, walk, saysFrom}
+use Rattle.exercise.specs.Reading.{knownTo, bad, nameField, startField, endField, editionField, valued, sized, judge, ended, begun, keptBy, lengthBy, unless, walk, saysFrom}
 use Rattle.exercise.specs.Writing.{nameHead, numberField, editionBytes, textOf}
 use Rattle.exercise.specs.Laws.{walk-pass, walk-stop, valued-length}
 use Rattle.refusal.specs.declared.Refusal.{Refusal}
@@ -18,13 +18,13 @@ use Rattle.refusal.specs.declared.Refusal.the-variants as refused
 use Rattle.exercise.specs.declared.Exercise.{Exercise}
 use Rattle.exercise.specs.declared.ExerciseRead.{ExerciseRead}
 use Rattle.exercise.specs.declared.ExerciseRead.the-variants as read
-use Rattle.exercise.specs.declared.Held.{Held}
+use Rattle.exercise.specs.declared.Kept.{Kept}
 use Rattle.exercise.specs.declared.Judged.{Judged}
 use Rattle.exercise.specs.declared.Judged.the-variants.{Next, Refused}
 
 -- ---- one whole field at the front
 
-module _ (newest : ℕ) (h : Held) (at tag a b : ℕ) (body rest : List ℕ) (small : tag < 128) (size : a * 256 + b ≡ length body) where
+module _ (newest : ℕ) (h : Kept) (at tag a b : ℕ) (body rest : List ℕ) (small : tag < 128) (size : a * 256 + b ≡ length body) where
   -- it is judged by its own bytes, whatever follows
   pub judge-field : judge newest h at tag (a ∷ b ∷ (body ++ rest)) ≡ valued newest h at tag (length body) body
   unfolding judge sized
@@ -32,7 +32,7 @@ module _ (newest : ℕ) (h : Held) (at tag a b : ℕ) (body rest : List ℕ) (sm
       let l : length body ≤ length (body ++ rest) = omega (arith, length-append body rest) in
       rw (lt-ltb tag 128 small, size, le-ltb (length (body ++ rest)) (length body) l, take-append-seam body rest)
 
-  pub field-passes : (g : Held) → valued newest h at tag (length body) body ≡ Next g (length body)
+  pub field-passes : (g : Kept) → valued newest h at tag (length body) body ≡ Next g (length body)
       → walk newest h at 0 (tag ∷ a ∷ b ∷ (body ++ rest)) ≡ walk newest g (at + (3 + length body)) 0 rest
   field-passes g e =
       let q : 2 + length body ≡ suc (suc (length body)) = omega arith in
@@ -82,13 +82,13 @@ to-edition newest name start end edition n s e = name-part ∙ (start-part ∙ (
     E : List ℕ
     E = bigBytes 8 end
 
-    h₁ : Held
+    h₁ : Kept
     h₁ = record { wanted = 2; «name_start» = 3; «name_length» = length name; start = 0; end = 0; edition = 0 }
 
-    h₂ : Held
+    h₂ : Kept
     h₂ = record { wanted = 3; «name_start» = 3; «name_length» = length name; start = start; end = 0; edition = 0 }
 
-    h₃ : Held
+    h₃ : Kept
     h₃ = record { wanted = 4; «name_start» = 3; «name_length» = length name; start = start; end = end; edition = 0 }
 
     place : 0 + (3 + length name) + (3 + length S) + (3 + length E) ≡ length name + 25
@@ -136,18 +136,18 @@ pub record Unneeded (tag : ℕ) : Type 0 where
 abbrev pub fieldOf : ℕ → List ℕ → List ℕ
 fieldOf tag body = tag ∷ length body / 256 ∷ length body % 256 ∷ body
 
-passed-over : (newest : ℕ) (h : Held) (at tag n : ℕ) (body : List ℕ) → Unneeded tag → valued newest h at tag n body ≡ Next h n
+passed-over : (newest : ℕ) (h : Kept) (at tag n : ℕ) (body : List ℕ) → Unneeded tag → valued newest h at tag n body ≡ Next h n
 unfolding valued
 passed-over newest h at tag n body u = rw (ne-eqb tag 1 (u .no-name), ne-eqb tag 2 (u .no-start), ne-eqb tag 3 (u .no-end), ne-eqb tag 4 (u .no-edition))
 
-walk-over : (newest : ℕ) (h : Held) (at tag : ℕ) (body rest : List ℕ) → Unneeded tag → length body ≤ 65535
+walk-over : (newest : ℕ) (h : Kept) (at tag : ℕ) (body rest : List ℕ) → Unneeded tag → length body ≤ 65535
     → walk newest h at 0 (fieldOf tag body ++ rest) ≡ walk newest h (at + (3 + length body)) 0 rest
 walk-over newest h at tag body rest u n =
     field-passes newest h at tag (length body / 256) (length body % 256) body rest (u .below) (omega arith) h (passed-over newest h at tag (length body) body u)
 
 -- ---- the same fields at another offset
 
--- a refusal, and what is held, d or c bytes later
+-- a refusal, and what is kept, d or c bytes later
 abbrev pub laterRefusal : ℕ → Refusal → Refusal
 laterRefusal d refused.TooLong = refused.TooLong
 laterRefusal d (refused.EmptyDefinition x y) = refused.EmptyDefinition x y
@@ -192,7 +192,7 @@ laterRefusal d refused.TooManyRegions = refused.TooManyRegions
 laterRefusal d refused.TooFewStarts = refused.TooFewStarts
 laterRefusal d (refused.NoIndexFits x y) = refused.NoIndexFits x y
 
-abbrev later : ℕ → Held → Held
+abbrev later : ℕ → Kept → Kept
 later c h = record { wanted = h .wanted; «name_start» = h .«name_start» + c; «name_length» = h .«name_length»; start = h .start; end = h .end; edition = h .edition }
 
 abbrev laterJudged : ℕ → ℕ → Judged → Judged
@@ -210,7 +210,7 @@ later-either : (t : Bool) (c d : ℕ) (x′ x y′ y : Judged) → x′ ≡ late
 later-either true c d x′ x y′ y p q = p
 later-either false c d x′ x y′ y p q = q
 
-module _ (newest : ℕ) (h : Held) (at n : ℕ) (body : List ℕ) (c d : ℕ) where
+module _ (newest : ℕ) (h : Kept) (at n : ℕ) (body : List ℕ) (c d : ℕ) where
   name-later : eqb (h .wanted) 1 ≡ false → nameField (later c h) (at + d) n ≡ laterJudged c d (nameField h at n)
   unfolding nameField bad
   name-later w = rw w
@@ -234,7 +234,7 @@ module _ (newest : ℕ) (h : Held) (at n : ℕ) (body : List ℕ) (c d : ℕ) wh
       later-either (eqb tag 1) c d _ _ _ _ (name-later w)
       (later-either (eqb tag 2) c d _ _ _ _ start-later (later-either (eqb tag 3) c d _ _ _ _ end-later (later-either (eqb tag 4) c d _ _ _ _ edition-later refl)))
 
-judge-later : (newest : ℕ) (h : Held) (at tag : ℕ) (s : List ℕ) (c d : ℕ) → eqb (h .wanted) 1 ≡ false
+judge-later : (newest : ℕ) (h : Kept) (at tag : ℕ) (s : List ℕ) (c d : ℕ) → eqb (h .wanted) 1 ≡ false
     → judge newest (later c h) (at + d) tag s ≡ laterJudged c d (judge newest h at tag s)
 unfolding judge sized bad
 judge-later newest h at tag s c d w = later-either (ltb tag 128) c d _ _ _ _ (two s) refl
@@ -253,7 +253,7 @@ late-either : (t : Bool) (x y : Judged) → Late x → Late y → Late (cond t x
 late-either true x y p q = p
 late-either false x y p q = q
 
-judge-late : (newest : ℕ) (h : Held) (at tag : ℕ) (s : List ℕ) → eqb (h .wanted) 1 ≡ false → Late (judge newest h at tag s)
+judge-late : (newest : ℕ) (h : Kept) (at tag : ℕ) (s : List ℕ) → eqb (h .wanted) 1 ≡ false → Late (judge newest h at tag s)
 unfolding judge sized valued nameField startField endField editionField bad
 judge-late newest h at tag s w = late-either (ltb tag 128) _ _ (two s) refl
   where
@@ -270,7 +270,7 @@ judge-late newest h at tag s w = late-either (ltb tag 128) _ _ (two s) refl
     two (a ∷ []) = refl
     two (a ∷ b ∷ l) = late-either (ltb (length l) (a * 256 + b)) _ _ refl (field (a * 256 + b) (take (a * 256 + b) l))
 
-walk-later : (newest : ℕ) (h : Held) (at k : ℕ) (s : List ℕ) (c d : ℕ) → eqb (h .wanted) 1 ≡ false
+walk-later : (newest : ℕ) (h : Kept) (at k : ℕ) (s : List ℕ) (c d : ℕ) → eqb (h .wanted) 1 ≡ false
     → walk newest (later c h) (at + d) k s ≡ laterRead c d (walk newest h at k s)
 unfolding walk ended
 walk-later newest h at k [] c d w = go (eqb (h .wanted) 5)
@@ -283,9 +283,9 @@ walk-later newest h at k [] c d w = go (eqb (h .wanted) 5)
 walk-later newest h at zero (tag ∷ s) c d w =
     rw (judge-later newest h at tag s c d w) (go (judge newest h at tag s) (judge-late newest h at tag s w) (λ g n v. walk-later newest g (suc at) (2 + n) s c d v))
   where
-    go : (J : Judged) → Late J → ((g : Held) (n : ℕ) → eqb (g .wanted) 1 ≡ false → walk newest (later c g) (suc at + d) (2 + n) s ≡ laterRead c d (walk newest g (suc at) (2 + n) s))
-        → unless (laterJudged c d J) (walk newest (heldBy (laterJudged c d J)) (suc (at + d)) (2 + lengthBy (laterJudged c d J)) s)
-        ≡ laterRead c d (unless J (walk newest (heldBy J) (suc at) (2 + lengthBy J) s))
+    go : (J : Judged) → Late J → ((g : Kept) (n : ℕ) → eqb (g .wanted) 1 ≡ false → walk newest (later c g) (suc at + d) (2 + n) s ≡ laterRead c d (walk newest g (suc at) (2 + n) s))
+        → unless (laterJudged c d J) (walk newest (keptBy (laterJudged c d J)) (suc (at + d)) (2 + lengthBy (laterJudged c d J)) s)
+        ≡ laterRead c d (unless J (walk newest (keptBy J) (suc at) (2 + lengthBy J) s))
     go (Next g n) v more = rw (← suc-add at d) (more g n v)
     go (Refused r) v more = refl
 walk-later newest h at (suc k) (b ∷ s) c d w = rw (← suc-add at d) (walk-later newest h (suc at) k s c d w)
@@ -294,7 +294,7 @@ walk-later newest h at (suc k) (b ∷ s) c d w = rw (← suc-add at d) (walk-lat
 
 data Begins (d : ℕ) (J′ J : Judged) : Type 0 where
   again : (n : ℕ) → J′ ≡ Next begun n → J ≡ Next begun n → Begins d J′ J
-  named : (g : Held) (n : ℕ) → eqb (g .wanted) 1 ≡ false → J′ ≡ Next (later d g) n → J ≡ Next g n → Begins d J′ J
+  named : (g : Kept) (n : ℕ) → eqb (g .wanted) 1 ≡ false → J′ ≡ Next (later d g) n → J ≡ Next g n → Begins d J′ J
   stops : (r : Refusal) → J′ ≡ Refused (laterRefusal d r) → J ≡ Refused r → Begins d J′ J
 
 begins-either : (t : Bool) (d : ℕ) (x′ x y′ y : Judged) → Begins d x′ x → Begins d y′ y → Begins d (cond t x′ y′) (cond t x y)
@@ -331,7 +331,7 @@ walk-begun newest at zero (tag ∷ s) d =
     go (judge newest begun (at + d) tag s) (judge newest begun at tag s) (begins newest at tag s d) (λ n. walk-begun newest (suc at) (2 + n) s d)
   where
     go : (J′ J : Judged) → Begins d J′ J → ((n : ℕ) → walk newest begun (suc at + d) (2 + n) s ≡ laterRead d d (walk newest begun (suc at) (2 + n) s))
-        → unless J′ (walk newest (heldBy J′) (suc (at + d)) (2 + lengthBy J′) s) ≡ laterRead d d (unless J (walk newest (heldBy J) (suc at) (2 + lengthBy J) s))
+        → unless J′ (walk newest (keptBy J′) (suc (at + d)) (2 + lengthBy J′) s) ≡ laterRead d d (unless J (walk newest (keptBy J) (suc at) (2 + lengthBy J) s))
     go J′ J (again n p q) more = rw (p, q, ← suc-add at d) (more n)
     go J′ J (named g n v p q) more = rw (p, q, ← suc-add at d) (walk-later newest g (suc at) (2 + n) s d d v)
     go J′ J (stops r p q) more = rw (p, q)
@@ -356,33 +356,33 @@ pub data Alike (d : ℕ) (r′ r : ExerciseRead) : Type 0 where
   behind : r′ ≡ laterRead d d r → Alike d r′ r
   before : r′ ≡ laterRead 0 d r → Alike d r′ r
 
--- nothing is held, or the name
-data Begun (h : Held) : Type 0 where
+-- nothing is kept, or the name
+data Begun (h : Kept) : Type 0 where
   unnamed : h ≡ begun → Begun h
-  name-held : eqb (h .wanted) 1 ≡ false → Begun h
+  name-kept : eqb (h .wanted) 1 ≡ false → Begun h
 
-later-none : (h : Held) → later 0 h ≡ h
+later-none : (h : Kept) → later 0 h ≡ h
 later-none h = rw (add-zero (h .«name_start»))
 
 unmoved : (e : Exercise) → e ≡ record { «name_start» = e .«name_start» + 0; «name_length» = e .«name_length»; start = e .start; end = e .end; edition = e .edition }
 unmoved e = rw (add-zero (e .«name_start»))
 
-still-begun : (newest : ℕ) (h : Held) (at tag : ℕ) (s : List ℕ) → Begun h → (g : Held) (n : ℕ) → judge newest h at tag s ≡ Next g n → Begun g
+still-begun : (newest : ℕ) (h : Kept) (at tag : ℕ) (s : List ℕ) → Begun h → (g : Kept) (n : ℕ) → judge newest h at tag s ≡ Next g n → Begun g
 still-begun newest h at tag s (unnamed b) g n e = go (begins newest at tag s 0) (rw b at e)
   where
     go : Begins 0 (judge newest begun (at + 0) tag s) (judge newest begun at tag s) → judge newest begun at tag s ≡ Next g n → Begun g
     go (again m p q) e = let v : g ≡ begun = cc in unnamed v
-    go (named f m v p q) e = let w : g ≡ f = cc in name-held (rw w v)
+    go (named f m v p q) e = let w : g ≡ f = cc in name-kept (rw w v)
     go (stops r p q) e = let z : _≡_ {A = ℕ} 0 1 = cc in absurd (omega arith)
-still-begun newest h at tag s (name-held w) g n e = name-held (rw e at (judge-late newest h at tag s w))
+still-begun newest h at tag s (name-kept w) g n e = name-kept (rw e at (judge-late newest h at tag s w))
 
 module _ (newest utag : ℕ) (ubody s : List ℕ) (u : Unneeded utag) (long : length ubody ≤ 65535) where
-  between-none : (h : Held) (at : ℕ) → Begun h → Alike (3 + length ubody) (walk newest h at 0 (fieldOf utag ubody ++ s)) (walk newest h at 0 s)
+  between-none : (h : Kept) (at : ℕ) → Begun h → Alike (3 + length ubody) (walk newest h at 0 (fieldOf utag ubody ++ s)) (walk newest h at 0 s)
   between-none h at (unnamed b) = rw b (behind (walk-over newest begun at utag ubody s u long ∙ walk-begun newest at 0 s (3 + length ubody)))
-  between-none h at (name-held w) =
-      before (walk-over newest h at utag ubody s u long ∙ (ap (λ (g : Held). walk newest g (at + (3 + length ubody)) 0 s) (sym (later-none h)) ∙ walk-later newest h at 0 s 0 (3 + length ubody) w))
+  between-none h at (name-kept w) =
+      before (walk-over newest h at utag ubody s u long ∙ (ap (λ (g : Kept). walk newest g (at + (3 + length ubody)) 0 s) (sym (later-none h)) ∙ walk-later newest h at 0 s 0 (3 + length ubody) w))
 
-  between : {pre : List ℕ} → Fields pre → (h : Held) (at : ℕ) → Begun h
+  between : {pre : List ℕ} → Fields pre → (h : Kept) (at : ℕ) → Begun h
       → Alike (3 + length ubody) (walk newest h at 0 (pre ++ (fieldOf utag ubody ++ s))) (walk newest h at 0 (pre ++ s))
   between none h at b = between-none h at b
   between (field tag a b body rest small size more) h at w =
@@ -390,7 +390,7 @@ module _ (newest utag : ℕ) (ubody s : List ℕ) (u : Unneeded utag) (long : le
       (go (valued newest h at tag (length body) body) refl (λ g v. between more g (at + (3 + length body)) v))
     where
       go : (J : Judged) → valued newest h at tag (length body) body ≡ J
-          → ((g : Held) → Begun g → Alike (3 + length ubody) (walk newest g (at + (3 + length body)) 0 (rest ++ (fieldOf utag ubody ++ s))) (walk newest g (at + (3 + length body)) 0 (rest ++ s)))
+          → ((g : Kept) → Begun g → Alike (3 + length ubody) (walk newest g (at + (3 + length body)) 0 (rest ++ (fieldOf utag ubody ++ s))) (walk newest g (at + (3 + length body)) 0 (rest ++ s)))
           → Alike (3 + length ubody) (walk newest h at 0 (tag ∷ a ∷ b ∷ (body ++ (rest ++ (fieldOf utag ubody ++ s))))) (walk newest h at 0 (tag ∷ a ∷ b ∷ (body ++ (rest ++ s))))
       go (Next g n) e onward =
           let m : n ≡ length body = valued-length newest h at tag (length body) body g n e in

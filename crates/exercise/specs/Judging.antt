@@ -15,24 +15,24 @@ use Rattle.exercise.specs.Laws.{judge-needed, judge-short, judge-cut, ju
 use Rattle.exercise.specs.FirstFault.{fieldAt, tagOf, sizeOf, valueOf, Four, InTurn, RightSize, Good, FieldFault}
 use Rattle.exercise.specs.FirstFault.FieldFault.{needed, cut-off, out-of-turn, wrong-size, other-edition}
 use Rattle.exercise.specs.Turns.{Known, in-turn, turn-wanted, passed-known, name-known, start-known, end-known, edition-known}
-use Rattle.exercise.specs.declared.Held.{Held}
+use Rattle.exercise.specs.declared.Kept.{Kept}
 use Rattle.exercise.specs.declared.Judged.{Judged}
 use Rattle.exercise.specs.declared.Judged.the-variants.{Next, Refused}
 
 -- a field is good, and is passed; or it is wrong, and is refused so
 pub data FieldSaid (newest : ℕ) (s : List ℕ) (r : ℕ) : Judged → Type 0 where
-  passes : (g : Held) → Good newest s r → Known s (suc r) g → FieldSaid newest s r (Next g (sizeOf s r))
+  passes : (g : Kept) → Good newest s r → Known s (suc r) g → FieldSaid newest s r (Next g (sizeOf s r))
   stops : {x : Refusal} → FieldFault newest s r x → FieldSaid newest s r (Refused x)
 
 said-either : (newest : ℕ) (s : List ℕ) (r : ℕ) (t : Bool) (x y : Judged) → (t ≡ true → FieldSaid newest s r x) → (t ≡ false → FieldSaid newest s r y) → FieldSaid newest s r (cond t x y)
 said-either newest s r true x y p q = p refl
 said-either newest s r false x y p q = q refl
 
--- how field r is judged, behind what is held
-abbrev pub judgedAt : ℕ → Held → List ℕ → ℕ → Judged
+-- how field r is judged, behind what is kept
+abbrev pub judgedAt : ℕ → Kept → List ℕ → ℕ → Judged
 judgedAt newest h s r = judge newest h (fieldAt s r) (tagOf s r) (drop (fieldAt s r + 1) s)
 
-module _ (newest : ℕ) (s : List ℕ) (r : ℕ) (h : Held) where
+module _ (newest : ℕ) (s : List ℕ) (r : ℕ) (h : Kept) where
   -- one that is whole, by its tag
   whole-judged : tagOf s r < 128 → fieldAt s (suc r) ≤ length s → judgedAt newest h s r ≡ valued newest h (fieldAt s r) (tagOf s r) (sizeOf s r) (valueOf s r)
   unfolding fieldAt
@@ -186,7 +186,7 @@ module _ (newest : ℕ) (s : List ℕ) (r : ℕ) (h : Held) where
 
     -- ---- a good field is passed
 
-    pub good-passed : fieldAt s r < length s → Good newest s r → (g : Held) × ((judgedAt newest h s r ≡ Next g (sizeOf s r)) × Known s (suc r) g)
+    pub good-passed : fieldAt s r < length s → Good newest s r → (g : Kept) × ((judgedAt newest h s r ≡ Next g (sizeOf s r)) × Known s (suc r) g)
     good-passed i good = go (judgedAt newest h s r) refl (field-said i)
       where
         wrong : {x : Refusal} → FieldFault newest s r x → ⊥
@@ -196,7 +196,7 @@ module _ (newest : ℕ) (s : List ℕ) (r : ℕ) (h : Held) where
         wrong (wrong-size m w u n) = n (good .size)
         wrong (other-edition w e u z n) = true≢false (sym (good .known e) ∙ n)
 
-        go : (J : Judged) → judgedAt newest h s r ≡ J → FieldSaid newest s r J → (g : Held) × ((judgedAt newest h s r ≡ Next g (sizeOf s r)) × Known s (suc r) g)
+        go : (J : Judged) → judgedAt newest h s r ≡ J → FieldSaid newest s r J → (g : Kept) × ((judgedAt newest h s r ≡ Next g (sizeOf s r)) × Known s (suc r) g)
         go J e (passes g _ v) = (g, (e, v))
         go J e (stops f) = absurd (wrong f)
 

@@ -12,9 +12,9 @@ use lib.Seq.{drop-cons, drop-drop}
 use borrow.Author.Tests.{lt-ltb, le-ltb, ltb-false, leb-true}
 use Rattle.refusal.specs.declared.Refusal.{Refusal}
 use Rattle.refusal.specs.declared.Refusal.the-variants.{UnknownNeededTag}
-use Rattle.exercise.specs.Reading.{knownTo, bad, nameField, startField, endField, editionField, valued, sized, judge, ended, heldBy, lengthBy, unless, walk}
+use Rattle.exercise.specs.Reading.{knownTo, bad, nameField, startField, endField, editionField, valued, sized, judge, ended, keptBy, lengthBy, unless, walk}
 use Rattle.exercise.specs.declared.ExerciseRead.the-variants as read
-use Rattle.exercise.specs.declared.Held.{Held}
+use Rattle.exercise.specs.declared.Kept.{Kept}
 use Rattle.exercise.specs.declared.Judged.{Judged}
 use Rattle.exercise.specs.declared.Judged.the-variants.{Next, Refused}
 
@@ -29,7 +29,7 @@ long-either : (t : Bool) (n : ℕ) (x y : Judged) → Long n x → Long n y → 
 long-either true n x y p q = p
 long-either false n x y p q = q
 
-valued-long : (newest : ℕ) (h : Held) (at tag n : ℕ) (s : List ℕ) → Long n (valued newest h at tag n s)
+valued-long : (newest : ℕ) (h : Kept) (at tag n : ℕ) (s : List ℕ) → Long n (valued newest h at tag n s)
 unfolding valued nameField startField endField editionField bad
 valued-long newest h at tag n s =
     long-either (eqb tag 1) n _ _ (long-either (eqb (h .wanted) 1) n _ _ refl refl)
@@ -38,11 +38,11 @@ valued-long newest h at tag n s =
     (long-either (eqb tag 4) n _ _ (long-either (eqb (h .wanted) 4) n _ _ (long-either (eqb n 1) n _ _ (long-either (knownTo newest (getD s 0 0)) n _ _ refl refl) refl) refl)
     refl)))
 
-pub valued-length : (newest : ℕ) (h : Held) (at tag n : ℕ) (s : List ℕ) (g : Held) (m : ℕ) → valued newest h at tag n s ≡ Next g m → m ≡ n
+pub valued-length : (newest : ℕ) (h : Kept) (at tag n : ℕ) (s : List ℕ) (g : Kept) (m : ℕ) → valued newest h at tag n s ≡ Next g m → m ≡ n
 valued-length newest h at tag n s g m e = rw e at (valued-long newest h at tag n s)
 
 -- what is judged lies in the bytes
-judge-within : (newest : ℕ) (h : Held) (at tag : ℕ) (s : List ℕ) (g : Held) (m : ℕ) → judge newest h at tag s ≡ Next g m → 2 + m ≤ length s
+judge-within : (newest : ℕ) (h : Kept) (at tag : ℕ) (s : List ℕ) (g : Kept) (m : ℕ) → judge newest h at tag s ≡ Next g m → 2 + m ≤ length s
 unfolding judge sized bad
 judge-within newest h at tag s g m = tagged (ltb tag 128)
   where
@@ -61,7 +61,7 @@ judge-within newest h at tag s g m = tagged (ltb tag 128)
 
 -- ---- a field at an offset of some bytes
 
-module _ (newest : ℕ) (h : Held) (at tag : ℕ) where
+module _ (newest : ℕ) (h : Kept) (at tag : ℕ) where
   pub judge-needed : (s : List ℕ) → 128 ≤ tag → Refused (UnknownNeededTag at) ≡ judge newest h at tag s
   unfolding judge sized bad
   judge-needed s k = rw (le-ltb tag 128 k)
@@ -93,36 +93,36 @@ module _ (newest : ℕ) (h : Held) (at tag : ℕ) where
 -- ---- the walk
 
 module _ (newest : ℕ) where
-  pub walk-skip : (h : Held) (at k : ℕ) (s : List ℕ) → k ≤ length s → walk newest h at k s ≡ walk newest h (at + k) 0 (drop k s)
+  pub walk-skip : (h : Kept) (at k : ℕ) (s : List ℕ) → k ≤ length s → walk newest h at k s ≡ walk newest h (at + k) 0 (drop k s)
   unfolding walk
   walk-skip h at zero s z = rw (add-zero at)
   walk-skip h at (suc k) [] z = absurd (omega arith)
   walk-skip h at (suc k) (b ∷ s) z = rw (add-suc at k, ← suc-add at k) (walk-skip h (suc at) k s (omega arith))
 
-  pub walk-end : (h : Held) (at : ℕ) (s : List ℕ) → length s ≤ at → walk newest h at 0 (drop at s) ≡ ended h at
+  pub walk-end : (h : Kept) (at : ℕ) (s : List ℕ) → length s ≤ at → walk newest h at 0 (drop at s) ≡ ended h at
   unfolding walk
   walk-end h at s z = rw (drop-of-length-le s z)
 
   -- one field refused, and one passed
-  pub walk-stop : (h : Held) (at tag : ℕ) (s : List ℕ) (r : Refusal) → judge newest h at tag s ≡ Refused r → walk newest h at 0 (tag ∷ s) ≡ read.Refused r
+  pub walk-stop : (h : Kept) (at tag : ℕ) (s : List ℕ) (r : Refusal) → judge newest h at tag s ≡ Refused r → walk newest h at 0 (tag ∷ s) ≡ read.Refused r
   unfolding walk
   walk-stop h at tag s r e = rw e
 
-  pub walk-pass : (h : Held) (at tag : ℕ) (s : List ℕ) (g : Held) (n : ℕ) → judge newest h at tag s ≡ Next g n → walk newest h at 0 (tag ∷ s) ≡ walk newest g (at + (3 + n)) 0 (drop (2 + n) s)
+  pub walk-pass : (h : Kept) (at tag : ℕ) (s : List ℕ) (g : Kept) (n : ℕ) → judge newest h at tag s ≡ Next g n → walk newest h at 0 (tag ∷ s) ≡ walk newest g (at + (3 + n)) 0 (drop (2 + n) s)
   unfolding walk
   walk-pass h at tag s g n e =
       let q : suc at + (2 + n) ≡ at + (3 + n) = omega arith in
       rw e (walk-skip g (suc at) (2 + n) s (judge-within newest h at tag s g n e) ∙ rw q)
 
   -- at an offset of some bytes
-  module _ (h : Held) (at : ℕ) (s : List ℕ) (i : at < length s) where
+  module _ (h : Kept) (at : ℕ) (s : List ℕ) (i : at < length s) where
     pub step-stop : (r : Refusal) → judge newest h at (getD s at 0) (drop (at + 1) s) ≡ Refused r → walk newest h at 0 (drop at s) ≡ read.Refused r
     step-stop r e = rw (drop-cons s at 0 i, ← add-one at) (walk-stop h at (getD s at 0) (drop (at + 1) s) r e)
 
-    pub step-within : (g : Held) (n : ℕ) → judge newest h at (getD s at 0) (drop (at + 1) s) ≡ Next g n → at + 3 + n ≤ length s
+    pub step-within : (g : Kept) (n : ℕ) → judge newest h at (getD s at 0) (drop (at + 1) s) ≡ Next g n → at + 3 + n ≤ length s
     step-within g n e = omega (arith, judge-within newest h at (getD s at 0) (drop (at + 1) s) g n e, length-drop (at + 1) s)
 
-    pub step-pass : (g : Held) (n : ℕ) → judge newest h at (getD s at 0) (drop (at + 1) s) ≡ Next g n → walk newest g (at + 3 + n) 0 (drop (at + 3 + n) s) ≡ walk newest h at 0 (drop at s)
+    pub step-pass : (g : Kept) (n : ℕ) → judge newest h at (getD s at 0) (drop (at + 1) s) ≡ Next g n → walk newest g (at + 3 + n) 0 (drop (at + 3 + n) s) ≡ walk newest h at 0 (drop at s)
     step-pass g n e =
         let q : at + 1 + (2 + n) ≡ at + 3 + n = omega arith in
         let p : at + (3 + n) ≡ at + 3 + n = omega arith in

@@ -10,7 +10,7 @@ use Rattle.exercise.specs.Numbers.{bigFrom}
 use Rattle.exercise.specs.declared.Exercise.{Exercise}
 use Rattle.exercise.specs.declared.ExerciseRead.{ExerciseRead}
 use Rattle.exercise.specs.declared.ExerciseRead.the-variants as read
-use Rattle.exercise.specs.declared.Held.{Held}
+use Rattle.exercise.specs.declared.Kept.{Kept}
 use Rattle.exercise.specs.declared.Judged.{Judged}
 use Rattle.exercise.specs.declared.Judged.the-variants.{Next, Refused}
 
@@ -18,18 +18,18 @@ use Rattle.exercise.specs.declared.Judged.the-variants.{Next, Refused}
 unfoldable pub knownTo : ℕ → ℕ → Bool
 knownTo newest e = not (eqb e 0) && leb e newest
 
--- ---- one field: what is held before it, its offset, its length, and its bytes
+-- ---- one field: what is kept before it, its offset, its length, and its bytes
 
 unfoldable pub bad : ℕ → Judged
 bad at = Refused (MalformedExercise at)
 
-unfoldable pub nameField : Held → ℕ → ℕ → Judged
+unfoldable pub nameField : Kept → ℕ → ℕ → Judged
 nameField h at n =
     cond (eqb (h .wanted) 1)
     (Next (record { wanted = 2; «name_start» = at + 3; «name_length» = n; start = h .start; end = h .end; edition = h .edition }) n)
     (bad at)
 
-unfoldable pub startField : Held → ℕ → ℕ → List ℕ → Judged
+unfoldable pub startField : Kept → ℕ → ℕ → List ℕ → Judged
 startField h at n s =
     cond (eqb (h .wanted) 2)
     (cond (eqb n 8)
@@ -37,7 +37,7 @@ startField h at n s =
     (bad at))
     (bad at)
 
-unfoldable pub endField : Held → ℕ → ℕ → List ℕ → Judged
+unfoldable pub endField : Kept → ℕ → ℕ → List ℕ → Judged
 endField h at n s =
     cond (eqb (h .wanted) 3)
     (cond (eqb n 8)
@@ -45,7 +45,7 @@ endField h at n s =
     (bad at))
     (bad at)
 
-unfoldable pub editionField : ℕ → Held → ℕ → ℕ → List ℕ → Judged
+unfoldable pub editionField : ℕ → Kept → ℕ → ℕ → List ℕ → Judged
 editionField newest h at n s =
     cond (eqb (h .wanted) 4)
     (cond (eqb n 1)
@@ -56,7 +56,7 @@ editionField newest h at n s =
     (bad at)
 
 -- by its tag; a tag other than the four is passed over
-unfoldable pub valued : ℕ → Held → ℕ → ℕ → ℕ → List ℕ → Judged
+unfoldable pub valued : ℕ → Kept → ℕ → ℕ → ℕ → List ℕ → Judged
 valued newest h at tag n s =
     cond (eqb tag 1) (nameField h at n)
     (cond (eqb tag 2) (startField h at n s)
@@ -64,31 +64,31 @@ valued newest h at tag n s =
     (cond (eqb tag 4) (editionField newest h at n s) (Next h n))))
 
 -- its length, high byte first, if its bytes are all there
-unfoldable pub sized : ℕ → Held → ℕ → ℕ → List ℕ → Judged
+unfoldable pub sized : ℕ → Kept → ℕ → ℕ → List ℕ → Judged
 sized newest h at tag [] = bad at
 sized newest h at tag (a ∷ []) = bad at
 sized newest h at tag (a ∷ b ∷ s) = cond (ltb (length s) (a * 256 + b)) (bad at) (valued newest h at tag (a * 256 + b) (take (a * 256 + b) s))
 
 -- a tag from 128 on is refused as soon as it is met
-unfoldable pub judge : ℕ → Held → ℕ → ℕ → List ℕ → Judged
+unfoldable pub judge : ℕ → Kept → ℕ → ℕ → List ℕ → Judged
 judge newest h at tag s = cond (ltb tag 128) (sized newest h at tag s) (Refused (UnknownNeededTag at))
 
 -- ---- all fields
 
 -- at the end, at an offset: all four were there, or the next of them is missing
-unfoldable pub ended : Held → ℕ → ExerciseRead
+unfoldable pub ended : Kept → ℕ → ExerciseRead
 ended h at =
     cond (eqb (h .wanted) 5)
     (read.Read (record { «name_start» = h .«name_start»; «name_length» = h .«name_length»; start = h .start; end = h .end; edition = h .edition }))
     (read.Refused (MalformedExercise at))
 
-abbrev pub begun : Held
+abbrev pub begun : Kept
 begun = record { wanted = 1; «name_start» = 0; «name_length» = 0; start = 0; end = 0; edition = 0 }
 
 -- behind a field
-abbrev pub heldBy : Judged → Held
-heldBy (Next h n) = h
-heldBy (Refused r) = begun
+abbrev pub keptBy : Judged → Kept
+keptBy (Next h n) = h
+keptBy (Refused r) = begun
 
 abbrev pub lengthBy : Judged → ℕ
 lengthBy (Next h n) = n
@@ -99,10 +99,10 @@ unless (Next h n) x = x
 unless (Refused r) x = read.Refused r
 
 -- from an offset on, where k bytes more belong to the field before
-unfoldable pub walk : ℕ → Held → ℕ → ℕ → List ℕ → ExerciseRead
+unfoldable pub walk : ℕ → Kept → ℕ → ℕ → List ℕ → ExerciseRead
 walk newest h at k [] = ended h at
 walk newest h at zero (tag ∷ s) =
-    unless (judge newest h at tag s) (walk newest (heldBy (judge newest h at tag s)) (suc at) (2 + lengthBy (judge newest h at tag s)) s)
+    unless (judge newest h at tag s) (walk newest (keptBy (judge newest h at tag s)) (suc at) (2 + lengthBy (judge newest h at tag s)) s)
 walk newest h at (suc k) (b ∷ s) = walk newest h (suc at) k s
 
 unfoldable pub saysFrom : ℕ → List ℕ → ExerciseRead

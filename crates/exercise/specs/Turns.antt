@@ -1,5 +1,5 @@
 -- What the reader holds behind the first r fields, all of them good: the tag wanted next is the first of the four that has not stood, and what is
--- held is in the fields. So a field is in its turn exactly if its tag is the wanted one.
+-- kept is in the fields. So a field is in its turn exactly if its tag is the wanted one.
 use Prim.Native.Nat.{ℕ, zero, suc, _+_, _-_, _*_, _≤_, _<_}
 use mathlib.Core.Path.{_≡_, refl, sym, ap, _∙_}
 use mathlib.Core.Bool.{Bool, true, false, cond}
@@ -11,7 +11,7 @@ use lib.ListN.{length, take, drop, getD}
 use borrow.Author.Tests.{eqb-true, eqb-false, ltb-true, ltb-false}
 use Rattle.exercise.specs.Numbers.{bigFrom}
 use Rattle.exercise.specs.FirstFault.{fieldAt, tagOf, sizeOf, valueOf, Four, Stands, InTurn}
-use Rattle.exercise.specs.declared.Held.{Held}
+use Rattle.exercise.specs.declared.Kept.{Kept}
 
 -- one of the first r fields has a tag, and something holds of its place
 pub record Place (s : List ℕ) (r tag : ℕ) (P : ℕ → Type 0) : Type 0 where
@@ -25,7 +25,7 @@ pub record Named (s : List ℕ) (from size j : ℕ) : Type 0 where
   pub start : from ≡ fieldAt s j + 3
   pub length : size ≡ sizeOf s j
 
-pub record Known (s : List ℕ) (r : ℕ) (h : Held) : Type 0 where
+pub record Known (s : List ℕ) (r : ℕ) (h : Kept) : Type 0 where
   pub least : 1 ≤ h .wanted
   pub most : h .wanted ≤ 5
   pub below : (j : ℕ) → j < r → Four (tagOf s j) → tagOf s j < h .wanted
@@ -49,7 +49,7 @@ split j r q = go (ltb j r) refl
     go true e = inl (ltb-true j r e)
     go false e = inr (omega (arith, ltb-false j r e))
 
-module _ (s : List ℕ) (r : ℕ) (h : Held) (k : Known s r h) where
+module _ (s : List ℕ) (r : ℕ) (h : Kept) (k : Known s r h) where
   -- all below the wanted tag have stood
   pub stood : (tag : ℕ) → 1 ≤ tag → tag < h .wanted → Stands s r tag
   stood zero l m = absurd (omega arith)
@@ -83,9 +83,9 @@ module _ (s : List ℕ) (r : ℕ) (h : Held) (k : Known s r h) where
           absurd (not-yet (record { least = k .least; most = omega (arith, m, f .most) }) (t .complete (h .wanted) (k .least) m))
       go false e false g = omega (arith, ltb-false (tagOf s r) (h .wanted) e, ltb-false (h .wanted) (tagOf s r) g)
 
--- ---- what is held behind one field more
+-- ---- what is kept behind one field more
 
-module _ (s : List ℕ) (r : ℕ) (h : Held) (k : Known s r h) where
+module _ (s : List ℕ) (r : ℕ) (h : Kept) (k : Known s r h) where
   below-next : (w : ℕ) → h .wanted ≤ w → (Four (tagOf s r) → tagOf s r < w) → (j : ℕ) → j < suc r → Four (tagOf s j) → tagOf s j < w
   below-next w m n j q f = go (split j r q)
     where

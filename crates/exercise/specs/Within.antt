@@ -9,17 +9,17 @@ use lib.Dec.{eqb, ltb}
 use lib.ListN.{length, getD, take}
 use borrow.Author.Tests.{ltb-false}
 use Rattle.refusal.specs.declared.Refusal.the-variants.{MalformedExercise}
-use Rattle.exercise.specs.Reading.{knownTo, bad, nameField, startField, endField, editionField, valued, sized, judge, ended, begun, heldBy, lengthBy, unless, walk, saysFrom}
+use Rattle.exercise.specs.Reading.{knownTo, bad, nameField, startField, endField, editionField, valued, sized, judge, ended, begun, keptBy, lengthBy, unless, walk, saysFrom}
 use Rattle.exercise.specs.Laws.{known-most}
 use Rattle.exercise.specs.declared.Exercise.{Exercise}
 use Rattle.exercise.specs.declared.ExerciseRead.{ExerciseRead}
 use Rattle.exercise.specs.declared.ExerciseRead.the-variants as read
-use Rattle.exercise.specs.declared.Held.{Held}
+use Rattle.exercise.specs.declared.Kept.{Kept}
 use Rattle.exercise.specs.declared.Judged.{Judged}
 use Rattle.exercise.specs.declared.Judged.the-variants.{Next, Refused}
 
--- what is held has its name in so many bytes, and a known edition once there is one
-record Sound (newest all : ℕ) (h : Held) : Type 0 where
+-- what is kept has its name in so many bytes, and a known edition once there is one
+record Sound (newest all : ℕ) (h : Kept) : Type 0 where
   name : h .«name_start» + h .«name_length» ≤ all
   edition : eqb (h .wanted) 5 ≡ true → knownTo newest (h .edition) ≡ true
 
@@ -34,7 +34,7 @@ sound-either false newest all x y p q = q
 no-edition : (newest e : ℕ) → false ≡ true → knownTo newest e ≡ true
 no-edition newest e q = absurd (true≢false (sym q))
 
-module _ (newest all : ℕ) (h : Held) (at : ℕ) (s : Sound newest all h) where
+module _ (newest all : ℕ) (h : Kept) (at : ℕ) (s : Sound newest all h) where
   valued-sound : (tag n : ℕ) (l : List ℕ) → at + 3 + n ≤ all → SoundAfter newest all (valued newest h at tag n l)
   unfolding valued nameField startField endField editionField bad
   valued-sound tag n l m =
@@ -70,7 +70,7 @@ abbrev SoundRead : ℕ → ℕ → ExerciseRead → Type 0
 SoundRead newest all (read.Read x) = ReadSound newest all x
 SoundRead newest all (read.Refused r) = _≡_ {A = ℕ} 0 0
 
-ended-sound : (newest all : ℕ) (h : Held) (at : ℕ) → Sound newest all h → SoundRead newest all (ended h at)
+ended-sound : (newest all : ℕ) (h : Kept) (at : ℕ) → Sound newest all h → SoundRead newest all (ended h at)
 unfolding ended
 ended-sound newest all h at s = go (eqb (h .wanted) 5) refl
   where
@@ -79,14 +79,14 @@ ended-sound newest all h at s = go (eqb (h .wanted) 5) refl
     go true e = record { name = s .name; edition = s .edition e }
     go false e = refl
 
-walk-sound : (newest all : ℕ) (h : Held) (at k : ℕ) (l : List ℕ) → Sound newest all h → at + length l ≤ all → SoundRead newest all (walk newest h at k l)
+walk-sound : (newest all : ℕ) (h : Kept) (at k : ℕ) (l : List ℕ) → Sound newest all h → at + length l ≤ all → SoundRead newest all (walk newest h at k l)
 unfolding walk
 walk-sound newest all h at k [] s m = ended-sound newest all h at s
 walk-sound newest all h at zero (tag ∷ l) s m =
     go (judge newest h at tag l) (judge-sound newest all h at s tag l (omega arith)) (λ g n w. walk-sound newest all g (suc at) (2 + n) l w (omega arith))
   where
-    go : (J : Judged) → SoundAfter newest all J → ((g : Held) (n : ℕ) → Sound newest all g → SoundRead newest all (walk newest g (suc at) (2 + n) l))
-        → SoundRead newest all (unless J (walk newest (heldBy J) (suc at) (2 + lengthBy J) l))
+    go : (J : Judged) → SoundAfter newest all J → ((g : Kept) (n : ℕ) → Sound newest all g → SoundRead newest all (walk newest g (suc at) (2 + n) l))
+        → SoundRead newest all (unless J (walk newest (keptBy J) (suc at) (2 + lengthBy J) l))
     go (Next g n) w more = more g n w
     go (Refused r) w more = refl
 walk-sound newest all h at (suc k) (b ∷ l) s m = walk-sound newest all h (suc at) k l s (omega arith)

@@ -28,8 +28,8 @@ pub enum ExerciseRead {
     Refused(Refusal),
 }
 
-// What is held of the fields so far: the tag that is wanted next, and what was read.
-struct Held {
+// What is kept of the fields so far: the tag that is wanted next, and what was read.
+struct Kept {
     wanted: u64,
     name_start: usize,
     name_length: usize,
@@ -38,9 +38,9 @@ struct Held {
     edition: u64,
 }
 
-// A field judged: what is held behind it and how long its bytes are, or why it is refused.
+// A field judged: what is kept behind it and how long its bytes are, or why it is refused.
 enum Judged {
-    Next { held: Held, length: usize },
+    Next { kept: Kept, length: usize },
     Refused(Refusal),
 }
 
@@ -80,31 +80,31 @@ fn malformed(at: usize) -> Judged
     Judged::Refused(Refusal::MalformedExercise { offset: at as u64 })
 }
 
-fn name_field(at: usize, n: usize, held: Held) -> Judged
+fn name_field(at: usize, n: usize, kept: Kept) -> Judged
     requires { ⌜ at + 3 < 2 ^ 64 ⌝ }
-    ensures { λ r. ⌜ r ≡ nameField held at n ⌝ }
+    ensures { λ r. ⌜ r ≡ nameField kept at n ⌝ }
 {
-    if held.wanted != 1 {
+    if kept.wanted != 1 {
         return malformed(at);
     }
     Judged::Next {
-        held: Held {
+        kept: Kept {
             wanted: 2,
             name_start: at + 3,
             name_length: n,
-            start: held.start,
-            end: held.end,
-            edition: held.edition,
+            start: kept.start,
+            end: kept.end,
+            edition: kept.edition,
         },
         length: n,
     }
 }
 
-fn start_field(s: &[u8], at: usize, n: usize, held: Held) -> Judged
+fn start_field(s: &[u8], at: usize, n: usize, kept: Kept) -> Judged
     requires { ⌜ at + 3 + n ≤ length (now s) ⌝ }
-    ensures { λ r. ⌜ r ≡ startField held at n (take n (drop (at + 3) (now (s .entry)))) ⌝ }
+    ensures { λ r. ⌜ r ≡ startField kept at n (take n (drop (at + 3) (now (s .entry)))) ⌝ }
 {
-    if held.wanted != 2 {
+    if kept.wanted != 2 {
         return malformed(at);
     }
     if n != 8 {
@@ -113,23 +113,23 @@ fn start_field(s: &[u8], at: usize, n: usize, held: Held) -> Judged
     let from = at + 3;
     let start = big(&s[from..from + 8]);
     Judged::Next {
-        held: Held {
+        kept: Kept {
             wanted: 3,
-            name_start: held.name_start,
-            name_length: held.name_length,
+            name_start: kept.name_start,
+            name_length: kept.name_length,
             start,
-            end: held.end,
-            edition: held.edition,
+            end: kept.end,
+            edition: kept.edition,
         },
         length: n,
     }
 }
 
-fn end_field(s: &[u8], at: usize, n: usize, held: Held) -> Judged
+fn end_field(s: &[u8], at: usize, n: usize, kept: Kept) -> Judged
     requires { ⌜ at + 3 + n ≤ length (now s) ⌝ }
-    ensures { λ r. ⌜ r ≡ endField held at n (take n (drop (at + 3) (now (s .entry)))) ⌝ }
+    ensures { λ r. ⌜ r ≡ endField kept at n (take n (drop (at + 3) (now (s .entry)))) ⌝ }
 {
-    if held.wanted != 3 {
+    if kept.wanted != 3 {
         return malformed(at);
     }
     if n != 8 {
@@ -138,23 +138,23 @@ fn end_field(s: &[u8], at: usize, n: usize, held: Held) -> Judged
     let from = at + 3;
     let end = big(&s[from..from + 8]);
     Judged::Next {
-        held: Held {
+        kept: Kept {
             wanted: 4,
-            name_start: held.name_start,
-            name_length: held.name_length,
-            start: held.start,
+            name_start: kept.name_start,
+            name_length: kept.name_length,
+            start: kept.start,
             end,
-            edition: held.edition,
+            edition: kept.edition,
         },
         length: n,
     }
 }
 
-fn edition_field(s: &[u8], at: usize, n: usize, held: Held) -> Judged
+fn edition_field(s: &[u8], at: usize, n: usize, kept: Kept) -> Judged
     requires { ⌜ at + 3 + n ≤ length (now s) ⌝ }
-    ensures { λ r. ⌜ r ≡ editionField 2 held at n (take n (drop (at + 3) (now (s .entry)))) ⌝ }
+    ensures { λ r. ⌜ r ≡ editionField 2 kept at n (take n (drop (at + 3) (now (s .entry)))) ⌝ }
 {
-    if held.wanted != 4 {
+    if kept.wanted != 4 {
         return malformed(at);
     }
     if n != 1 {
@@ -163,12 +163,12 @@ fn edition_field(s: &[u8], at: usize, n: usize, held: Held) -> Judged
     let edition = wide(s[at + 3]);
     if known(edition) {
         return Judged::Next {
-            held: Held {
+            kept: Kept {
                 wanted: 5,
-                name_start: held.name_start,
-                name_length: held.name_length,
-                start: held.start,
-                end: held.end,
+                name_start: kept.name_start,
+                name_length: kept.name_length,
+                start: kept.start,
+                end: kept.end,
                 edition,
             },
             length: n,
@@ -178,23 +178,23 @@ fn edition_field(s: &[u8], at: usize, n: usize, held: Held) -> Judged
 }
 
 // A field whose bytes are all there.
-fn value_field(s: &[u8], at: usize, tag: u8, n: usize, held: Held) -> Judged
+fn value_field(s: &[u8], at: usize, tag: u8, n: usize, kept: Kept) -> Judged
     requires { ⌜ at + 3 + n ≤ length (now s) ⌝ }
-    ensures { λ r. ⌜ r ≡ valued 2 held at tag n (take n (drop (at + 3) (now (s .entry)))) ⌝ }
+    ensures { λ r. ⌜ r ≡ valued 2 kept at tag n (take n (drop (at + 3) (now (s .entry)))) ⌝ }
 {
     if tag == 1 {
-        return name_field(at, n, held);
+        return name_field(at, n, kept);
     }
     if tag == 2 {
-        return start_field(s, at, n, held);
+        return start_field(s, at, n, kept);
     }
     if tag == 3 {
-        return end_field(s, at, n, held);
+        return end_field(s, at, n, kept);
     }
     if tag == 4 {
-        return edition_field(s, at, n, held);
+        return edition_field(s, at, n, kept);
     }
-    Judged::Next { held, length: n }
+    Judged::Next { kept, length: n }
 }
 
 fn wide_size(b: u8) -> usize
@@ -204,9 +204,9 @@ fn wide_size(b: u8) -> usize
 }
 
 // The field that stands at an offset.
-fn judge_field(s: &[u8], at: usize, held: Held) -> Judged
+fn judge_field(s: &[u8], at: usize, kept: Kept) -> Judged
     requires { ⌜ at < length (now s) ⌝ }
-    ensures { λ r. ⌜ r ≡ judge 2 held at (getD (now (s .entry)) at 0) (drop (at + 1) (now (s .entry))) ⌝ }
+    ensures { λ r. ⌜ r ≡ judge 2 kept at (getD (now (s .entry)) at 0) (drop (at + 1) (now (s .entry))) ⌝ }
 {
     let tag = s[at];
     if 128 <= tag {
@@ -219,20 +219,20 @@ fn judge_field(s: &[u8], at: usize, held: Held) -> Judged
     if s.len() - at - 3 < n {
         return malformed(at);
     }
-    value_field(s, at, tag, n, held)
+    value_field(s, at, tag, n, kept)
 }
 
-// What is held at the end.
-fn end_of(held: Held, at: usize) -> ExerciseRead
-    ensures { λ r. ⌜ r ≡ ended held at ⌝ }
+// What is kept at the end.
+fn end_of(kept: Kept, at: usize) -> ExerciseRead
+    ensures { λ r. ⌜ r ≡ ended kept at ⌝ }
 {
-    if held.wanted == 5 {
+    if kept.wanted == 5 {
         return ExerciseRead::Read(Exercise {
-            name_start: held.name_start,
-            name_length: held.name_length,
-            start: held.start,
-            end: held.end,
-            edition: held.edition,
+            name_start: kept.name_start,
+            name_length: kept.name_length,
+            start: kept.start,
+            end: kept.end,
+            edition: kept.edition,
         });
     }
     ExerciseRead::Refused(Refusal::MalformedExercise { offset: at as u64 })
@@ -242,7 +242,7 @@ fn end_of(held: Held, at: usize) -> ExerciseRead
 fn read_fields(s: &[u8]) -> ExerciseRead
     ensures { λ r. ⌜ r ≡ saysFrom 2 (now (s .entry)) ⌝ }
 {
-    let mut held = Held {
+    let mut kept = Kept {
         wanted: 1,
         name_start: 0,
         name_length: 0,
@@ -252,15 +252,15 @@ fn read_fields(s: &[u8]) -> ExerciseRead
     };
     let mut at = 0;
     while at < s.len() {
-        match judge_field(s, at, held) {
+        match judge_field(s, at, kept) {
             Judged::Refused(r) => return ExerciseRead::Refused(r),
-            Judged::Next { held: h, length } => {
-                held = h;
+            Judged::Next { kept: h, length } => {
+                kept = h;
                 at = at + 3 + length;
             }
         }
     }
-    end_of(held, at)
+    end_of(kept, at)
 }
 
 // Reads an exercise.

@@ -66,7 +66,7 @@ phaseBy f =
     (cond (eqb (f .stage) 2) (Halted (record { refusal = f .refusal; first = f .first; second = f .second })) Ended))
 
 abbrev pub feederBy : Feed → Feeder
-feederBy f = record { rule = ruleBy (f .complete); total = f .total; rows = f .rows; phase = phaseBy f; held = waitingBy f }
+feederBy f = record { rule = ruleBy (f .complete); total = f .total; rows = f .rows; phase = phaseBy f; waiting = waitingBy f }
 
 -- ---- the numbers of a feeder
 
@@ -102,13 +102,13 @@ flatOf f n stage next d t = record {
   «line_bases» = t .numbers .bases;
   «line_width» = t .numbers .width;
   bases = t .bases;
-  «held_width» = f .held .width;
-  «held_bases» = f .held .bases;
-  «held_whole» = flagOf (f .held .whole);
-  «held_starts» = flagOf (f .held .starts);
-  «held_name» = f .held .name;
-  «held_text» = f .held .text;
-  «held_kept» = f .held .kept;
+  «held_width» = f .waiting .width;
+  «held_bases» = f .waiting .bases;
+  «held_whole» = flagOf (f .waiting .whole);
+  «held_starts» = flagOf (f .waiting .starts);
+  «held_name» = f .waiting .name;
+  «held_text» = f .waiting .text;
+  «held_kept» = f .waiting .kept;
 }
 
 abbrev pub feedIn : Feeder → Phase → Feed
@@ -135,14 +135,14 @@ flag-back : (b : Bool) → not (eqb (flagOf b) 0) ≡ b
 flag-back true = refl
 flag-back false = refl
 
-phase-back : (f : Feeder) (p : Phase) → feederBy (feedIn f p) ≡ record { rule = f .rule; total = f .total; rows = f .rows; phase = p; held = f .held }
+phase-back : (f : Feeder) (p : Phase) → feederBy (feedIn f p) ≡ record { rule = f .rule; total = f .total; rows = f .rows; phase = p; waiting = f .waiting }
 unfolding waitingBy phaseBy soFarBy linesTold
-phase-back f (Definition at) = rw (rule-back (f .rule), flag-back (f .held .whole), flag-back (f .held .starts))
-phase-back f (Lines d Blank z) = rw (rule-back (f .rule), flag-back (f .held .whole), flag-back (f .held .starts))
-phase-back f (Lines d (Run n) z) = rw (rule-back (f .rule), flag-back (f .held .whole), flag-back (f .held .starts))
-phase-back f (Lines d (Rows n k) z) = rw (rule-back (f .rule), flag-back (f .held .whole), flag-back (f .held .starts))
-phase-back f (Halted n) = rw (rule-back (f .rule), flag-back (f .held .whole), flag-back (f .held .starts))
-phase-back f Ended = rw (rule-back (f .rule), flag-back (f .held .whole), flag-back (f .held .starts))
+phase-back f (Definition at) = rw (rule-back (f .rule), flag-back (f .waiting .whole), flag-back (f .waiting .starts))
+phase-back f (Lines d Blank z) = rw (rule-back (f .rule), flag-back (f .waiting .whole), flag-back (f .waiting .starts))
+phase-back f (Lines d (Run n) z) = rw (rule-back (f .rule), flag-back (f .waiting .whole), flag-back (f .waiting .starts))
+phase-back f (Lines d (Rows n k) z) = rw (rule-back (f .rule), flag-back (f .waiting .whole), flag-back (f .waiting .starts))
+phase-back f (Halted n) = rw (rule-back (f .rule), flag-back (f .waiting .whole), flag-back (f .waiting .starts))
+phase-back f Ended = rw (rule-back (f .rule), flag-back (f .waiting .whole), flag-back (f .waiting .starts))
 
 -- what a host is handed is the feeder, when it comes back
 pub feeder-back : (f : Feeder) → feederBy (feedTold f) ≡ f

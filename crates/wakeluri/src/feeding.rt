@@ -150,13 +150,13 @@ fn feeder_by(f: Feed) -> Feeder
 {
     let rule = rule_by(f.complete);
     let phase = phase_by(f);
-    let held = waiting_by(f);
+    let waiting = waiting_by(f);
     Feeder {
         rule,
         total: f.total as usize,
         rows: f.rows as usize,
         phase,
-        held,
+        waiting,
     }
 }
 
@@ -218,7 +218,7 @@ fn flat(f: Feeder, n: refusal::Numbers, stage: u64, next: usize, d: Opened, t: T
     ensures { λ r. ⌜ r ≡ flatOf f n stage next d t ⌝ }
 {
     let rule = f.rule;
-    let held = f.held;
+    let waiting = f.waiting;
     let said = d.said;
     let name = said.name;
     let text = said.description;
@@ -243,13 +243,13 @@ fn flat(f: Feeder, n: refusal::Numbers, stage: u64, next: usize, d: Opened, t: T
         line_bases: numbers.bases as u64,
         line_width: numbers.width as u64,
         bases: t.bases as u64,
-        held_width: held.width as u64,
-        held_bases: held.bases as u64,
-        held_whole: answer::flag(held.whole),
-        held_starts: answer::flag(held.starts),
-        held_name: held.name as u64,
-        held_text: held.text as u64,
-        held_kept: held.kept as u64,
+        held_width: waiting.width as u64,
+        held_bases: waiting.bases as u64,
+        held_whole: answer::flag(waiting.whole),
+        held_starts: answer::flag(waiting.starts),
+        held_name: waiting.name as u64,
+        held_text: waiting.text as u64,
+        held_kept: waiting.kept as u64,
     }
 }
 

@@ -1,4 +1,4 @@
-//! The proved library as one who answers questions: each question is one call of an entry point, told as it is.
+//! The proved library as one who answers questions: each question is one call of an entry point, and its answer is passed on as it is.
 
 use questions::form::Value::{
     self, Bounds, Bytes, MaybeBytes, MaybeNumber, Number, Numbers, Output, Regions, Rows, Stepped, Steps, Table,
@@ -19,7 +19,7 @@ pub struct Library {
     pub program: Option<PathBuf>,
 }
 
-/// A refusal, if it is one, and what is told after it or without it.
+/// A refusal, if it is one, and what comes after it or without it.
 fn told(no: Option<[u64; 3]>, told: impl Tell) -> Answer {
     Answer { no, told: told.parts() }
 }
@@ -65,7 +65,7 @@ fn filled(table: &mut [u64], call: impl FnOnce(&mut [u8]) -> entry::Answer) -> A
     counted(lent(table, call))
 }
 
-/// A file that arrives in steps, by the original's rule for 0, else by the complete one: what each step tells.
+/// A file that arrives in steps, by the original's rule for 0, else by the complete one: what each step answers.
 fn fed(table: &mut [u64], steps: &[Option<Vec<u8>>], complete: u64) -> Answer {
     let steps = lent(table, |table| {
         let mut feed = entry::feed_start(complete);

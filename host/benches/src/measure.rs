@@ -4,7 +4,7 @@
 use std::hint::black_box;
 use std::time::Duration;
 
-/// Something to be timed: it does the whole work once, and tells a number of its answer, so that nothing is left out.
+/// Something to time: it does the whole work once, and returns a number of its answer, so that nothing is left out.
 pub type Work<'w> = Box<dyn FnMut() -> u64 + 'w>;
 
 /// The time that this thread has run.

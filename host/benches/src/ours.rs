@@ -183,12 +183,12 @@ impl<'f> Regions<'f> {
         Names::new(&self.table)
     }
 
-    /// Looks all names up by the proved walk, and tells the sum of their rows.
+    /// Looks all names up by the proved walk, and returns the sum of their rows.
     pub fn walk(&self) -> u64 {
         black_box(&self.regions).iter().map(|(name, ..)| self.row(name).number() as u64).sum()
     }
 
-    /// Looks all names up in a map, and tells the same.
+    /// Looks all names up in a map, and returns the same.
     pub fn map(&self, names: &Names<'_, '_>) -> u64 {
         let row = |(name, ..): &Region| names.find(name).expect("a record of that name").number() as u64;
         black_box(&self.regions).iter().map(row).sum()
@@ -256,7 +256,7 @@ impl<'f> Sheet<'f> {
     }
 }
 
-/// Scores many answers to one exercise, with one room that is lent; tells how many bases are right.
+/// Scores many answers to one exercise, with one room that is lent; returns how many bases are right.
 pub fn score(table: &Table, file: &[u8], exercise: &[u8], typed: &[Vec<u8>], room: &mut [u8]) -> u64 {
     let score = |typed: &Vec<u8>| table.score_into(black_box(file), exercise, typed, room).expect("a score").right;
     typed.iter().map(score).sum()

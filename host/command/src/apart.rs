@@ -1,4 +1,4 @@
-//! What is written is never what is read. One judgement holds every output against every input, in every command: by the file itself
+//! No output is an input. One judgement compares every output with every input, in every command: by the file itself
 //! (its device and its inode) and not by its name, so that a link, another spelling or a redirection makes no difference. Each input is
 //! judged as it is opened, before a byte of it is read and before anything is opened for writing.
 

@@ -195,7 +195,7 @@ pub fn flag(name: &'static str) -> Arg {
     Arg::new(name).long(name).action(ArgAction::SetTrue)
 }
 
-/// Said of files that their first byte does not tell of.
+/// For files whose first byte does not say what they are.
 fn fastq() -> Arg {
     flag("fastq").help("the file is FASTQ; without it a file is if it begins with '@'")
 }

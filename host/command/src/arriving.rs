@@ -1,5 +1,5 @@
-//! A file that comes by a pipe, indexed as it arrives, and saved on the way where that is asked for. What is kept of it are its rows, its names
-//! and one piece.
+//! A file that comes by a pipe, indexed as it arrives, and saved on the way if that is asked for. It keeps the rows, the names and one
+//! piece.
 
 use crate::failure::Failure;
 use crate::faults;
@@ -56,14 +56,14 @@ impl Stopped {
     }
 }
 
-/// What becomes of the saved file where there is no index.
+/// What becomes of the saved file if there is no index.
 const NOTHING: &str = "nothing was saved: what was in place stays as it was";
 
 /// The same as [`index`], with every piece saved. The place of the saved file holds the old one or the whole new one, whenever this is stopped.
 pub fn saved(shown: &str, from: &mut dyn Read, rule: Rule, place: &Output) -> Result<Arrived, Failure> {
     let mut arrived = None;
     let filled = place.fill("file", &mut |to| match index(shown, from, rule, to) {
-        // what the system says of the place is told by it
+        // the message of the place has what the system says
         Err(Stopped::Unsaved(error)) => Err(error),
         told => {
             let is_whole = told.is_ok();

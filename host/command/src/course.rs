@@ -54,16 +54,7 @@ impl<'r> Asked<'r> {
 }
 
 fn refused(words: String, next: &str, refusal: Refusal, file: &str) -> Failure {
-    Failure::Refused(Box::new(Refused {
-        words,
-        shown: String::new(),
-        next: next.to_string(),
-        refusal,
-        file: file.to_string(),
-        place: None,
-        region: None,
-        sheet: None,
-    }))
+    Refused::of(file, words, next, refusal).into()
 }
 
 /// The rule of an edition, in words.
@@ -104,7 +95,7 @@ pub fn shown(file: &str, exercise: Exercise<'_>, json: bool) -> String {
     format!("{file}: {name}, bases {start} to {end} ({asked}), {edition}: {}\n", rule(edition))
 }
 
-/// What somebody typed, and under which name it is told.
+/// What somebody typed, and the name it goes by.
 #[derive(Debug)]
 pub struct Typed {
     /// The name.
@@ -144,7 +135,7 @@ pub fn files_of(folder: &Path) -> Result<Vec<PathBuf>, Failure> {
     Ok(files)
 }
 
-/// How scores are told.
+/// How scores are written.
 #[derive(Clone, Copy, Debug, Eq, PartialEq)]
 pub enum Form {
     /// In words.
@@ -213,7 +204,7 @@ impl Drill<'_> {
         refused(words, &next, refusal, file)
     }
 
-    /// One score as it is told. With `explain`, the key, what was typed and the marks under each other.
+    /// One score as it is written. With `explain`, the key, what was typed and the marks under each other.
     pub fn told(&self, typed: &Typed, form: Form, explain: bool) -> Result<String, Failure> {
         let (score, key) = self.score(typed)?;
         let Score { right, wrong, missing, surplus, .. } = score;

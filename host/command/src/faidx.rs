@@ -1,13 +1,17 @@
-//! `wakeluri faidx` and `wakeluri fqidx`: called as those of samtools are, so that a script has to change one word. What would differ is
-//! refused, and the reason is told.
+//! `wakeluri faidx` and `wakeluri fqidx`: called as in samtools, so that a script changes one word. What would differ is refused, with the
+//! reason.
 
 use crate::arguments::{file, flag, output, regions};
+use crate::beside::index_of;
 use crate::failure::Failure;
+use crate::fastq;
 use crate::header::{Header, Mark};
 use crate::input::is_placeless;
 use crate::output::Output;
 use crate::read::Turn;
-use crate::{Common, fastq, index_of, index_one, path, read_as, write};
+use crate::verbs::index::index_one;
+use crate::verbs::read::read_as;
+use crate::words::{Common, path, write};
 use clap::{Arg, ArgMatches, Command, ValueHint, value_parser};
 use std::path::{Path, PathBuf};
 
@@ -99,7 +103,7 @@ fn other(words: &ArgMatches) -> Result<(), Failure> {
     Ok(())
 }
 
-/// As samtools: without a region the index is written; else the regions are read, and an index that isn't there is written first.
+/// As samtools: without a region it writes the index; else it reads the regions, and first writes an index if there is none.
 pub fn faidx(words: &ArgMatches, common: Common<'_>) -> Result<(), Failure> {
     other(words)?;
     let named = words.get_one::<String>("mark-strand").map_or("rc", String::as_str);

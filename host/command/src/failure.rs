@@ -23,9 +23,9 @@ pub enum Failure {
         /// What to do next.
         next: String,
     },
-    /// All is told already, and this is the status.
+    /// All is said already, and this is the status.
     Told(u8),
-    /// There is nobody to tell: whoever read the answer has gone, or words would be written to a file that is read. Status 3.
+    /// There is nobody to speak to: the reader of the answer has gone, or words would be written to an input. Status 3.
     Gone,
 }
 
@@ -34,7 +34,7 @@ pub enum Failure {
 pub struct Refused {
     /// What was asked and what is there, with the file, line and byte.
     pub words: String,
-    /// The line at fault, with a caret under the byte; nothing where no line is shown.
+    /// The line at fault, with a caret under the byte; nothing if no line is shown.
     pub shown: String,
     /// What to do next.
     pub next: String,
@@ -42,12 +42,26 @@ pub struct Refused {
     pub refusal: Refusal,
     /// The file, if one is at fault.
     pub file: String,
-    /// The line of the file, counted from 1, and the byte, from 0, where one is at fault.
+    /// The line of the file, counted from 1, and the byte, from 0, if one is at fault.
     pub place: Option<(u64, u64)>,
     /// The region that was asked for.
     pub region: Option<String>,
     /// The sheet that it stands in, and its line.
     pub sheet: Option<(String, u64)>,
+}
+
+impl Refused {
+    /// A refusal about a file, or about none, without a line, a region or a sheet.
+    pub fn of(file: &str, words: String, next: impl Into<String>, refusal: Refusal) -> Self {
+        let (shown, next, file) = (String::new(), next.into(), file.to_string());
+        Self { words, shown, next, refusal, file, place: None, region: None, sheet: None }
+    }
+}
+
+impl From<Refused> for Failure {
+    fn from(refused: Refused) -> Self {
+        Self::Refused(Box::new(refused))
+    }
 }
 
 /// Bytes among the bases that are no letters.
@@ -70,7 +84,7 @@ pub struct Unreadable {
     pub words: String,
     /// What to write.
     pub next: String,
-    /// The file, if it was looked at.
+    /// The file, if it was opened.
     pub file: Option<String>,
     /// The region.
     pub region: Vec<u8>,

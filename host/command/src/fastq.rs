@@ -1,25 +1,32 @@
-//! FASTQ: which files are said to be it, and their rows as those of FASTA, by which bases are read, or qualities.
+//! FASTQ: whether `--fastq` is said, and rows of a FASTQ file in the form of FASTA's, so that they read its bases or its qualities.
 
+use crate::failure::Failure;
 use crate::input::Input;
 use std::sync::atomic::{AtomicBool, Ordering};
 use wakeluri::entry::{self, ROW_BYTES};
 use wakeluri::fastq::{Part, Table as Reads};
 use wakeluri::{Refusal, Table};
 
-/// Whether files are FASTQ whatever they begin with.
+/// Whether files are FASTQ, whatever they begin with.
 static SAID: AtomicBool = AtomicBool::new(false);
 
-/// From now on files are FASTQ, if that is said of them; else their first byte tells.
+/// Sets it. If it is not said, a file's first byte decides.
 pub fn say(said: bool) {
     SAID.store(said, Ordering::Relaxed);
 }
 
-/// Whether it is said of files that they are FASTQ.
+/// Whether it is said.
 pub fn is_said() -> bool {
     SAID.load(Ordering::Relaxed)
 }
 
-/// A row for each record of a FASTQ file up to the first that is refused, which lead to its bases, and that refusal.
+/// Fails for a FASTQ file; some commands take FASTA alone.
+pub fn fasta_alone(fasta: &Input, what: &str) -> Result<(), Failure> {
+    let words = || format!("{}: it begins with '@', as FASTQ does, and {what}", fasta.shown);
+    if fasta.is_fastq() { Err(Failure::Usage(words())) } else { Ok(()) }
+}
+
+/// The rows of a FASTQ file's bases, up to the first record that is refused, and that refusal.
 pub fn rows_until_refused(file: &[u8]) -> (Table<'_>, Option<Refusal>) {
     let (reads, refusal) = wakeluri::fastq::index_until_refused(file);
     (reads.part(Part::Bases), refusal)
@@ -30,7 +37,7 @@ pub fn read_index(text: &[u8]) -> Result<Table<'_>, Refusal> {
     wakeluri::fastq::read_index(text).map(|reads| reads.part(Part::Bases))
 }
 
-/// The rows of a file's bases, with the descriptions of its definition lines, which rows of FASTQ lack.
+/// The rows of a file's bases with their descriptions. Rows of FASTQ have none, so each definition line is read again.
 pub fn described<'f>(fastq: &'f Input, reads: &Reads<'f>) -> Table<'f> {
     let file = fastq.bytes();
     let mut rows = reads.part(Part::Bases).into_bytes();
@@ -43,7 +50,7 @@ pub fn described<'f>(fastq: &'f Input, reads: &Reads<'f>) -> Table<'f> {
     Table::from_bytes(file, rows, reads.len())
 }
 
-/// Where the description of a row's record lies. The proved code reads its definition line, in which '>' stands for '@'.
+/// Where the description of a row's record lies. The proved code reads the definition line, with '>' instead of '@'.
 fn description(file: &[u8], row: &[u8], line: &mut Vec<u8>) -> Option<(u64, u64)> {
     let name_start = u64::from_le_bytes(*row.first_chunk()?);
     let rest = file.get(usize::try_from(name_start).ok()?..)?;

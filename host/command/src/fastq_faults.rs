@@ -53,7 +53,7 @@ impl Lines {
         lines.find(|line| !is_last(line) && !is_like(line.1)).map(|(_, line)| *line)
     }
 
-    /// The first quality line that does not fit its line of bases; none where it is missing.
+    /// The first quality line that does not fit its line of bases; none if it is missing.
     fn unfit(&self, file: &[u8]) -> Option<Line> {
         let pairs = self.qualities.iter().zip(&self.sequence);
         let fits = |(line, partner): &(&Line, &Line)| {

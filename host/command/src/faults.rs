@@ -10,14 +10,12 @@ use wakeluri::{Record, Refusal, Table};
 
 /// A refusal about a line of a file, or about all of it.
 pub fn refused(file: &str, line: Option<Line>, what: &str, next: String, refusal: Refusal) -> Failure {
-    let file = file.to_string();
     let place = line.map(|line| (line.number, line.start as u64));
     let words = match place {
         Some((line, byte)) => format!("{file}, line {} (byte {}): {what}", commas(line), commas(byte)),
         None => format!("{file}: {what}"),
     };
-    let shown = String::new();
-    Failure::Refused(Box::new(Refused { words, shown, next, refusal, file, place, region: None, sheet: None }))
+    Refused { place, ..Refused::of(file, words, next, refusal) }.into()
 }
 
 /// A definition line that does not read: where, by the proved code's own offset, and the line with a caret there.
@@ -52,11 +50,11 @@ pub fn bad_definition(
     let next = advice(&next);
     let words = format!("{file}, line {} (byte {}): {what}", commas(line.number), commas(offset));
     let shown = place::pointed(text, offset.saturating_sub(line.start as u64), columns());
-    let (file, place) = (file.to_string(), Some((line.number, offset)));
-    Failure::Refused(Box::new(Refused { words, shown, next, refusal, file, place, region: None, sheet: None }))
+    let place = Some((line.number, offset));
+    Refused { shown, place, ..Refused::of(file, words, next, refusal) }.into()
 }
 
-/// How wide the screen is that messages go to; 80 where nobody says.
+/// How wide the screen is that messages go to; 80 if nobody says.
 fn columns() -> usize {
     let mut size = libc::winsize { ws_row: 0, ws_col: 0, ws_xpixel: 0, ws_ypixel: 0 };
     // SAFETY: the call fills the struct, or leaves it.

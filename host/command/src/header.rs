@@ -1,11 +1,11 @@
-//! The definition line of an answer: the region, and what is said of it. And what is told of answers that went to a file.
+//! The definition line of an answer: the region, and what is said of it. And the summary of answers that went to a file.
 
 use crate::failure::Failure;
 use crate::input::Input;
 use crate::json::Object;
 use crate::place::{count, quoted};
 use crate::read::{Form, Region};
-use crate::report;
+use crate::words::report;
 use std::borrow::Cow;
 use std::os::unix::ffi::OsStrExt;
 use wakeluri::Record;

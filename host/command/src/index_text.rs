@@ -15,7 +15,7 @@ const LINE: usize = 1 << 10;
 /// Most lines are shorter.
 const LIKELY: usize = 160;
 
-/// Writes the line of a row, by its number, to the front of a room that is lent; tells how many bytes.
+/// Writes the line of a row, by its number, to the front of a room that is lent; returns how many bytes.
 pub type Write<'w> = &'w (dyn Fn(usize, &mut [u8]) -> Result<usize, Refusal> + Sync);
 
 /// The lines of some rows, in their order, in parts.

@@ -2,7 +2,7 @@
 //!
 //! A regular file of 16 MiB or more is mapped into memory; a smaller one, and what is no regular file (a pipe, standard input), is
 //! read plainly. Of one whose index is used unchecked just the parts are read that are needed. All end clearly if the file changes meanwhile: a mapped file that gets shorter raises a signal, which is caught,
-//! and before anything is answered the file's size and times are held against those it was opened with.
+//! and before anything is answered the file's size and times are compared with those at opening.
 
 use crate::advice::word;
 use crate::apart::{Outputs, descriptor, opened};
@@ -144,7 +144,7 @@ impl Stream {
             Self::Standard(input) => input.fill_buf(),
             Self::Named(file) => file.fill_buf(),
         };
-        // what can't be read is told when it is read
+        // a file that can't be read fails when it is read
         fastq::is_said() || first.is_ok_and(|bytes| bytes.first() == Some(&b'@'))
     }
 
@@ -341,7 +341,7 @@ fn mapped(file: &File, shown: &str, json: bool) -> Option<Mmap> {
     // SAFETY: the bytes are only read. If another program cuts the file, the signal above ends this one before a byte is made up;
     // if it writes to it, the file's times tell, and nothing is answered.
     let mapped = unsafe { Mmap::map(file) }.ok()?;
-    // SAFETY: it only tells the system that these bytes will be read in order.
+    // SAFETY: it only says to the system that these bytes will be read in order.
     unsafe {
         libc::madvise(mapped.as_ptr().cast_mut().cast(), mapped.len(), libc::MADV_SEQUENTIAL);
     }

@@ -22,10 +22,10 @@ fn odd() -> &'static [u8; 256] {
     })
 }
 
-/// So many bytes are looked at together.
+/// So many bytes are judged together.
 const CHUNK: usize = 64;
 
-/// Whether some bytes are the most common letters and ends of lines, and nothing else; one more is looked at, which may follow a CR.
+/// Whether some bytes are the most common letters and ends of lines, and nothing else; it also reads one more byte, which may follow a CR.
 /// It is written so that the machine does many bytes at once.
 fn is_plain(bytes: &[u8; CHUNK + 1]) -> bool {
     let mut all = true;
@@ -78,7 +78,7 @@ impl Odds {
     /// The next bytes of the file.
     pub fn go_on(&mut self, piece: &[u8]) {
         let (Some(next), Some(last)) = (piece.first(), piece.last()) else { return };
-        // the ends of lines are looked at one by one only where CR stands among them
+        // only if there is a CR are the ends of lines judged one by one
         let mut table = *odd();
         table[usize::from(b'\n')] = 0;
         let is_odd = |byte: u8| table[usize::from(byte)] == 1;
@@ -130,7 +130,7 @@ impl Odd {
         self.first
     }
 
-    /// Those among the bases of a FASTQ file, by its records, of which each tells position, length, line bases and line width.
+    /// Those among the bases of a FASTQ file, by its records; each has position, length, line bases and line width.
     pub fn of_reads(file: &[u8], records: impl Iterator<Item = [u64; 4]>) -> Self {
         let table = odd();
         let mut found = Self::default();

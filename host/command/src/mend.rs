@@ -2,7 +2,7 @@
 //! accepted, and that only reads that cover the base change, if the new byte is no LF, CR or '>'.
 //!
 //! Before the byte is written, a note beside the file says what is done, and is brought to the disk. A byte is written whole or not at all:
-//! after a crash the file has the old byte or the new one, and the note tells which.
+//! after a crash the file has the old byte or the new one, and the note says which.
 
 use crate::apart::folder;
 use crate::failure::{Failure, Refused};
@@ -51,16 +51,9 @@ pub fn base(word: &[u8]) -> Result<u8, Failure> {
         return Err(Failure::Usage(format!("'{}' has {} bytes, and a base is one byte", quoted(word), word.len())));
     };
     let Some(why) = barred(*byte) else { return Ok(*byte) };
-    Err(Failure::Refused(Box::new(Refused {
-        words: format!("'{}' can't be written as a base: {why}", byte.escape_ascii()),
-        shown: String::new(),
-        next: "nothing was changed; write the file anew if its lines are to change".to_string(),
-        refusal: Refusal::new(Call::WriteRecord, 30, 0, 0),
-        file: String::new(),
-        place: None,
-        region: None,
-        sheet: None,
-    })))
+    let words = format!("'{}' can't be written as a base: {why}", byte.escape_ascii());
+    let next = "nothing was changed; write the file anew if its lines are to change";
+    Err(Refused::of("", words, next, Refusal::new(Call::WriteRecord, 30, 0, 0)).into())
 }
 
 /// The base that NAME:POSITION means. What stands before the last colon is the name.
@@ -121,7 +114,7 @@ impl Mend {
         object
     }
 
-    /// Warns of a new byte that is no letter, or with `--strict` refuses it: it is looked at as if it were in the file.
+    /// Warns of a new byte that is no letter, or with `--strict` refuses it, as if it were in the file.
     pub fn judge(&self, fasta: &Input, strict: bool) -> Result<(), Failure> {
         let mut odd = Odd::default();
         odd.of_bases(&[self.new], None, 1);

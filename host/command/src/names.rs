@@ -5,7 +5,7 @@
 use std::collections::HashSet;
 use wakeluri::{Names, Table};
 
-/// Which names may be wanted: a glance at the end of a name tells of most that they are not. It lets all through that are.
+/// Which names may be wanted: the end of a name rules out most of them. It lets all through that are wanted.
 #[derive(Debug)]
 pub struct Sieve(Vec<u64>);
 

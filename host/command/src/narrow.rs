@@ -24,13 +24,13 @@ pub struct Narrow {
 }
 
 impl Narrow {
-    /// The lines that some regions ask for; none where it is as quick to read them all.
+    /// The lines that some regions ask for; none if it is as quick to read them all.
     pub fn of(index: &Input, asked: &AllAsked<'_>) -> Option<Self> {
         let text = index.bytes();
         if text.len() < LONG || asked.is_empty() || asked.len() > text.len() / 64 {
             return None;
         }
-        // what is wrong is told with all names at hand
+        // faults are found again with all names at hand
         if asked.iter().any(Result::is_err) {
             return None;
         }

@@ -1,6 +1,6 @@
 //! The names that are nearest to one that isn't there.
 
-/// So many names are told.
+/// So many names are given.
 const TOLD: usize = 3;
 
 /// So many letters are compared with others one by one at most: some tenths of a second. Beyond that a name's distance is told by the
@@ -10,7 +10,7 @@ const COMPARED: usize = 200_000_000;
 /// Names of more letters are compared by their starts alone.
 const LONG: usize = 200;
 
-/// Up to three names that a person may have meant, the nearest first, and of names as near those that come first. All are looked at.
+/// Up to three names that a person may have meant, the nearest first, and of names as near those that come first. It compares all.
 pub fn nearest<'n>(wanted: &[u8], names: impl Iterator<Item = &'n [u8]>) -> Vec<&'n [u8]> {
     // slips in a third of the letters are still slips, if some letter is left
     let limit = (wanted.len() / 3).max(2) * 2;
@@ -21,7 +21,7 @@ pub fn nearest<'n>(wanted: &[u8], names: impl Iterator<Item = &'n [u8]>) -> Vec<
         if found.iter().any(|(_, known)| *known == name) {
             continue;
         }
-        // one that is no nearer than the last of three is not told
+        // a name that is no nearer than the last of three is left out
         let most = found.get(TOLD - 1).map_or(limit, |(steps, _)| steps - 1);
         let some_letter_is_left = (2 * wanted.len().max(name.len())).saturating_sub(1);
         let most = most.min(some_letter_is_left);

@@ -238,7 +238,7 @@ fn no_place(path: &Path, what: &str, next: &str) -> Failure {
 
 /// An open file, opened once more, so that it stays open when this one is closed.
 fn once_more(open: RawFd) -> io::Result<File> {
-    // SAFETY: it only makes a new number for an open file, or tells that there is none.
+    // SAFETY: it only makes a new number for an open file, or says that there is none.
     let new = unsafe { libc::fcntl(open, libc::F_DUPFD_CLOEXEC, 3) };
     if new < 0 {
         return Err(io::Error::last_os_error());
@@ -296,10 +296,10 @@ fn replace(path: &Path, what: &str, fill: Fill<'_>) -> Result<(), Failure> {
     Ok(())
 }
 
-/// Whether folders are put on the disk at the end, by whoever writes many files.
+/// Whether the code that writes many files puts their folders on the disk at the end.
 static FOLDERS_LATER: AtomicBool = AtomicBool::new(false);
 
-/// From now on the folders of files that are written are put on the disk by whoever asked for this.
+/// From now on the caller puts the folders of written files on the disk.
 pub fn sync_folders_later() {
     FOLDERS_LATER.store(true, Ordering::Relaxed);
 }

@@ -98,17 +98,7 @@ fn not_taken(letters: &[u8], refusal: Refusal) -> Failure {
         }
         _ => (format!("the primer '{shown}': {}", refusal.words()), String::new()),
     };
-    let file = String::new();
-    Failure::Refused(Box::new(Refused {
-        words,
-        shown: String::new(),
-        next,
-        refusal,
-        file,
-        place: None,
-        region: None,
-        sheet: None,
-    }))
+    Refused::of("", words, next, refusal).into()
 }
 
 /// How many sequences a primer stands for.

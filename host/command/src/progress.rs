@@ -31,12 +31,12 @@ impl Progress {
         Self::new(format!("reading {file}"), bytes, false)
     }
 
-    /// Work on so many bytes; where they are mapped, the system tells how many were looked at.
+    /// Work on so many bytes; if they are mapped, the system says how many were read.
     pub fn working(doing: &str, file: &str, bytes: u64, mapped: bool) -> Self {
         Self::new(format!("{doing} {file}"), if mapped { bytes } else { 0 }, mapped)
     }
 
-    /// Indexing what arrives, of which nobody knows how much it is.
+    /// Indexing what arrives; nobody knows how much it is.
     pub fn arriving(file: &str) -> Self {
         Self::new(format!("indexing {file}"), 0, false)
     }
@@ -113,7 +113,7 @@ fn so_far(bytes: u64, records: u64, time: Duration) -> String {
     format!(": {}{records}, {speed:.1} MB/s,", count(bytes, "byte"))
 }
 
-/// The bytes of mapped files that this process has looked at and the system still holds.
+/// The bytes of mapped files that this process has read and the system still holds.
 fn looked_at() -> u64 {
     let told = std::fs::read_to_string("/proc/self/statm").unwrap_or_default();
     let pages: u64 = told.split(' ').nth(2).and_then(|pages| pages.parse().ok()).unwrap_or(0);

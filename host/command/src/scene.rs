@@ -30,7 +30,7 @@ pub struct Seen {
 }
 
 impl Seen {
-    /// A record of which the definition line has come.
+    /// A record whose definition line has come.
     pub fn of(number: u64, definition: Line, text: Vec<u8>) -> Self {
         Self { number, definition: Some((definition, text)), ..Self::default() }
     }
@@ -61,7 +61,7 @@ impl Seen {
         (self.first_two[0].is_some(), self.has_blank)
     }
 
-    /// Whether the line that was added last is the one at fault: it has the byte that a refusal tells.
+    /// Whether the line that was added last is the one at fault: it has the byte that a refusal names.
     pub fn is_at_fault(&self, refusal: Refusal) -> bool {
         let holds = |line: Line| refusal.first < (line.start + line.width) as u64;
         refusal.number == 42 && self.last_two[1].is_some_and(holds)
@@ -83,7 +83,7 @@ pub struct Scene<'s> {
     pub text: Vec<u8>,
 }
 
-/// What a file that has gone by can't tell.
+/// What a file that has gone by can't show.
 const GONE_BY: &str =
     "what stands behind it was not read: of the whole file, saved, `wakeluri index FILE` says what can be done";
 

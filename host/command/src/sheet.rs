@@ -2,7 +2,7 @@
 //!
 //! A line holds a region, and behind a blank or a tab a strand ('+' or '-') and a label may follow; the label is kept in the answer, and
 //! of the strand '-' the reverse complement is asked for. Lines that begin with '#' and blank lines are passed over. What may be a region
-//! written in another way is never taken for a label: it is a fault, and told.
+//! written in another way is never taken for a label: it is a fault.
 
 use crate::failure::{Failure, Unreadable};
 use crate::place::short;
@@ -115,7 +115,7 @@ pub fn no_strands(asked: &AllAsked<'_>) -> Result<(), Failure> {
     })
 }
 
-/// Says that strands are passed over, where both are looked at.
+/// Warns that strands are ignored by a command that searches both.
 pub fn warn_of_strands(asked: &AllAsked<'_>) {
     let Some((sheet, line)) = first_reverse(asked) else { return };
     let words = format!("{sheet}, line {line}: the strand '-' is passed over: both strands are looked at");

@@ -12,7 +12,8 @@ use crate::input::{self, How, MAPPED_FROM};
 use crate::json::Object;
 use crate::output::{self, Answers};
 use crate::place::{commas, count, seen};
-use crate::{Common, colour, fastq, warning};
+use crate::words::Common;
+use crate::{colour, fastq, warning};
 use clap::ArgMatches;
 use std::collections::{BTreeMap, BTreeSet, HashSet};
 use std::fs::{self, File};
@@ -148,7 +149,7 @@ pub fn named(words: &ArgMatches) -> Result<Named, Failure> {
     Ok(Named::Many(items, passed_over))
 }
 
-/// The FASTA files in a folder and those in it, in the order of their names; tells how many packed ones are passed over.
+/// The FASTA files in a folder and those in it, in the order of their names; returns how many packed ones are passed over.
 fn of_folder(folder: &Path, items: &mut Vec<Item>) -> u64 {
     let before = items.len();
     let mut passed_over = 0;
@@ -213,14 +214,14 @@ pub struct Shelf<'s> {
 }
 
 impl Shelf<'_> {
-    /// Does it with all of them, by what does it with one and tells a line. Fails with the worst status.
+    /// Does it with all of them, by a function that does it with one and gives its line. Fails with the worst status.
     pub fn run(
         self,
         common: Common<'_>,
         one: &(dyn Fn(&Item, Common<'_>) -> Result<String, Failure> + Sync),
     ) -> Result<(), Failure> {
         let cores = thread::available_parallelism().map_or(1, usize::from);
-        // an index is on the disk before it is told of, and disks take many at a time
+        // an index is on the disk before its line is printed, and disks take many at a time
         let threads = if self.work == Work::Index { cores * WAITING } else { cores }.min(self.items.len());
         let (next, over) = (AtomicUsize::new(0), AtomicBool::new(false));
         if self.work == Work::Index {
@@ -381,7 +382,7 @@ pub fn alone(item: &Item, work: Work, answer: Result<String, Failure>, json: boo
     if status == 0 { Ok(()) } else { Err(Failure::Told(status)) }
 }
 
-/// The line of a file that is not good, from what is told of it alone: its first line, and the line for a program.
+/// The line of a file that is not good, from its message: the first line, and the line for a program.
 fn bad(item: &Item, status: u8, told: &str, json: bool) -> String {
     if json {
         return given(item, told);

@@ -1,5 +1,5 @@
 //! What is kept of a file that goes by, beside its rows: which line is on its way, a few lines of the record on its way, what was odd. So
-//! warnings and refusals are told of it as of a file that is at hand.
+//! the file gets the warnings and refusals of one that is at hand.
 
 use crate::letters::{First, Odds, line_end};
 use crate::place::{Line, line_number};
@@ -79,7 +79,7 @@ impl Trail {
         vec![]
     }
 
-    /// The end of the file; tells the front of its last line.
+    /// The end of the file; returns the front of its last line.
     pub fn end(&mut self) -> Vec<u8> {
         let front = if self.open.width == 0 { std::mem::take(&mut self.held) } else { self.front_with(&[]) };
         if self.open.width > 0 {

@@ -3,7 +3,7 @@
 use crate::place::{commas, count, short};
 use crate::warning::Warning;
 
-/// So many names are told one by one.
+/// So many names are named one by one.
 const TOLD: usize = 10;
 
 /// The first two records of a name, counted from 0, and the name.
@@ -43,7 +43,7 @@ pub fn of<'n, N: Iterator<Item = &'n [u8]>>(records: usize, names: impl Fn() -> 
     twins
 }
 
-/// Whether two of so many numbers are alike: each is put in a free place from one on that it tells itself.
+/// Whether two of so many numbers are alike: each goes to the first free place from one on that it names itself.
 fn are_some_alike(count: usize, numbers: impl Iterator<Item = u64>) -> bool {
     let bits = (count + count / 2 + 2).next_power_of_two().trailing_zeros();
     let mut places = vec![0_u64; 1 << bits];
@@ -60,7 +60,7 @@ fn are_some_alike(count: usize, numbers: impl Iterator<Item = u64>) -> bool {
     })
 }
 
-/// A number for a name, so that most names are told apart by one comparison.
+/// A number for a name, so that one comparison tells most names apart.
 fn mixed(name: &[u8]) -> u64 {
     let parts = name.chunks_exact(8);
     let rest = parts.remainder().iter().fold(0, |number, byte| number << 8 | u64::from(*byte));

@@ -37,7 +37,7 @@ impl Unusual {
 }
 
 /// Whether a line of a record that has bases is blank: before, behind or between those that have them. The lines lie as the row's
-/// numbers say, so that few bytes have to be looked at.
+/// numbers say, so that it reads few bytes.
 fn has_blank_line(file: &[u8], rows: &Table<'_>, row: usize, record: &Record<'_>) -> Option<bool> {
     let definition = place::lines(file, place::definition_start(rows, row)?, 0).next()?;
     let end = place::definition_start(rows, row + 1).unwrap_or(file.len());

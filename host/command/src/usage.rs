@@ -1,4 +1,4 @@
-//! The words that the command was given, understood or not. With `--json` what is said of them is JSON too.
+//! Understands the words that the command was given, or says what is wrong with them; with `--json` in JSON. And the completions of a shell.
 
 use crate::arguments;
 use crate::colour;
@@ -6,6 +6,7 @@ use crate::failure::Failure;
 use crate::json::Object;
 use crate::place::seen;
 use crate::warning;
+use crate::words::write;
 use clap::ArgMatches;
 use clap::error::{Error, ErrorKind};
 use std::ffi::OsString;
@@ -44,4 +45,16 @@ fn in_json(text: &str) -> String {
     let text = text.strip_prefix("error: ").unwrap_or(text).trim_end();
     let (words, next) = text.split_once("\n\n").unwrap_or((text, ""));
     Failure::usage_object(words, next)
+}
+
+/// Writes the completions for a shell.
+pub fn completions(words: &ArgMatches) -> Result<(), Failure> {
+    if warning::in_json() {
+        return Err(Failure::Usage("completions are a script for a shell: leave out --json".to_string()));
+    }
+    let mut text = vec![];
+    if let Some(shell) = words.get_one::<clap_complete::Shell>("shell") {
+        clap_complete::generate(*shell, &mut arguments::command(), "wakeluri", &mut text);
+    }
+    write(&text)
 }

@@ -12,16 +12,16 @@ use crate::warning::Warning;
 use wakeluri::fastq::{Part, Table as Reads};
 use wakeluri::{Refusal, Table};
 
-/// By which rule a file is indexed.
+/// The rule for indexing a file.
 #[derive(Clone, Copy, Debug, Eq, PartialEq)]
 pub enum Rule {
-    /// Each record that any index line can lead through is taken.
+    /// Takes each record that any index line fits.
     Complete,
-    /// As the original has it: the lines of a record are alike but for its last.
+    /// As the original has it: the lines of a record are alike, except its last.
     Strict,
 }
 
-/// The rows of a file up to the first record that is refused, and that refusal. Of FASTQ, which has one rule, they lead to the bases.
+/// The rows of a file up to the first record that is refused, and that refusal. FASTQ has one rule; its rows lead to the bases.
 pub fn rows_until_refused(fasta: &Input, rule: Rule) -> (Table<'_>, Option<Refusal>) {
     match rule {
         _ if fasta.is_fastq() => fastq::rows_until_refused(fasta.bytes()),

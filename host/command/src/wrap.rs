@@ -77,7 +77,7 @@ impl<'w> Wrapping<'w> {
         Ok(Some((Part::Bases(bases), next)))
     }
 
-    /// The file in lines of the width, written to a place; tells its index if it is wanted.
+    /// The file in lines of the width, written to a place; returns its index if it is wanted.
     fn written(self, to: &mut dyn Write, index: bool) -> io::Result<Vec<u8>> {
         let mut writer = if index { Writer::with_index(to, self.width) } else { Writer::new(to, self.width) };
         let mut gathered = Vec::with_capacity(GATHERED);

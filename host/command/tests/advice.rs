@@ -5,7 +5,7 @@ mod common;
 use common::Folder;
 use std::process::Command;
 
-/// Runs each command that a message names, and tells how many there were.
+/// Runs each command that a message names, and returns how many there were.
 #[track_caller]
 fn follow(folder: &Folder, message: &str) -> usize {
     let commands: Vec<&str> = message.split('`').skip(1).step_by(2).collect();

@@ -9,7 +9,7 @@ use questions::form::No;
 use questions::row::Row;
 
 /// The row of the record at an offset by the complete rule, and the offset behind it: the three numbers are those of the bases'
-/// offsets alone, and every base is held against them.
+/// offsets alone, and every base is compared with them.
 pub(crate) fn fitted_record(file: &[u8], at: u64) -> Result<Option<(Row, u64)>, No> {
     let rest = from(file, at);
     let Some(line) = first_line(rest) else { return Ok(None) };

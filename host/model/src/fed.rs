@@ -1,7 +1,7 @@
 //! A file that is indexed while it arrives (K1, and C6 for the complete rule), from what a whole file would give.
 //!
-//! After each piece the bytes so far are looked at from their start. The last line waits; the lines before it are judged. A record is
-//! judged as a whole if another definition line has come behind it. Else it goes on, and only what can't be mended any more is told.
+//! After each piece it judges the bytes so far from their start. The last line waits; the lines before it are judged. A record is judged
+//! as a whole if another definition line has come behind it. Else it goes on, and only a fault that no further bytes can mend is refused.
 
 use crate::complete::fitted_record;
 use crate::lines::{definition_at, first_line};
@@ -33,7 +33,7 @@ fn strict_so_far(text: &[u8], at: u64) -> Result<(), No> {
     }
 }
 
-/// The offset of the last line; 0 where there is no byte.
+/// The offset of the last line; 0 if there is no byte.
 fn last_line(text: &[u8]) -> usize {
     let last = text.len().saturating_sub(1);
     text[..last].iter().rposition(|b| *b == b'\n').map_or(0, |lf| lf + 1)
@@ -64,7 +64,7 @@ fn rows(bytes: &[u8], ended: bool, rule: &Rule) -> (Vec<Row>, Option<No>) {
     (found, None)
 }
 
-/// What each step tells: the refusal's three numbers, 0 for none, and the rows that stand.
+/// What each step answers: the refusal's three numbers, 0 for none, and the rows that stand.
 pub(crate) fn fed(table: &mut [u64], steps: &[Option<Vec<u8>>], complete: bool) -> Vec<[u64; 4]> {
     let rule = if complete { COMPLETE } else { STRICT };
     let (mut bytes, mut ended, mut stopped, mut written) = (vec![], false, None, 0);

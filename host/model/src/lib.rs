@@ -1,6 +1,6 @@
 //! A model of what every call answers: slow, plain, and written from the rules alone, not from the proved code.
 //!
-//! It is no part of the library. The library and the original crate are held against it, question by question, so that a fault
+//! It is no part of the library. The library and the original crate are compared with it, question by question, so that a fault
 //! in a definition that the proofs rest on would show as a difference.
 
 mod checker;

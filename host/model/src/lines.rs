@@ -35,7 +35,7 @@ pub(crate) fn is_space(b: &u8) -> bool {
     matches!(b, b' ' | b'\t' | b'\n' | 12 | b'\r')
 }
 
-/// Name start, name length, description start, description length. A refusal tells the place in the line at which it failed.
+/// Name start, name length, description start, description length. A refusal tells the place in the line where it failed.
 pub(crate) fn definition(content: &[u8]) -> Result<[u64; 4], No> {
     marked_definition(b'>', content)
 }
@@ -61,7 +61,7 @@ pub(crate) fn marked_definition(mark: u8, content: &[u8]) -> Result<[u64; 4], No
     })
 }
 
-/// What the definition line at an offset of a file says. A refusal tells the offset at which it failed.
+/// What the definition line at an offset of a file says. A refusal tells the offset where it failed.
 pub(crate) fn definition_at(line: &[u8], at: u64) -> Result<[u64; 4], No> {
     definition(content(line)).map_err(|[number, place, _]| [number, at + place, 0])
 }

@@ -3,7 +3,7 @@
 use crate::{n, no};
 use questions::form::No;
 
-/// The bases that a byte stands for; none where it has no code.
+/// The bases that a byte stands for; none if it has no code.
 pub(crate) fn bases(byte: u8) -> &'static str {
     match byte.to_ascii_uppercase() {
         b'A' => "A",
@@ -47,7 +47,7 @@ fn fits(letter: u8, byte: u8) -> bool {
     !bases(byte).is_empty() && bases(byte).chars().all(|base| bases(letter).contains(base))
 }
 
-/// The first place, not before `from`, at which each text byte fits its letter.
+/// The first place, not before `from`, where each text byte fits its letter.
 pub(crate) fn next_place(primer: &[u8], text: &[u8], from: u64) -> Result<Option<u64>, No> {
     judge(primer)?;
     let mut windows = text.windows(primer.len()).enumerate();

@@ -64,7 +64,7 @@ pub(crate) fn needed(length: u64, room: u64, rows: &Rows, r: u64, bounds: Bounds
     Ok([offsets().min().unwrap_or(0), offsets().max().map_or(0, |last| last + 1)])
 }
 
-/// So many bases are gone through one by one; of more, the first and the last of some of their lines are.
+/// It takes so many bases one by one; of more, the first and the last of some of their lines.
 const ONE_BY_ONE: u64 = 1 << 16;
 
 /// Line l of a record, from 0: its first and last base that are in a region.

@@ -8,7 +8,7 @@ from ._library import library
 
 
 class Refusal(enum.IntEnum):
-    """Every refusal by its name; the number of each stays the same for ever."""
+    """Every refusal by its name. `tools/dev generated` writes them; the number of each stays the same for ever."""
 
     TOO_LONG = 1
     EMPTY_DEFINITION = 2
@@ -59,7 +59,7 @@ class Refusal(enum.IntEnum):
         return words(int(self))
 
 
-#: What the two numbers of a refusal say; a call may tell fewer.
+#: What the two numbers of a refusal say, from the same table; a call may give fewer.
 _PLACES: dict[int, tuple[str, ...]] = {
     2: ("record", "offset"),
     3: ("record", "offset"),

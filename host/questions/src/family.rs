@@ -1,4 +1,4 @@
-//! The families of questions: one table of what each asks and what its answer tells.
+//! The families of questions: one table of what each asks and what its answer has.
 //!
 //! The line form reads arguments and writes answers by it; the generator, the comparison, the replayed list and the tests read it
 //! too. To add a family, add its line and its examples here, an arm in `ask` and in the model, and how its questions are made in
@@ -29,7 +29,7 @@ pub enum Kind {
     Regions,
     /// Steps of a call that is fed a file: `f` and hex for a piece, `e` for the end, as `f3e73,f0a41,e`.
     Steps,
-    /// What each step told, a word to a step: a refusal's three numbers and the rows so far, as `0:0:0:1`.
+    /// What each step answered, a word to a step: a refusal's three numbers and the rows so far, as `0:0:0:1`.
     Stepped,
     /// Numbers that a call may change. The answer ends with them as they were left.
     Table,
@@ -37,7 +37,7 @@ pub enum Kind {
     Output,
 }
 
-/// What an answer tells. Lent memory stands behind it in every case.
+/// What an answer has. Lent memory stands behind it in every case.
 #[derive(Clone, Copy, Debug, Eq, PartialEq)]
 pub enum Shape {
     /// `ok` and these, or a refusal alone.
@@ -50,7 +50,7 @@ pub enum Shape {
     Bare(&'static [Kind]),
 }
 
-/// What the original tells of a family.
+/// What the original answers for a family.
 #[derive(Clone, Copy, Debug, Eq, PartialEq)]
 pub enum Original {
     /// It has no such call.
@@ -68,11 +68,11 @@ pub struct Family {
     pub name: &'static str,
     /// What it asks about.
     pub takes: &'static [Kind],
-    /// What its answer tells.
+    /// What its answer has.
     pub tells: Shape,
-    /// What it may refuse, but for an input that is too long; 1 stands here where a length is stated.
+    /// What it may refuse, except an input that is too long; 1 stands here if a length is stated.
     pub refuses: &'static [u64],
-    /// What the original tells.
+    /// What the original answers.
     pub original: Original,
 }
 

@@ -50,7 +50,7 @@ pub trait Speaker {
     fn answer(&self, family: &str, arguments: &mut [Value]) -> Option<Answer>;
 }
 
-/// What is told without a refusal.
+/// What comes without a refusal.
 pub trait Tell {
     /// Its parts.
     fn parts(self) -> Vec<Value>;
@@ -290,7 +290,7 @@ fn fits(shape: Shape, answer: &Answer) -> bool {
     may_be_none && answer.told.is_empty() || answer.told.iter().map(Value::kind).eq(kinds.iter().copied())
 }
 
-/// Adds an answer to a line that ends in `=>`: what the family tells, and lent memory as it was left.
+/// Adds an answer to a line that ends in `=>`: what the family answers, and lent memory as it was left.
 fn tell_answer(line: &mut String, shape: Shape, answer: &Answer, arguments: &[Value]) {
     match (answer.no, shape) {
         (Some([number, first, second]), _) => {

@@ -31,7 +31,7 @@ impl Questions {
         Self::made_by(MAKERS.iter().collect(), seed)
     }
 
-    /// Those of one family; `None` where there is no such family.
+    /// Those of one family; `None` if there is no such family.
     pub fn of(family: &str, seed: u64) -> Option<Self> {
         let maker = MAKERS.iter().find(|maker| maker.family == family)?;
         Some(Self::made_by(vec![maker], seed))

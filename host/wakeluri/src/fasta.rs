@@ -5,36 +5,28 @@ mod fastq;
 #[allow(unsafe_code)]
 mod mapped;
 mod names;
+mod options;
+mod record;
 mod watch;
 
 pub use error::Error;
 pub use fastq::{Fastq, Read};
+pub use options::{MAPPED_FROM, Options, Trust};
+pub use record::Record;
 
 use crate::entry::{ROW_BYTES, ROW_WORDS};
 use crate::refusal::Call;
-use crate::region::{Meaning, Written, meaning, plain, plain_form};
-use crate::table::{counted, with_room};
+use crate::region::{Meaning, meaning, plain, plain_form};
+use crate::table::counted;
 use crate::{Bounds, Refusal, Row, Table, entry};
 use mapped::Bytes;
 use names::NameMap;
-use std::ffi::OsString;
+use options::beside;
 use std::fs;
-use std::io::{self, Write};
+use std::io::Write;
 use std::path::{Path, PathBuf};
 use std::sync::OnceLock;
 use watch::Watch;
-
-/// Where the rows of a [`Fasta`] come from, and so what its answers rest on.
-#[derive(Clone, Copy, Debug, Eq, PartialEq)]
-#[non_exhaustive]
-pub enum Trust {
-    /// An index was found, and it was checked that it leads to every base of the file.
-    Checked,
-    /// No index was found, or none was wanted: the rows were made of the file itself.
-    Made,
-    /// An index was found, and [`Options::unchecked`] asked that it is believed: bases may be wrong where it is.
-    Unchecked,
-}
 
 /// A FASTA file with its index: opened and checked once, and then read as often as you like, by any number of threads.
 ///
@@ -74,17 +66,17 @@ pub enum Trust {
 ///
 /// # A file that changes
 ///
-/// The file's length, its time of change, its inode and its device are kept when it is opened. [`Fasta::unchanged`] holds them against
-/// what the file has now, and so does a read that comes ten milliseconds or more after the last such look; from then on every read fails with
+/// Opening keeps the file's length, its time of change, its inode and its device. [`Fasta::unchanged`] compares them with what the file has
+/// now, and so does a read that comes ten milliseconds or more after the last such look. Once they differ, every read fails with
 /// [`Error::Changed`]. What is not seen:
 ///
 /// - a change since the last look, for ten milliseconds and the few that the clock is off;
 /// - a change after which the file's time was set back, and its length is the same.
 ///
-/// A file that was read into memory gives the bytes that it had, whatever becomes of it. Of a mapped file, bytes that another program
-/// writes are seen at once; and if it is cut shorter, the system ends a program that reads behind its end (SIGBUS), as it does with every
-/// map. Where others may cut a file in place, open it with [`Options::hold`]. To put another file in its place by renaming is always safe:
-/// the map keeps the old one, and the look tells.
+/// A file that was read into memory gives the bytes that it had, whatever becomes of it. A mapped file gives the bytes that another program
+/// writes at once; and if it is cut shorter, the system ends a program that reads behind its end (SIGBUS), as with every map. If others may
+/// cut a file in place, open it with [`Options::hold`]. It is always safe to put another file in its place by renaming: the map keeps the
+/// old one, and the next look sees it.
 #[derive(Debug)]
 pub struct Fasta {
     bytes: Bytes,
@@ -100,135 +92,8 @@ pub struct Fasta {
     described: OnceLock<Vec<u8>>,
 }
 
-/// Files from this size on are mapped into memory: below it a copy costs little, and nobody can change it.
-pub const MAPPED_FROM: u64 = 16 << 20;
-
-/// How a [`Fasta`] is opened: [`Fasta::options`].
-///
-/// ```no_run
-/// use wakeluri::{Fasta, fasta::Trust};
-/// let fasta = Fasta::options().index("made/elsewhere.fai").unchecked().open("ref.fa")?;
-/// assert_eq!(fasta.trust(), Trust::Unchecked);
-/// # Ok::<(), wakeluri::Error>(())
-/// ```
-#[derive(Clone, Debug, Default)]
-#[must_use]
-pub struct Options {
-    index: Option<PathBuf>,
-    unchecked: bool,
-    no_index: bool,
-    hold: bool,
-}
-
-impl Options {
-    /// The index is this file, and it has to be there. Without this it is the file's name with `.fai` behind it, if that is there.
-    pub fn index(mut self, path: impl Into<PathBuf>) -> Self {
-        self.index = Some(path.into());
-        self
-    }
-
-    /// An index is believed: opening takes no look at the bases. [`Fasta::trust`] says so then.
-    pub fn unchecked(mut self) -> Self {
-        self.unchecked = true;
-        self
-    }
-
-    /// No index is looked for: the rows are made of the file.
-    pub fn no_index(mut self) -> Self {
-        self.no_index = true;
-        self
-    }
-
-    /// The file is read into memory, whatever its size, and not mapped: then no change of it can do harm.
-    pub fn hold(mut self) -> Self {
-        self.hold = true;
-        self
-    }
-
-    /// Opens a FASTA file.
-    pub fn open(self, path: impl AsRef<Path>) -> Result<Fasta, Error> {
-        let found = self.found(path.as_ref())?;
-        let (table, trust) = found.rows(&Rules {
-            make: |bytes| crate::index(bytes).map(Table::into_bytes),
-            check: crate::check,
-            read: |text| crate::read_index(text).map(Table::into_bytes),
-        })?;
-        found.opened(table, trust)
-    }
-
-    /// Opens a FASTQ file, whose index has six columns.
-    pub fn open_fastq(self, path: impl AsRef<Path>) -> Result<Fastq, Error> {
-        Fastq::opened(self.found(path.as_ref())?)
-    }
-
-    /// The file's bytes, and its index where there is one.
-    fn found(self, path: &Path) -> Result<Found, Error> {
-        let (bytes, watch) = mapped::open(path, if self.hold { u64::MAX } else { MAPPED_FROM })?;
-        let (index_path, named) = match self.index {
-            Some(path) => (path, true),
-            None => (beside(path), false),
-        };
-        let text = match fs::read(&index_path) {
-            _ if self.no_index => None,
-            Ok(text) => Some(text),
-            Err(error) if error.kind() == io::ErrorKind::NotFound && !named => None,
-            Err(error) => return Err(Error::file(&index_path, error)),
-        };
-        Ok(Found { path: path.to_path_buf(), bytes, watch, index_path, text, unchecked: self.unchecked })
-    }
-}
-
-/// A file that was opened, and the index text that was found for it.
-struct Found {
-    path: PathBuf,
-    bytes: Bytes,
-    watch: Option<Watch>,
-    index_path: PathBuf,
-    text: Option<Vec<u8>>,
-    unchecked: bool,
-}
-
-/// The calls of a format: rows made of a file, an index held against it, rows read of an index.
-struct Rules {
-    make: fn(&[u8]) -> Result<Vec<u8>, Refusal>,
-    check: fn(&[u8], &[u8]) -> Result<(), Refusal>,
-    read: fn(&[u8]) -> Result<Vec<u8>, Refusal>,
-}
-
-impl Found {
-    /// The rows as bytes, and what they rest on.
-    fn rows(&self, rules: &Rules) -> Result<(Vec<u8>, Trust), Error> {
-        let about = |what: &Path| {
-            let what = what.display().to_string();
-            move |refusal| Error::refused(what, refusal)
-        };
-        let Some(text) = &self.text else {
-            return Ok(((rules.make)(&self.bytes).map_err(about(&self.path))?, Trust::Made));
-        };
-        if !self.unchecked {
-            (rules.check)(&self.bytes, text).map_err(about(&self.index_path))?;
-        }
-        let table = (rules.read)(text).map_err(about(&self.index_path))?;
-        Ok((table, if self.unchecked { Trust::Unchecked } else { Trust::Checked }))
-    }
-
-    /// With its rows, if the file is still what it was.
-    fn opened(self, table: Vec<u8>, trust: Trust) -> Result<Fasta, Error> {
-        let fasta = Fasta::of(self.bytes, self.text, table, trust, Some(self.path), self.watch);
-        fasta.unchanged()?;
-        Ok(fasta)
-    }
-}
-
-/// The path of the index beside a file: `ref.fa.fai`.
-fn beside(path: &Path) -> PathBuf {
-    let mut name = OsString::from(path);
-    name.push(".fai");
-    name.into()
-}
-
 impl Fasta {
-    /// Opens a file with the index that stands beside it (`ref.fa.fai`), or makes one in memory where there is none.
+    /// Opens a file with the index that stands beside it (`ref.fa.fai`), or makes one in memory if there is none.
     ///
     /// An index that is there is checked against every base, and refused if it does not lead to each: an old index is never used. To do
     /// otherwise there is [`Fasta::options`].
@@ -236,7 +101,7 @@ impl Fasta {
         Self::options().open(path)
     }
 
-    /// How it is to be opened.
+    /// How to open it.
     pub fn options() -> Options {
         Options::default()
     }
@@ -336,7 +201,7 @@ impl Fasta {
         self.names.find(name, |row| self.name(row), is_found)
     }
 
-    /// A record by its name: the first that has it. Refuses 15 where none has.
+    /// A record by its name: the first that has it. Refuses 15 if none has.
     pub fn record(&self, name: impl AsRef<[u8]>) -> Result<Record<'_>, Error> {
         let name = name.as_ref();
         self.row(name).map(|row| self.numbered(row)).ok_or_else(|| self.no_record(name))
@@ -440,25 +305,6 @@ impl Fasta {
     fn unchanged_lately(&self) -> Result<(), Error> {
         self.watch.as_ref().map_or(Ok(()), Watch::look_if_due)
     }
-
-    /// The definition line of a record, by its row: the line before its first base, blank lines apart.
-    fn definition_before(&self, row: usize) -> Option<crate::Definition<'_>> {
-        let [_, _, length, position, ..] = self.numbers(row);
-        let before = self.bytes.get(..usize::try_from(position).ok()?).filter(|_| length > 0)?;
-        let end = before.iter().rposition(|byte| !matches!(byte, b'\n' | b'\r'))? + 1;
-        let start = before.get(..end)?.iter().rposition(|byte| *byte == b'\n').map_or(0, |lf| lf + 1);
-        crate::definition_content(before.get(start..end)?).ok().filter(|definition| definition.name == self.name(row))
-    }
-
-    /// The same of a record without bases, whose index line may say anything: by its number, in rows that are made of the file once.
-    fn definition_by_number(&self, row: usize) -> Option<crate::Definition<'_>> {
-        let table = self.described.get_or_init(|| crate::index_until_refused(&self.bytes).0.into_bytes());
-        let [name, named, .., start, described] = numbers(table.get(row.checked_mul(ROW_BYTES)?..)?.get(..ROW_BYTES)?);
-        let description = part(&self.bytes, start, described);
-        let name = part(&self.bytes, name, named);
-        let description = (!description.is_empty()).then_some(description);
-        (name == self.name(row)).then_some(crate::Definition { name, description })
-    }
 }
 
 /// The numbers of a row.
@@ -470,115 +316,10 @@ fn numbers(row: &[u8]) -> [u64; ROW_WORDS] {
     numbers
 }
 
-/// A part of some bytes; nothing where it isn't there.
+/// A part of some bytes; nothing if it isn't there.
 fn part(bytes: &[u8], start: u64, length: u64) -> &[u8] {
     let part = || bytes.get(usize::try_from(start).ok()?..)?.get(..usize::try_from(length).ok()?);
     part().unwrap_or_default()
-}
-
-/// A record of a [`Fasta`]. It costs two words to copy, and lives as long as the file is open.
-#[derive(Clone, Copy)]
-pub struct Record<'f> {
-    fasta: &'f Fasta,
-    row: usize,
-}
-
-impl std::fmt::Debug for Record<'_> {
-    fn fmt(&self, f: &mut std::fmt::Formatter<'_>) -> std::fmt::Result {
-        let name = self.name().escape_ascii().to_string();
-        f.debug_struct("Record")
-            .field("number", &self.row)
-            .field("name", &name)
-            .field("length", &self.length())
-            .finish()
-    }
-}
-
-impl<'f> Record<'f> {
-    /// Its number in the file, from 0.
-    pub fn number(&self) -> usize {
-        self.row
-    }
-
-    /// Its name, which is any bytes.
-    pub fn name(&self) -> &'f [u8] {
-        self.fasta.name(self.row)
-    }
-
-    /// How many bases it has.
-    pub fn length(&self) -> u64 {
-        self.fasta.number(self.row, 2)
-    }
-
-    /// The offset of its first base in the file.
-    pub fn position(&self) -> u64 {
-        self.fasta.number(self.row, 3)
-    }
-
-    /// How many bases are in a line of it.
-    pub fn line_bases(&self) -> u64 {
-        self.fasta.number(self.row, 4)
-    }
-
-    /// How many bytes are in a line of it, with its end.
-    pub fn line_width(&self) -> u64 {
-        self.fasta.number(self.row, 5)
-    }
-
-    /// The text behind its name in the definition line, without whitespace at its ends. It is looked up in the file: an index has none.
-    pub fn description(&self) -> Option<&'f [u8]> {
-        let [.., start, length] = self.fasta.numbers(self.row);
-        if self.fasta.index.is_none() {
-            return Some(part(&self.fasta.bytes, start, length)).filter(|text| !text.is_empty());
-        }
-        let definition = self.fasta.definition_before(self.row).or_else(|| self.fasta.definition_by_number(self.row));
-        definition.and_then(|definition| definition.description)
-    }
-
-    /// Exactly the bases within some bounds, never fewer. Refuses 16, 17, 14, 18, and fails if the file has changed.
-    pub fn read(&self, bounds: impl Into<Bounds>) -> Result<Vec<u8>, Error> {
-        let bounds = bounds.into();
-        let bases = with_room(bounds.bases(), |out| self.read_entry(bounds, out));
-        self.answered(bases)
-    }
-
-    /// As [`Record::read`], to the front of a room that is lent; tells how many bytes. A refusal leaves the room as it was.
-    ///
-    /// ```
-    /// let fasta = wakeluri::Fasta::from_bytes(b">s\nACGT\nAC\n".to_vec())?;
-    /// let mut room = [0; 8];
-    /// let count = fasta.record("s")?.read_into(4..=5, &mut room)?;
-    /// assert_eq!(&room[..count], b"TA");
-    /// # Ok::<(), wakeluri::Error>(())
-    /// ```
-    pub fn read_into(&self, bounds: impl Into<Bounds>, out: &mut [u8]) -> Result<usize, Error> {
-        let count = self.read_entry(bounds.into(), out);
-        self.answered(count)
-    }
-
-    /// The proved read.
-    fn read_entry(&self, bounds: Bounds, out: &mut [u8]) -> Result<usize, Refusal> {
-        let Fasta { bytes, table, rows, .. } = self.fasta;
-        counted(Call::ReadExact, entry::read_exact(bytes, table, *rows as u64, self.row as u64, bounds, out))
-    }
-
-    /// An answer, if the file is still what it was.
-    fn answered<T>(&self, answer: Result<T, Refusal>) -> Result<T, Error> {
-        self.fasta.unchanged_lately()?;
-        answer.map_err(|refusal| Error::refused(crate::shown::short(self.name()), refusal))
-    }
-
-    /// The bounds that are written, as numbers. Those that 64 bits don't hold are judged here: no record is as long.
-    fn bounds(&self, written: &Written) -> Result<Bounds, Error> {
-        let refused = |number, first| {
-            Error::refused(crate::shown::short(self.name()), Refusal::new(Call::ReadExact, number, first, 0))
-        };
-        match written.bounds() {
-            Some(bounds) => Ok(bounds),
-            None if written.senseless() => Err(refused(16, 0)),
-            None => Err(refused(17, self.length())),
-        }
-    }
 }
 
 #[cfg(test)]

@@ -1,7 +1,7 @@
 //! The entry points and their answers, each declared once, as include/wakeluri.h has them.
 //!
 //! Both lists are macros that hand what they list to another macro: [`entry`](crate::entry) makes the safe calls and what they
-//! link of them, and the tests hold them against the header and make hostile calls by them.
+//! link of them, and the tests compare them with the header and make hostile calls by them.
 
 /// Every entry point, in the order of the header, without the `wakeluri_` of its name. A parameter is one of these:
 ///
@@ -33,7 +33,7 @@ macro_rules! entry_points {
             /// One step of the scanning rule: the next run of bases from a place on, of length 0 at '>' or the end. Refuses 1.
             fn read_run(file: bytes, at: number) -> Span;
 
-            /// The bases from an offset on, by the scanning rule, at the front of `out`; tells how many, and the place left.
+            /// The bases from an offset on, by the scanning rule, at the front of `out`; returns how many, and the place left.
             /// Refuses 1, 14.
             fn read_sequence(file: bytes, at: number, out: output) -> Answer;
 
@@ -43,7 +43,7 @@ macro_rules! entry_points {
             /// The row of the record at an offset, and the offset behind it. Refuses 1 to 7.
             fn index_record(file: bytes, at: number) -> Row;
 
-            /// A row for each record of a file, from the table's first on, by the original's rule; tells how many. Refuses 1 to 8.
+            /// A row for each record of a file, from the table's first on, by the original's rule; returns how many. Refuses 1 to 8.
             fn index_file(file: bytes, table: table) -> Answer;
 
             /// The same by the complete rule, which takes every file that any index leads through. Refuses 1, then record by
@@ -69,7 +69,7 @@ macro_rules! entry_points {
             /// A row for each line of an index, from the table's first on; names are spans of the index. Refuses 1, 9 to 12, 8.
             fn read_index(index: bytes, table: table) -> Answer;
 
-            /// The index line of a row, with its LF, at the front of `out`; tells how many bytes. Refuses 1, 25, 13, 14.
+            /// The index line of a row, with its LF, at the front of `out`; returns how many bytes. Refuses 1, 25, 13, 14.
             fn write_index_line(names: bytes, table: bytes, in_use: number, row: number, out: output) -> Answer;
 
             /// The first row in use that has the name, as `count`. Refuses 1, 25, 15.
@@ -79,7 +79,7 @@ macro_rules! entry_points {
             fn read_exact(file: bytes, table: bytes, in_use: number, row: number, bounds: bounds, out: output) -> Answer;
 
             /// Exactly the bases of up to 200 regions, one after another at the front of `out`, and where each begins at the front of
-            /// `starts`; tells how many bytes. A region is five numbers, eight bytes to a number, low byte first: its row, whether it
+            /// `starts`; returns how many bytes. A region is five numbers, eight bytes to a number, low byte first: its row, whether it
             /// has a start, the start, whether it has an end, the end. All or nothing: after a refusal `next` is the place of the
             /// refused region, or the number of regions. Refuses 1, 40, 41, what `read_exact` refuses of the first refused region
             /// with all of `out`, and then 14 with the bytes of all.
@@ -108,7 +108,7 @@ macro_rules! entry_points {
             /// The reverse complement, at the front of `out`. Refuses 1, 14, and 24 with the last bad byte.
             fn reverse_complement(bases: bytes, out: output) -> Answer;
 
-            /// A FASTA record, its bases in lines of a width, at the front of `out`; tells how many bytes. Refuses 1, 27 to 30, 14.
+            /// A FASTA record, its bases in lines of a width, at the front of `out`; returns how many bytes. Refuses 1, 27 to 30, 14.
             fn write_record(name: bytes, description: maybe, bases: bytes, width: number, out: output) -> Answer;
 
             /// Bases alone, in lines of a width: the next piece of a record whose pieces so far were whole lines. Refuses 1, 27,
@@ -126,7 +126,7 @@ macro_rules! entry_points {
             /// What the bytes of an exercise say. Refuses 1, and from the front, with the offset of the field, 31, 32, 33.
             fn read_exercise(exercise: bytes) -> Exercise;
 
-            /// The bytes of an exercise at the front of `out`; tells how many bytes. Refuses 1, 31, 33, 14.
+            /// The bytes of an exercise at the front of `out`; returns how many bytes. Refuses 1, 31, 33, 14.
             fn write_exercise(name: bytes, start: number, end: number, edition: number, out: output) -> Answer;
 
             /// What was typed against a key, by the rules of edition 1 or 2. Refuses 1, 33.
@@ -142,7 +142,7 @@ macro_rules! entry_points {
             /// to 12, 21 to 23, 20.
             fn check(fasta: bytes, index: bytes) -> Answer;
 
-            /// A row for each record of a FASTQ file, from the table's first on, seven numbers to a row; tells how many. Refuses 1, then record
+            /// A row for each record of a FASTQ file, from the table's first on, seven numbers to a row; returns how many. Refuses 1, then record
             /// by record 2 to 7, 38, 39, 8.
             fn fastq_index(file: bytes, table: fastq_table) -> Answer;
 
@@ -152,7 +152,7 @@ macro_rules! entry_points {
             /// What an index line of six columns says, given with its end; its name starts at 0. Refuses 1, 9 to 12.
             fn fastq_read_line(line: bytes) -> Fastq;
 
-            /// The index line of a row, of six columns and with its LF, at the front of `out`; tells how many bytes. Refuses 1, 25, 13, 14.
+            /// The index line of a row, of six columns and with its LF, at the front of `out`; returns how many bytes. Refuses 1, 25, 13, 14.
             fn fastq_write_line(names: bytes, table: bytes, in_use: number, row: number, out: output) -> Answer;
 
             /// Exactly the bases from `start` to `end` of a row's record, or for every `qualities` but 0 exactly their qualities, never
@@ -162,7 +162,7 @@ macro_rules! entry_points {
             ) -> Answer;
 
             /// Accepts a FASTQ file and an index of six columns, of any program, exactly if the index leads to every base and to every quality.
-            /// Refuses 1, what `fastq_index` refuses but for 8, 19, 9 to 12, 21 to 23, 20.
+            /// Refuses 1, what `fastq_index` refuses except 8, 19, 9 to 12, 21 to 23, 20.
             fn fastq_check(fastq: bytes, index: bytes) -> Answer;
         }
     };
@@ -174,14 +174,14 @@ macro_rules! entry_points {
 macro_rules! answers {
     ($with:ident) => {
         $with! {
-            /// A refusal, 0 where there is none; a count (of bytes or of rows, or a row's number), and the place that a read leaves; of
+            /// A refusal, 0 if there is none; a count (of bytes or of rows, or a row's number), and the place where a read stopped; of
             /// a sheet that is refused, the place of the refused region.
             struct Answer { count, next }
 
-            /// A name and a description by their places in a definition line; 0 and 0 where there is no description.
+            /// A name and a description by their places in a definition line; 0 and 0 if there is no description.
             struct Definition { name_start, name_length, description_start, description_length }
 
-            /// Some bytes of a file by their place: `found` is 0 where there is no line. `next` is the offset behind the line.
+            /// Some bytes of a file by their place: `found` is 0 if there is no line. `next` is the offset behind the line.
             struct Span { found, start, length, next }
 
             /// A record's row, the numbers from `name_start` on: `found` is 0 at the end of a file. `next` is the offset behind the

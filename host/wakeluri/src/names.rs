@@ -35,7 +35,7 @@ struct Rows {
 /// - A row is given only once the proved look-up has found the name in it: it is asked about a table of that one row. So a row of
 ///   another name, or one that can't be used, is never given.
 /// - That no row before it has the name, and that each before it can be used, rests on the map: it is filled from the first row on, up
-///   to one that can't be used, and a name that is in it stays as it is. The tests hold this against the proved walk.
+///   to one that can't be used, and a name that is in it stays as it is. The tests compare this with the proved walk.
 /// - A refusal is the proved walk's own, and takes as long: [`Names::find`] walks for a name that isn't in the map.
 #[derive(Clone, Debug)]
 pub struct Names<'t, 'n> {
@@ -94,7 +94,7 @@ impl<'t, 'n> Names<'t, 'n> {
         self.confirmed(self.rows.get(name)?.first, name)
     }
 
-    /// The second row that has a name, which no look-up gives: whoever asks for the name may want to know of it.
+    /// The second row that has a name, which no look-up gives: a person who asks for the name may want to know of it.
     ///
     /// ```
     /// use wakeluri::Names;

@@ -1,4 +1,4 @@
-//! Primers: short sequences of letters, each of which stands for one base or several.
+//! Primers: short sequences of letters. Each letter stands for one base or several.
 
 use crate::refusal::Call;
 use crate::{Refusal, entry};

@@ -105,7 +105,7 @@ macro_rules! reasons {
                 }
             }
 
-            /// Its numbers by their names, in their order; those that the call did not tell are left out.
+            /// Its numbers by their names, in their order; those that the call did not give are left out.
             ///
             /// ```
             /// let refusal = wakeluri::check(b">s\nACGT\nAC\n", b"s\t6\t3\t4\t6\n").unwrap_err();

@@ -85,7 +85,7 @@ fn column(field: u64) -> &'static str {
 }
 
 impl Refusal {
-    /// A refusal by its numbers, for whoever judges in place of a call.
+    /// A refusal by its numbers, for code that judges in place of a call.
     pub const fn new(call: Call, number: u64, first: u64, second: u64) -> Self {
         Self { number, first, second, call }
     }

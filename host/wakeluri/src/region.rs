@@ -222,7 +222,7 @@ pub enum Meaning<'r> {
     NoName(&'r [u8]),
 }
 
-/// What a region means, where `find` tells the row of a name.
+/// What a region means; `find` gives the row of a name.
 pub fn meaning(region: &[u8], find: impl Fn(&[u8]) -> Option<Row>) -> Meaning<'_> {
     // there are three ways at most
     let mut there = [None; 3];
@@ -234,7 +234,7 @@ pub fn meaning(region: &[u8], find: impl Fn(&[u8]) -> Option<Row>) -> Meaning<'_
     if ways.next().is_some() {
         return Meaning::Several(sensible.into_iter().flatten().collect());
     }
-    // bounds that make no sense are told only where there is nothing better
+    // bounds that make no sense are the answer only if there is nothing better
     match first.or(there.iter().flatten().next()) {
         Some((Reading { bounds: None, .. }, row)) => Meaning::Row(*row, Written::default()),
         Some((Reading { bounds: Some(bounds), .. }, row)) => bounded(*row, bounds),

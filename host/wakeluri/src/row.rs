@@ -37,7 +37,7 @@ impl Identity {
 /// ```
 ///
 /// What isn't seen: that a table is used with the bytes of another file than it was made of. A table doesn't know its file;
-/// [`check`](crate::check) tells whether an index and a file belong together.
+/// [`check`](crate::check) says whether an index and a file belong together.
 #[derive(Clone, Copy, Debug, Eq, Hash, PartialEq)]
 pub struct Row {
     table: Identity,

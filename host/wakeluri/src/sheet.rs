@@ -74,7 +74,7 @@ impl Error for SheetRefusal {
 impl Table<'_> {
     /// Exactly the bases of up to [`SHEET_REGIONS`] regions, in one call: each as [`Table::read_exact`] gives it. All or nothing.
     ///
-    /// Refuses 1, 40, what [`Table::read_exact`] refuses of the first refused region, and 14 where so many bytes are not to be had.
+    /// Refuses 1, 40, what [`Table::read_exact`] refuses of the first refused region, and 14 where so many bytes are not available.
     ///
     /// ```
     /// let fasta = b">s\nACGT\nAC\n>t\nGG\n";
@@ -136,7 +136,7 @@ impl Table<'_> {
         [number, flag(start), start.unwrap_or(0), flag(end), end.unwrap_or(0)]
     }
 
-    /// A row that isn't there is told by its own number.
+    /// A row that isn't there is refused with its own number.
     fn of_its_own(&self, regions: &[(Row, Bounds)], mut refused: SheetRefusal) -> SheetRefusal {
         let row = refused.place.and_then(|place| regions.get(place)).map(|(row, _)| row.number() as u64);
         if let (25, u64::MAX, Some(row)) = (refused.refusal.number, refused.refusal.first, row) {

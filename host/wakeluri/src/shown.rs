@@ -17,7 +17,7 @@ pub fn is_unseen(letter: char) -> bool {
     letter.is_control() || mark
 }
 
-/// A name or some bytes in a message, of which a person sees the start where they are long.
+/// A name or some bytes in a message; if they are long, a person sees the start.
 pub fn short(bytes: &[u8]) -> String {
     const SHOWN: usize = 100;
     let all = quoted(bytes);

@@ -42,7 +42,7 @@ impl<'n> Record<'n> {
         Some(Self { name, length, position, line_bases, line_width, description })
     }
 
-    /// The text behind the name in the definition line, without whitespace at its ends; none where there is none, and for a record
+    /// The text behind the name in the definition line, without whitespace at its ends; none if there is none, and for a record
     /// that was read from an index, which has no descriptions.
     ///
     /// ```
@@ -299,7 +299,7 @@ impl<'n> Table<'n> {
         (0..self.in_use.min(self.bytes.len() / ROW_BYTES)).map(move |number| Row::new(identity, number))
     }
 
-    /// The row of a number, counted from 0; none where it isn't in use.
+    /// The row of a number, counted from 0; none if it isn't in use.
     ///
     /// ```
     /// let table = wakeluri::index(b">s\nAC\n>t\nGT\n")?;
@@ -318,7 +318,7 @@ impl<'n> Table<'n> {
         (in_use as u64, row.number() as u64)
     }
 
-    /// The numbers of a row; none where there is no such row.
+    /// The numbers of a row; none if there is no such row.
     fn numbers(&self, row: usize) -> Option<[u64; ROW_WORDS]> {
         if row >= self.in_use {
             return None;
@@ -332,7 +332,7 @@ impl<'n> Table<'n> {
         Some(numbers)
     }
 
-    /// The record of a row; none where there is no such row, it is of another table, or its name isn't in the bytes.
+    /// The record of a row; none if there is no such row, it is of another table, or its name isn't in the bytes.
     pub fn record(&self, row: Row) -> Option<Record<'n>> {
         if row.is_of(self.identity) { self.numbered_record(row.number()) } else { None }
     }
@@ -363,7 +363,7 @@ impl<'n> Table<'n> {
 
     /// Exactly the bases of a row's record within some bounds, never fewer. Refuses 1, 16, 25, 17, 14, 18.
     ///
-    /// 14 tells that so many bytes are not to be had; 25 also that the row is of another table.
+    /// 14 tells that so many bytes are not available; 25 also that the row is of another table.
     ///
     /// ```
     /// let fasta = b">s\nACGT\nAC\n";
@@ -378,7 +378,7 @@ impl<'n> Table<'n> {
         with_room(bounds.bases(), |out| self.read_exact_into(fasta, row, bounds, out))
     }
 
-    /// As [`Table::read_exact`], to the front of a room that is lent; tells how many bytes. A refusal leaves it as it was.
+    /// As [`Table::read_exact`], to the front of a room that is lent; returns how many bytes. A refusal leaves it as it was.
     pub fn read_exact_into(
         &self,
         fasta: &[u8],
@@ -409,7 +409,7 @@ impl<'n> Table<'n> {
         with_room(bounds.bases(), |out| self.read_raw_into(fasta, row, bounds, out))
     }
 
-    /// As [`Table::read_raw`], to the front of a room that is lent; tells how many bytes.
+    /// As [`Table::read_raw`], to the front of a room that is lent; returns how many bytes.
     pub fn read_raw_into(
         &self,
         fasta: &[u8],
@@ -442,7 +442,7 @@ impl<'n> Table<'n> {
         write_line_behind(text, |out| self.write_index_line_into(row, out))
     }
 
-    /// The index line of a row, at the front of a room that is lent; tells how many bytes. Refuses 1, 25, 13, 14.
+    /// The index line of a row, at the front of a room that is lent; returns how many bytes. Refuses 1, 25, 13, 14.
     pub fn write_index_line_into(&self, row: Row, out: &mut [u8]) -> Result<usize, Refusal> {
         let (in_use, row) = self.lent(row);
         counted(Call::WriteIndex, entry::write_index_line(self.names, &self.bytes, in_use, row, out))
@@ -511,7 +511,7 @@ pub(crate) fn with_known_room(
     Ok(out)
 }
 
-/// So many bytes, if they are to be had. They come from the system as zeros, so that what isn't written to costs nothing; an
+/// So many bytes, if they are available. They come from the system as zeros, so that what isn't written to costs nothing; an
 /// index that lies about a length costs no memory.
 pub(crate) fn room(bytes: u64) -> Option<Vec<u8>> {
     let bytes = usize::try_from(bytes).ok()?;

@@ -22,7 +22,7 @@ impl<'t> Definition<'t> {
     }
 }
 
-/// A part of some bytes, by its place; nothing where it isn't there.
+/// A part of some bytes, by its place; nothing if it isn't there.
 fn part(bytes: &[u8], start: u64, length: u64) -> &[u8] {
     let part = || bytes.get(usize::try_from(start).ok()?..)?.get(..usize::try_from(length).ok()?);
     part().unwrap_or_default()
@@ -162,14 +162,14 @@ pub fn reverse_complement(bases: &[u8]) -> Result<Vec<u8>, Refusal> {
     with_room(bases.len() as u64, |out| reverse_complement_into(bases, out))
 }
 
-/// As [`complement`], to the front of a room that is lent; tells how many bytes. Refuses 1, 14, 24.
+/// As [`complement`], to the front of a room that is lent; returns how many bytes. Refuses 1, 14, 24.
 ///
 /// For long sequences lend one room again and again: the pages of a fresh vector cost as much as the work (docs/SPEED.md).
 pub fn complement_into(bases: &[u8], out: &mut [u8]) -> Result<usize, Refusal> {
     counted(Call::Complement, entry::complement(bases, out))
 }
 
-/// As [`reverse_complement`], to the front of a room that is lent; tells how many bytes. Refuses 1, 14, 24.
+/// As [`reverse_complement`], to the front of a room that is lent; returns how many bytes. Refuses 1, 14, 24.
 ///
 /// For long sequences lend one room again and again: the pages of a fresh vector cost as much as the work (docs/SPEED.md).
 ///

@@ -69,7 +69,7 @@ impl Table<'_> {
     /// The smallest part of a file of so many bytes that has the bases of a row's record within some bounds, for an output of so
     /// much room. Refuses 1, 16, 25, 17, 14, 18, as [`Table::read_exact`] does.
     ///
-    /// No byte is looked at, and it takes no longer for a long region than for a short one.
+    /// It reads no byte, and takes no longer for a long region than for a short one.
     pub fn needed_bytes(
         &self,
         file_length: u64,
@@ -89,7 +89,7 @@ impl Table<'_> {
         with_room(bounds.bases(), |out| self.read_window_into(window, row, bounds, out))
     }
 
-    /// As [`Table::read_window`], to the front of a room that is lent; tells how many bytes. A refusal leaves it as it was.
+    /// As [`Table::read_window`], to the front of a room that is lent; returns how many bytes. A refusal leaves it as it was.
     pub fn read_window_into(
         &self,
         Window { bytes, from, file_length }: Window<'_>,

@@ -24,14 +24,14 @@ use std::io::{self, Write};
 /// # Ok::<(), wakeluri::Refusal>(())
 /// ```
 pub fn write_record(name: &[u8], description: Option<&[u8]>, bases: &[u8], width: u64) -> Result<Vec<u8>, Refusal> {
-    // its size is known: to be told it would be one more pass over the bases
+    // its size is known: asking for it would be one more pass over the bases
     let lines = (bases.len() as u64).div_ceil(width.max(1));
     let text = description.map_or(0, |description| description.len() + 1);
     let bytes = (name.len() + text + bases.len() + 2) as u64 + lines;
     with_known_room(bytes, |out| write_record_into(name, description, bases, width, out))
 }
 
-/// As [`write_record`], to the front of a room that is lent; tells how many bytes. Refuses 1, 27 to 30, 14.
+/// As [`write_record`], to the front of a room that is lent; returns how many bytes. Refuses 1, 27 to 30, 14.
 pub fn write_record_into(
     name: &[u8],
     description: Option<&[u8]>,
@@ -42,7 +42,7 @@ pub fn write_record_into(
     counted(Call::WriteRecord, entry::write_record(name, description, bases, width, out))
 }
 
-/// Bases alone, in lines of a width, to the front of a room that is lent; tells how many bytes. Refuses 1, 27, 30, 14.
+/// Bases alone, in lines of a width, to the front of a room that is lent; returns how many bytes. Refuses 1, 27, 30, 14.
 ///
 /// Behind a record whose bases are whole lines it writes the next ones: the two together are the record of all the bases.
 ///

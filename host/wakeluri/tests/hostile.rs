@@ -404,7 +404,7 @@ fn comfortable_call(chance: &mut Chance) {
             match read {
                 Ok(bases) => assert_eq!(Ok(bases.len()), exact),
                 Err(ReadError::Refused(no)) => {
-                    // 14 where so much memory is not to be had, of which nothing is asked here
+                    // 14 where so much memory is not available, of which nothing is asked here
                     assert!(exact.is_err_and(|other| other.number == 14 || other.number == no.number));
                 }
                 Err(error) => panic!("{error}"),

@@ -16,10 +16,10 @@ use Rattle.exercise.proofs.end_of.Reads as end-of-reads
 use Rattle.exercise.proofs.judge_field.Reads as judge-field-reads
 
 abbrev Inv-loop : tie.InvT-loop
-Inv-loop s held₀ at₀ held at = (at ≤ length s) × (walk 2 held at 0 (drop at s) ≡ saysFrom 2 s)
+Inv-loop s kept₀ at₀ kept at = (at ≤ length s) × (walk 2 kept at 0 (drop at s) ≡ saysFrom 2 s)
 
 abbrev μ-loop : tie.MeasureT-loop
-μ-loop s held₀ at₀ held at = length s - at
+μ-loop s kept₀ at₀ kept at = length s - at
 
 loop-holds : tie.Need-loop-holds Inv-loop μ-loop
 unfolding saysFrom

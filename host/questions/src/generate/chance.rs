@@ -1,4 +1,4 @@
-//! Numbers by chance, and those at which something might go wrong.
+//! Numbers by chance, and those where something might go wrong.
 
 /// Numbers by chance, from a seed (SplitMix64).
 pub struct Chance(u64);
@@ -17,7 +17,7 @@ impl Chance {
         z ^ (z >> 31)
     }
 
-    /// A number below `n`, or 0 where there is none.
+    /// A number below `n`, or 0 if there is none.
     pub fn below(&mut self, n: usize) -> usize {
         if n == 0 { 0 } else { (self.number() % n as u64) as usize }
     }
@@ -33,7 +33,7 @@ impl Chance {
     }
 }
 
-/// Numbers at which something might go wrong.
+/// Numbers where something might go wrong.
 pub(super) const AWKWARD: [u64; 40] = [
     0,
     1,

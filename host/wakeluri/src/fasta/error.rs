@@ -12,7 +12,7 @@ pub enum Error {
     /// The proved code refused: what it was asked about (a record's name, or a file's), and why.
     #[non_exhaustive]
     Refused {
-        /// The record or the file, as it is written in a sentence; empty where there is none.
+        /// The record or the file, as it is written in a sentence; empty if there is none.
         about: String,
         /// Why.
         refusal: Refusal,

@@ -1,7 +1,8 @@
 //! A FASTQ file and its index as one thing that an app opens once, keeps, and shares between its threads.
 
 use super::mapped::Bytes;
-use super::{Error, Fasta, Found, Options, Rules, Trust};
+use super::options::{Found, Rules};
+use super::{Error, Fasta, Options, Trust};
 use crate::fastq::{self, Part, Table};
 use crate::refusal::Call;
 use crate::table::{counted, with_room};
@@ -44,7 +45,7 @@ pub struct Fastq {
 }
 
 impl Fastq {
-    /// Opens a file with the index that stands beside it (`reads.fq.fai`), or makes one in memory where there is none.
+    /// Opens a file with the index that stands beside it (`reads.fq.fai`), or makes one in memory if there is none.
     ///
     /// An index that is there is checked against every base and every quality, and refused if it does not lead to each. To do otherwise there
     /// is [`Fastq::options`].
@@ -52,7 +53,7 @@ impl Fastq {
         Self::options().open_fastq(path)
     }
 
-    /// How it is to be opened, by [`Options::open_fastq`].
+    /// How to open it, by [`Options::open_fastq`].
     pub fn options() -> Options {
         Options::default()
     }
@@ -106,7 +107,7 @@ impl Fastq {
         self.bases.is_empty()
     }
 
-    /// A record by its name: the first that has it. Refuses 15 where none has.
+    /// A record by its name: the first that has it. Refuses 15 if none has.
     pub fn record(&self, name: impl AsRef<[u8]>) -> Result<Read<'_>, Error> {
         Ok(Read { fastq: self, bases: self.bases.record(name)? })
     }

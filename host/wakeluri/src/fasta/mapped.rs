@@ -104,7 +104,7 @@ mod system {
     /// Microseconds since some time, to within some milliseconds: the clock that costs least.
     pub(in super::super) fn now() -> u64 {
         let mut time = Time { seconds: 0, nanoseconds: 0 };
-        // SAFETY: it writes one time to where it is told.
+        // SAFETY: it writes one time to the place that it is given.
         unsafe { clock_gettime(CLOCK_MONOTONIC_COARSE, &mut time) };
         (time.seconds as u64).wrapping_mul(1_000_000).wrapping_add(time.nanoseconds as u64 / 1000)
     }
@@ -116,7 +116,7 @@ mod system {
                 usize::try_from(length).ok().filter(|length| *length > 0 && isize::try_from(*length).is_ok())?;
             // SAFETY: it asks for a fresh map of an open file, and touches no memory that is in use.
             let start = unsafe { mmap(std::ptr::null_mut(), length, PROT_READ, MAP_PRIVATE, file.as_raw_fd(), 0) };
-            // a map that failed is told by the address -1
+            // a map that failed has the address -1
             (start as isize != -1 && !start.is_null()).then_some(Self { start: start.cast(), length })
         }
     }

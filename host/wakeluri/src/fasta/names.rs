@@ -3,11 +3,11 @@
 use std::hash::{BuildHasher, RandomState};
 use std::sync::atomic::{AtomicBool, Ordering};
 
-/// The first row of each name. The names themselves stay where they are; whoever asks tells them.
+/// The first row of each name. The names themselves stay where they are; the caller gives them.
 #[derive(Debug, Default)]
 pub(super) struct NameMap {
     hash: Hash,
-    /// The number of a row and 1 more, 0 where there is none; a power of two of places, at most half of them taken.
+    /// The number of a row and 1 more, 0 if there is none; a power of two of places, at most half of them taken.
     places: Vec<usize>,
     /// A bit for each length that a name has; the last for all from there on. A region's text is asked for as a name too, and most often no
     /// name is as long.

@@ -10,7 +10,7 @@ use std::time::SystemTime;
 /// A look is due if the last one is as old as this, in microseconds.
 const DUE: u64 = 10_000;
 
-/// What tells one file from another, and a file from what it was.
+/// What differs between two files, and between a file and what it was.
 #[derive(Clone, Debug, Eq, PartialEq)]
 pub(super) struct Seen {
     length: u64,
@@ -63,7 +63,7 @@ impl Watch {
         if now().saturating_sub(self.looked.load(Ordering::Relaxed)) >= DUE { self.look() } else { self.last() }
     }
 
-    /// What the last look told.
+    /// What the last look found.
     fn last(&self) -> Result<(), Error> {
         if self.changed.load(Ordering::Relaxed) { Err(Error::Changed { path: self.path.clone() }) } else { Ok(()) }
     }

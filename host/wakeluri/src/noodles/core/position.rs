@@ -16,10 +16,10 @@ use std::str::FromStr;
 #[derive(Clone, Copy, Debug, Eq, Hash, Ord, PartialEq, PartialOrd)]
 pub struct Position(NonZero<usize>);
 
-/// What is told of a number that is no position.
+/// The words for a number that is no position.
 pub type TryFromIntError = std::num::TryFromIntError;
 
-/// What is told of a text that is no position.
+/// The words for a text that is no position.
 pub type ParseError = ParseIntError;
 
 impl Position {

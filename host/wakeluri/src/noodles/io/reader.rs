@@ -41,7 +41,7 @@ impl<R: BufRead> Reader<R> {
         Self { inner, line: vec![] }
     }
 
-    /// Reads the definition line at which the stream stands; tells how many bytes it took, 0 at the end. Refuses 1 to 4.
+    /// Reads the definition line at which the stream stands; returns how many bytes it took, 0 at the end. Refuses 1 to 4.
     pub fn read_definition(&mut self, definition: &mut Definition) -> io::Result<usize> {
         self.line.clear();
         let taken = self.inner.read_until(b'\n', &mut self.line)?;
@@ -51,7 +51,7 @@ impl<R: BufRead> Reader<R> {
         Ok(taken)
     }
 
-    /// Adds the bases up to the next definition or the end to a buffer, by the scanning rule; tells how many.
+    /// Adds the bases up to the next definition or the end to a buffer, by the scanning rule; returns how many.
     pub fn read_sequence(&mut self, buf: &mut Vec<u8>) -> io::Result<usize> {
         let lines = sequence::lines(&mut self.inner, u64::MAX)?;
         let (bases, _) = crate::read_sequence(&lines, 0).map_err(refused)?;
@@ -128,7 +128,7 @@ impl<R: BufRead + Seek> Reader<R> {
         Ok(named(region, bases))
     }
 
-    /// Goes to an offset, if there can be a byte: no file is longer than a signed number of 64 bits tells.
+    /// Goes to an offset, if there can be a byte: no file is longer than a signed number of 64 bits can say.
     fn seek_to(&mut self, offset: u64) -> io::Result<bool> {
         let there = i64::try_from(offset).is_ok();
         if there {
