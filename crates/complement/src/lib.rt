@@ -58,7 +58,7 @@ fn is_of(b: u8, plain: bool) -> bool
     is_paired(b)
 }
 
-// Are all bytes of a block of the kind. All are looked at, which the compiler does at once.
+// Are all bytes of a block of the kind. The loop tests all of them, without an early exit, so that the compiler tests many at once.
 fn block_of(bases: &[u8], plain: bool) -> bool
     ensures { λ r. ⌜ r ≡ allOf plain (now (bases .entry)) ⌝ }
 {
@@ -208,7 +208,7 @@ fn no_complement(place: usize, byte: u8) -> Written
     })
 }
 
-// The answer that the bytes call for, from the front: all of them, or the refusal of the first that has no complement.
+// The answer for the bytes, from the front: all of them, or the refusal of the first that has no complement.
 fn first_fault(bases: &[u8]) -> Written
     ensures { λ r. ⌜ r ≡ answerOf (complementOf (now (bases .entry))) ⌝ }
 {
@@ -279,7 +279,7 @@ fn write_reversed(bases: &[u8], out: &mut [u8], plain: bool)
     }
 }
 
-// Writes all complements, from the last to the first where it is reversed, and tells how many.
+// Writes all complements, from the last to the first if it is reversed, and answers how many.
 fn write_all(bases: &[u8], out: &mut [u8], plain: bool, reversed: bool) -> Written
     requires { ⌜ (length (now bases) ≤ length (now out)) × (allOf plain (now bases) ≡ true) ⌝ }
     ensures { λ r. ⌜ leaves r (now (out .exit)) ≡ poured (judgedOf reversed (now (bases .entry))) (now (out .entry)) ⌝ }
@@ -292,7 +292,7 @@ fn write_all(bases: &[u8], out: &mut [u8], plain: bool, reversed: bool) -> Writt
     Written::Bytes(bases.len())
 }
 
-// The complement of the bases, from the last to the first where it is reversed: the limit and the room are judged before the bytes.
+// The complement of the bases, from the last to the first if it is reversed. The limit and the room are judged before the bytes.
 fn complement_all(bases: &[u8], out: &mut [u8], reversed: bool) -> Written
     ensures { λ r. ⌜ leaves r (now (out .exit)) ≡ complementWritten (now (bases .entry)) (judgedOf reversed (now (bases .entry))) (now (out .entry)) ⌝ }
 {

@@ -44,9 +44,9 @@ within c =
     omega (arith, run-within (spaced false) l 1 (omega arith), run-within (spaced true) l n (omega (arith, run-within (spaced false) l 1 (omega arith))))
 
 kept-end-requires : tie.Need-kept-end-requires
-kept-end-requires c κs = within c
+kept-end-requires c κs = search needs
 
--- what is told, by the places found
+-- the answer, by the places found
 named : (c : tie.After-kept-end) → (r : Span) → described (c .before .run-end2 .result) (c .kept-end .result - c .before .run-end2 .result) ≡ r
     → Named (record { name = record { start = 1; length = c .before .before .before .run-end .result - 1 }; description = r }) ≡ markedSays (c .before .before .before .before .before .before .before .before .args .mark) (c .before .before .before .before .before .before .before .before .args .content .now)
 named c r e =
