@@ -15,14 +15,17 @@ export class Gathered {
         return this.room.subarray(0, this.length);
     }
 
-    add(bytes) {
-        if (this.length + bytes.length > this.room.length) {
-            const more = new Uint8Array(2 * (this.length + bytes.length));
+    // Some bytes, or a part of them. A short part is copied byte by byte: to make a view of it takes longer, and there may be a million.
+    add(bytes, from = 0, to = bytes.length) {
+        const length = this.length + to - from;
+        if (length > this.room.length) {
+            const more = new Uint8Array(2 * length);
             more.set(this.bytes);
             this.room = more;
         }
-        this.room.set(bytes, this.length);
-        this.length += bytes.length;
+        if (to - from > 200) this.room.set(bytes.subarray(from, to), this.length);
+        else for (let k = from; k < to; k++) this.room[this.length + k - from] = bytes[k];
+        this.length = length;
     }
 
     // Leaves out the first so many.
@@ -71,7 +74,7 @@ export class Definitions {
         for (let row = from; row < to; row++) {
             // bases stand behind a definition line, so that it has its LF
             const [name, at] = [before[ofEight(row, 0)], this.lines.length];
-            this.lines.add(bytes.subarray(name - 1, behind(bytes, name)));
+            this.lines.add(bytes, name - 1, behind(bytes, name));
             this.lines.room[at] = DEFINES;
         }
         proved.using(() => {
@@ -79,12 +82,12 @@ export class Definitions {
             if (told.refusal !== 0n || Number(told.count) !== to - from) throw new Error("two readings of a definition line differ");
             const [numbers, said] = [proved.halves(table), proved.halves(read)];
             for (let row = from; row < to; row++) {
-                const [mine, theirs] = [(number) => ofEight(row, number), (number) => ofEight(row - from, number)];
-                if (numbers[mine(1)] !== said[theirs(1)]) throw new Error("two readings of a name differ");
+                const [mine, theirs] = [ofEight(row, 0), ofEight(row - from, 0)];
+                if (numbers[mine + 2] !== said[theirs + 2]) throw new Error("two readings of a name differ");
                 // what is told lies in these lines, of which there were others before
-                numbers[mine(0)] = said[theirs(0)] + begin;
-                numbers[mine(7)] = said[theirs(7)];
-                numbers[mine(6)] = said[theirs(7)] > 0 ? said[theirs(6)] + begin : 0;
+                numbers[mine] = said[theirs] + begin;
+                numbers[mine + 12] = said[theirs + 14] > 0 ? said[theirs + 12] + begin : 0;
+                numbers[mine + 14] = said[theirs + 14];
             }
         });
     }
@@ -109,19 +112,25 @@ export class Reads {
     add(seven, bytes, at) {
         const [before, more] = [this.count, seven.length / FASTQ_ROW];
         if (more === 0) return 0;
-        const numbers = new BigUint64Array(seven.buffer);
-        const [length, , lineBases, lineWidth, position] = numbers.subarray(-5);
         this.count += more;
         this.table = this.proved.resized(this.table, ROW * this.count);
-        const to = new BigUint64Array(this.proved.memory.buffer, this.table.start, 8 * this.count);
-        const places = new BigUint64Array(more);
+        const [from, to, places] = [new Uint32Array(seven.buffer), this.proved.halves(this.table), new Uint32Array(2 * more)];
+        // a place in these bytes as one of the file
+        const move = (number, target, into) => {
+            const place = from[number] + 2 ** 32 * from[number + 1] + at;
+            target[into] = place % 2 ** 32;
+            target[into + 1] = Math.floor(place / 2 ** 32);
+        };
         for (let row = 0; row < more; row++) {
-            const [name, nameLength, bases, first, lineOf, width, quality] = numbers.subarray(7 * row, 7 * row + 7);
-            to.set([name, nameLength, bases, first + BigInt(at), lineOf, width, 0n, 0n], 8 * (before + row));
-            places[row] = quality + BigInt(at);
+            const [one, other] = [ofSeven(row, 0), ofEight(before + row, 0)];
+            for (let k = 0; k < 12; k++) to[other + k] = from[one + k];
+            for (let k = 12; k < 16; k++) to[other + k] = 0;
+            move(one + 6, to, other + 6);
+            move(one + 12, places, 2 * row);
         }
         this.qualities.add(new Uint8Array(places.buffer));
         this.definitions.put(this.proved, this.table, before, this.count, bytes);
+        const [length, , lineBases, lineWidth, position] = new BigUint64Array(seven.buffer).subarray(-5);
         return endOf({ length, lineBases, lineWidth, position }, bytes);
     }
 

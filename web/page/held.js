@@ -240,21 +240,26 @@ export class FastaParts extends Parts {
         return bad;
     }
 
-    // Keeps the names of the rows that were written, which are spans of the file until then.
+    // Keeps the names of the rows that were written, which are spans of the file until then. There may be a million.
     nameRows(at, bytes) {
+        const numbers = this.proved.halves(this.table);
+        const place = (number) => numbers[number] + 2 ** 32 * numbers[number + 1];
         for (; this.named < Number(this.feed.rows); this.named++) {
-            const { name, description } = this.proved.row(this.table, this.named);
-            const [from, to] = [name[0], description[1] > 0 ? description[0] + description[1] : name[0] + name[1]];
-            if (from >= at && to <= at + bytes.length) this.keep(this.named, bytes.subarray(from - at, to - at));
+            const row = 16 * this.named;
+            const from = place(row);
+            const to = numbers[row + 14] > 0 ? place(row + 12) + numbers[row + 14] : from + numbers[row + 2];
+            if (from >= at && to <= at + bytes.length) this.keep(numbers, this.named, from, bytes, from - at, to - at);
             else this.far.push({ row: this.named, from, to });
         }
     }
 
-    keep(row, bytes) {
+    // Keeps the name and the description of a row, which begin at an offset of the file, and puts them there.
+    keep(numbers, row, from, ...bytes) {
+        const [name, description] = [16 * row, 16 * row + 12];
         const at = this.kept.length;
-        this.kept.add(bytes);
-        const { name, description } = this.proved.row(this.table, row);
-        this.proved.rename(this.table, row, at, description[1] > 0 ? at + description[0] - name[0] : 0);
+        this.kept.add(...bytes);
+        if (numbers[description + 2] > 0) numbers.set([at + numbers[description] + 2 ** 32 * numbers[description + 1] - from, 0], description);
+        numbers.set([at, 0], name);
     }
 
     // What was told of the whole file, and its rows. The names that passed by early are wanted then.
@@ -272,7 +277,7 @@ export class FastaParts extends Parts {
         if (told.refusal !== 0n) return [told, { count: Number(told.rows) }];
         if (!this.own) {
             const found = allOf(this.far.map(({ from, to }) => () => this.bytes(from, to)));
-            this.far.forEach(({ row }, k) => this.keep(row, found[k]));
+            this.far.forEach(({ row, from }, k) => this.keep(this.proved.halves(this.table), row, from, found[k]));
             const names = this.proved.lend(this.kept.bytes);
             this.own = { names, table: this.table, count: Number(told.rows) };
             this.kept = this.far = undefined;
