@@ -15,14 +15,17 @@ export class Gathered {
         return this.room.subarray(0, this.length);
     }
 
-    add(bytes) {
-        if (this.length + bytes.length > this.room.length) {
-            const more = new Uint8Array(2 * (this.length + bytes.length));
+    // Some bytes, or a part of them. A short part is copied byte by byte: to make a view of it takes longer, and there may be a million.
+    add(bytes, from = 0, to = bytes.length) {
+        const length = this.length + to - from;
+        if (length > this.room.length) {
+            const more = new Uint8Array(2 * length);
             more.set(this.bytes);
             this.room = more;
         }
-        this.room.set(bytes, this.length);
-        this.length += bytes.length;
+        if (to - from > 200) this.room.set(bytes.subarray(from, to), this.length);
+        else for (let k = from; k < to; k++) this.room[this.length + k - from] = bytes[k];
+        this.length = length;
     }
 
     // Leaves out the first so many.
@@ -32,80 +35,109 @@ export class Gathered {
     }
 }
 
-// A function that tells where a number of a row lies among the halves of a table, and of one of seven numbers.
+// Where a number of a row lies among the halves of a table, of eight numbers to a row and of seven.
 const ofEight = (row, number) => 16 * row + 2 * number;
 const ofSeven = (row, number) => 14 * row + 2 * number;
-const halvesOf = (seven) => new Uint32Array(seven.buffer, seven.byteOffset, seven.length / 4);
 
-// Puts the numbers of rows of seven, but for the names, to a table of as many rows of eight. Gives the places of the first qualities, as a room.
-function put(proved, seven, table) {
-    const count = table.length / ROW;
+// Rows of seven numbers, in the last room, as rows of eight at the same place: it grows, and is filled from its end on. Behind it the places of the first
+// qualities. There are no descriptions.
+export function asEight(proved, seven) {
+    const count = seven.length / FASTQ_ROW;
+    const table = proved.resized(seven, ROW * count);
     const qualities = proved.room(8 * count);
-    const [from, to, places] = [halvesOf(seven), proved.halves(table), proved.halves(qualities)];
-    for (let row = 0; row < count; row++) {
-        for (let k = 4; k < 12; k++) to[ofEight(row, 0) + k] = from[ofSeven(row, 0) + k];
-        for (let k = 0; k < 2; k++) places[2 * row + k] = from[ofSeven(row, 6) + k];
+    const [numbers, places] = [proved.halves(table), proved.halves(qualities)];
+    for (let row = count - 1; row >= 0; row--) {
+        for (const k of [0, 1]) places[2 * row + k] = numbers[ofSeven(row, 6) + k];
+        numbers.copyWithin(ofEight(row, 0), ofSeven(row, 0), ofSeven(row, 6));
+        numbers.fill(0, ofEight(row, 6), ofEight(row, 8));
     }
-    return qualities;
+    return { table, count, qualities };
 }
 
 // The rows that an index of six columns tells: what was told, and the rows, whose names are spans of it.
 export function sixColumns(proved, index) {
-    const told = proved.table("fastq_read_index", index, FASTQ_ROW);
-    const seven = proved.bytes(told.table).slice();
-    proved.giveBack(told.table);
-    const count = Number(told.count);
-    const table = proved.room(ROW * count);
-    const qualities = put(proved, seven, table);
-    const [from, to] = [halvesOf(seven), proved.halves(table)];
-    for (let row = 0; row < count; row++) {
-        for (let k = 0; k < 4; k++) to[ofEight(row, 0) + k] = from[ofSeven(row, 0) + k];
-        to.fill(0, ofEight(row, 6), ofEight(row, 8));
-    }
-    return [told, { names: index, table, count, qualities }];
+    const { table, ...told } = proved.table("fastq_read_index", index, FASTQ_ROW);
+    return [told, { names: index, ...asEight(proved, table) }];
 }
 
-// The rows of a FASTQ file as they are made, and its definition lines.
-export class Reads {
+// The definition lines of a FASTQ file, in which names and descriptions lie. With '>' for '@' they are a FASTA file of records without bases: the proved code
+// reads it, and tells the descriptions, which rows of FASTQ lack.
+export class Definitions {
     constructor() {
-        this.seven = new Gathered();
         this.lines = new Gathered();
     }
 
-    get count() {
-        return this.seven.length / FASTQ_ROW;
-    }
-
-    // The rows of some bytes of the file, which begin at an offset of it. Tells where in them the last of these records ends.
-    add(rows, bytes, at) {
-        const numbers = new BigUint64Array(rows.buffer, rows.byteOffset, rows.length / 8);
-        let end = 0;
-        for (let k = 0; k < numbers.length; k += 7) {
+    // Puts names and descriptions to the rows from one on and before another, whose names are spans of some bytes until then.
+    put(proved, table, from, to, bytes) {
+        const begin = this.lines.length;
+        const before = proved.halves(table);
+        for (let row = from; row < to; row++) {
             // bases stand behind a definition line, so that it has its LF
-            const [name, begin] = [Number(numbers[k]), this.lines.length];
-            this.lines.add(bytes.subarray(name - 1, behind(bytes, name)));
-            this.lines.room[begin] = DEFINES;
-            if (k + 7 === numbers.length) end = endOf(numbers.subarray(k), bytes);
-            if (at > 0) for (const place of [k + 3, k + 6]) numbers[place] += BigInt(at);
+            const [name, at] = [before[ofEight(row, 0)], this.lines.length];
+            this.lines.add(bytes, name - 1, behind(bytes, name));
+            this.lines.room[at] = DEFINES;
         }
-        this.seven.add(rows);
-        return end;
-    }
-
-    // All of them as rows. Names and descriptions are those of the definition lines, which with '>' for '@' are a FASTA file of records without bases:
-    // the proved code reads it.
-    rows(proved) {
-        const { count } = this;
-        const names = proved.lend(this.lines.bytes);
-        const { table, ...told } = proved.table("index_complete", names, ROW, count);
-        if (told.refusal !== 0n || Number(told.count) !== count) throw new Error("two readings of a definition line differ");
-        return { names, table, count, qualities: put(proved, this.seven.bytes, table) };
+        proved.using(() => {
+            const { table: read, ...told } = proved.table("index_complete", proved.lend(this.lines.bytes.subarray(begin)), ROW, to - from);
+            if (told.refusal !== 0n || Number(told.count) !== to - from) throw new Error("two readings of a definition line differ");
+            const [numbers, said] = [proved.halves(table), proved.halves(read)];
+            for (let row = from; row < to; row++) {
+                const [mine, theirs] = [ofEight(row, 0), ofEight(row - from, 0)];
+                if (numbers[mine + 2] !== said[theirs + 2]) throw new Error("two readings of a name differ");
+                // what is told lies in these lines, of which there were others before
+                numbers[mine] = said[theirs] + begin;
+                numbers[mine + 12] = said[theirs + 14] > 0 ? said[theirs + 12] + begin : 0;
+                numbers[mine + 14] = said[theirs + 14];
+            }
+        });
     }
 }
 
-// Where a record ends: behind its last line of qualities.
-function endOf([, , length, , lineBases, lineWidth, position], bytes) {
-    return behind(bytes, Number(placeBy({ position, lineBases, lineWidth }, length)));
+// Where a record ends, by the numbers that lead to its qualities: behind the last line of these.
+export function endOf(numbers, bytes) {
+    return behind(bytes, Number(placeBy(numbers, numbers.length)));
+}
+
+// The rows of a FASTQ file that comes in parts, in a table that is the last room until all have come.
+export class Reads {
+    constructor(proved) {
+        this.proved = proved;
+        this.table = proved.room(0);
+        this.count = 0;
+        this.qualities = new Gathered();
+        this.definitions = new Definitions();
+    }
+
+    // Rows of seven numbers of some bytes, which begin at an offset of the file. Tells where in these bytes the last of the records ends.
+    add(seven, bytes, at) {
+        const [before, more] = [this.count, seven.length / FASTQ_ROW];
+        if (more === 0) return 0;
+        this.count += more;
+        this.table = this.proved.resized(this.table, ROW * this.count);
+        const [from, to, places] = [new Uint32Array(seven.buffer), this.proved.halves(this.table), new Uint32Array(2 * more)];
+        // a place in these bytes as one of the file
+        const move = (number, target, into) => {
+            const place = from[number] + 2 ** 32 * from[number + 1] + at;
+            target[into] = place % 2 ** 32;
+            target[into + 1] = Math.floor(place / 2 ** 32);
+        };
+        for (let row = 0; row < more; row++) {
+            const [one, other] = [ofSeven(row, 0), ofEight(before + row, 0)];
+            for (let k = 0; k < 12; k++) to[other + k] = from[one + k];
+            for (let k = 12; k < 16; k++) to[other + k] = 0;
+            move(one + 6, to, other + 6);
+            move(one + 12, places, 2 * row);
+        }
+        this.qualities.add(new Uint8Array(places.buffer));
+        this.definitions.put(this.proved, this.table, before, this.count, bytes);
+        const [length, , lineBases, lineWidth, position] = new BigUint64Array(seven.buffer).subarray(-5);
+        return endOf({ length, lineBases, lineWidth, position }, bytes);
+    }
+
+    rows() {
+        const { proved, table, count } = this;
+        return { names: proved.lend(this.definitions.lines.bytes), table, count, qualities: proved.lend(this.qualities.bytes) };
+    }
 }
 
 // The qualities of one record as rows of FASTA: one row, which leads to them.

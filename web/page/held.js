@@ -2,10 +2,11 @@
 // by, and a read wants the bytes of its region alone (K7), which the page hands over. Both answer alike; what is asked of them is asked inside
 // `using`, where it gives rooms.
 import { FASTQ_ROW, ROW, bounds } from "./wakeluri.js";
-import { Gathered, Reads } from "./fastq.js";
+import { Definitions, Gathered, Reads, asEight, endOf, qualityNumbers } from "./fastq.js";
 import { refusedPlace } from "./faults.js";
 
 const FED = 1 << 20; // bytes that are fed at a time: so much room for rows is made before
+const NAMED = 1 << 16; // rows of FASTQ that are given names at a time
 const LARGEST = 2n ** 64n - 1n;
 
 // Bytes of a file that are not at hand: the page reads them, and asks again with them.
@@ -106,12 +107,16 @@ export class WholeFastq extends Whole {
     // Its rows, or of a file that is refused where the record begins that is.
     rows() {
         const { proved, room } = this;
-        const { table, ...told } = proved.table("fastq_index", room, FASTQ_ROW);
-        const seven = proved.bytes(table).slice();
-        proved.giveBack(table);
-        const reads = new Reads();
-        const begin = reads.add(seven, proved.bytes(room), 0);
-        return [told, told.refusal === 0n ? reads.rows(proved) : { count: reads.count, begin }];
+        const { table: seven, ...told } = proved.table("fastq_index", room, FASTQ_ROW);
+        const rows = asEight(proved, seven);
+        if (told.refusal !== 0n) {
+            const begin = rows.count === 0 ? 0 : endOf(qualityNumbers(proved, rows, rows.count - 1), proved.bytes(room));
+            proved.giveBack(rows.table);
+            return [told, { count: rows.count, begin }];
+        }
+        const definitions = new Definitions();
+        for (let row = 0; row < rows.count; row += NAMED) definitions.put(proved, rows.table, row, Math.min(row + NAMED, rows.count), proved.bytes(room));
+        return [told, { ...rows, names: proved.lend(definitions.lines.bytes) }];
     }
 }
 
@@ -235,21 +240,26 @@ export class FastaParts extends Parts {
         return bad;
     }
 
-    // Keeps the names of the rows that were written, which are spans of the file until then.
+    // Keeps the names of the rows that were written, which are spans of the file until then. There may be a million.
     nameRows(at, bytes) {
+        const numbers = this.proved.halves(this.table);
+        const place = (number) => numbers[number] + 2 ** 32 * numbers[number + 1];
         for (; this.named < Number(this.feed.rows); this.named++) {
-            const { name, description } = this.proved.row(this.table, this.named);
-            const [from, to] = [name[0], description[1] > 0 ? description[0] + description[1] : name[0] + name[1]];
-            if (from >= at && to <= at + bytes.length) this.keep(this.named, bytes.subarray(from - at, to - at));
+            const row = 16 * this.named;
+            const from = place(row);
+            const to = numbers[row + 14] > 0 ? place(row + 12) + numbers[row + 14] : from + numbers[row + 2];
+            if (from >= at && to <= at + bytes.length) this.keep(numbers, this.named, from, bytes, from - at, to - at);
             else this.far.push({ row: this.named, from, to });
         }
     }
 
-    keep(row, bytes) {
+    // Keeps the name and the description of a row, which begin at an offset of the file, and puts them there.
+    keep(numbers, row, from, ...bytes) {
+        const [name, description] = [16 * row, 16 * row + 12];
         const at = this.kept.length;
-        this.kept.add(bytes);
-        const { name, description } = this.proved.row(this.table, row);
-        this.proved.rename(this.table, row, at, description[1] > 0 ? at + description[0] - name[0] : 0);
+        this.kept.add(...bytes);
+        if (numbers[description + 2] > 0) numbers.set([at + numbers[description] + 2 ** 32 * numbers[description + 1] - from, 0], description);
+        numbers.set([at, 0], name);
     }
 
     // What was told of the whole file, and its rows. The names that passed by early are wanted then.
@@ -267,7 +277,7 @@ export class FastaParts extends Parts {
         if (told.refusal !== 0n) return [told, { count: Number(told.rows) }];
         if (!this.own) {
             const found = allOf(this.far.map(({ from, to }) => () => this.bytes(from, to)));
-            this.far.forEach(({ row }, k) => this.keep(row, found[k]));
+            this.far.forEach(({ row, from }, k) => this.keep(this.proved.halves(this.table), row, from, found[k]));
             const names = this.proved.lend(this.kept.bytes);
             this.own = { names, table: this.table, count: Number(told.rows) };
             this.kept = this.far = undefined;
@@ -287,16 +297,16 @@ export class FastaParts extends Parts {
 export class FastqParts extends Parts {
     fastq = true;
 
+    // As with FASTA, its table grows until it has ended.
     constructor(proved, length) {
         super(proved, length);
         this.left = new Gathered(); // the bytes from the first record on that is not taken yet
         this.begin = 0; // where they begin
         this.wanted = 0; // how many there should be before they are looked at again
-        this.reads = new Reads();
+        this.reads = new Reads(proved);
         this.told = { call: "fastq_index", refusal: 0n, first: 0n, second: 0n };
         // the call with the file's length alone: a file over the limit is refused before any byte of it is read
-        const none = proved.room(0);
-        if (proved.call("needed_bytes", BigInt(length), 0n, none, 0n, 0n, 0n, 0n, 0n, 0n).refusal === 1n) this.told.refusal = 1n;
+        if (proved.call("needed_bytes", BigInt(length), 0n, this.reads.table, 0n, 0n, 0n, 0n, 0n, 0n).refusal === 1n) this.told.refusal = 1n;
     }
 
     // As above.
@@ -312,16 +322,17 @@ export class FastqParts extends Parts {
     look(isEnd) {
         const { proved, left, begin } = this;
         const bytes = isEnd ? left.bytes : left.bytes.subarray(0, left.bytes.lastIndexOf(10) + 1);
-        proved.using(() => {
-            const { table, ...told } = proved.table("fastq_index", proved.lend(bytes), FASTQ_ROW, this.rowsBefore);
-            const end = this.reads.add(proved.bytes(table).slice(), bytes, begin);
-            this.rowsBefore = 1024 + Number(told.count);
-            if (told.refusal !== 0n && (isEnd || !this.isCutOff(told, bytes, end))) this.refuse(told, bytes, end);
-            this.begin += end;
-            left.drop(end);
-            // a record that is longer than a part is looked at again where there is twice as much of it, so that each byte is read but a few times
-            this.wanted = end > 0 ? 0 : 2 * left.length;
+        const { seven, ...told } = proved.using(() => {
+            const { table, ...said } = proved.table("fastq_index", proved.lend(bytes), FASTQ_ROW, this.rowsBefore);
+            return { ...said, seven: proved.bytes(table).slice() };
         });
+        const end = this.reads.add(seven, bytes, begin);
+        this.rowsBefore = 1024 + Number(told.count);
+        if (told.refusal !== 0n && (isEnd || !this.isCutOff(told, bytes, end))) this.refuse(told, bytes, end);
+        this.begin += end;
+        left.drop(end);
+        // a record that is longer than a part is looked at again where there is twice as much of it, so that each byte is read but a few times
+        this.wanted = end > 0 ? 0 : 2 * left.length;
     }
 
     // Whether a refusal may come of it that the record's lines end with the part. Where there is no '+' line yet, or no line of bases, it may; where a
@@ -350,7 +361,7 @@ export class FastqParts extends Parts {
 
     rows() {
         if (this.told.refusal !== 0n) return [this.told, { count: this.reads.count }];
-        this.own ??= this.reads.rows(this.proved);
+        this.own ??= this.reads.rows();
         this.reads = this.left = undefined;
         return [this.told, this.own];
     }

@@ -1,8 +1,8 @@
 // What is asked of a file that is open: reads, sheets, exercises, primers. Part of the worker. A file in parts may want bytes for any of these
 // (held.js): then nothing was done, and it is asked again.
-import { ROW } from "./wakeluri.js";
+import { FASTQ_ROW, ROW } from "./wakeluri.js";
 import { Wanted, allOf } from "./held.js";
-import { qualitiesAsRows } from "./fastq.js";
+import { Gathered, qualitiesAsRows } from "./fastq.js";
 import { shown } from "./places.js";
 import { likeBounds, readings, sheetLines, typedBytes, written } from "./regions.js";
 
@@ -143,6 +143,31 @@ function fastaOf(name, description, bases, width) {
     return told.refusal === 0n ? { bytes: proved.bytes(told.out).slice() } : refused(told);
 }
 
+// A FASTQ record as bytes. There is no proved writer for it: the proved code has to read from it what was meant, or there is none.
+function fastqOf({ name, description, bases }, qualities) {
+    const { proved } = now;
+    const text = new Gathered();
+    for (const bytes of [[64], name, ...(description ? [[32], description] : []), [10], proved.bytes(bases), utf8.encode("\n+\n"), qualities, [10]]) text.add(bytes);
+    const lent = proved.lend(text.bytes);
+    const { table, ...told } = proved.table("fastq_index", lent, FASTQ_ROW, 1);
+    if (told.refusal !== 0n || told.count !== 1n) return undefined;
+    const read = [0n, 1n].map((part) => proved.output((out) => proved.call("fastq_read", lent, table, 1n, 0n, 0n, 0n, 0n, 0n, part, out)).out);
+    const [start, length] = [0, 2].map((half) => proved.halves(table)[half]);
+    const isSame = (some, others) => some.length === others.length && some.every((byte, k) => byte === others[k]);
+    const isMeant = isSame(proved.bytes(lent.part(start, length)), name) && isSame(proved.bytes(read[0]), proved.bytes(bases)) && isSame(proved.bytes(read[1]), qualities);
+    return isMeant ? text.bytes.slice() : undefined;
+}
+
+// The records that are written of a region, one for each strand: with a name, and a description where there is one.
+function recordsOf({ row, first, last }, found) {
+    const { own, kept } = now;
+    const whole = first === undefined && last === undefined;
+    const region = whole ? "" : `:${first ?? 1n}-${last ?? lengthOf(kept, row)}`;
+    const name = new Uint8Array([...nameOf(own, row), ...utf8.encode(region)]);
+    const said = span(own, rowOf(own, row).description).slice();
+    return found.map(({ other, bases }) => ({ name, bases, description: other ? utf8.encode("reverse complement") : whole && said.length > 0 ? said : undefined }));
+}
+
 // Lists with as many as one call takes.
 function bySheets(regions) {
     return Array.from({ length: Math.ceil(regions.length / SHEET) }, (_, k) => regions.slice(SHEET * k, SHEET * (k + 1)));
@@ -252,24 +277,29 @@ export const READS = {
     },
 
     // The same as FASTA, written by the proved writer.
-    fasta({ row, first, last, strand, width }) {
-        const { proved, own, kept } = now;
+    fasta({ width, ...asked }) {
+        const { proved, kept } = now;
         if (!kept) return NOT_OPEN;
         return proved.using(() => {
-            const told = strands({ row, first, last, strand });
+            const told = strands(asked);
             if (told.refusal !== 0n) return refused(told);
-            const whole = first === undefined && last === undefined;
-            const region = whole ? "" : `:${first ?? 1n}-${last ?? lengthOf(kept, row)}`;
-            const name = new Uint8Array([...nameOf(own, row), ...utf8.encode(region)]);
-            const said = span(own, rowOf(own, row).description).slice();
-            const parts = [];
-            for (const { other, bases } of told.found) {
-                const description = other ? utf8.encode("reverse complement") : whole && said.length > 0 ? said : undefined;
-                const record = fastaOf(name, description, bases, BigInt(width));
-                if (record.refused) return record;
-                parts.push(record.bytes);
-            }
-            return { parts };
+            const records = recordsOf(asked, told.found).map(({ name, description, bases }) => fastaOf(name, description, bases, BigInt(width)));
+            return records.find((record) => record.refused) ?? { parts: records.map(({ bytes }) => bytes) };
+        });
+    },
+
+    // The same as FASTQ, with the qualities.
+    fastq(asked) {
+        const { proved, kept } = now;
+        if (!kept) return NOT_OPEN;
+        return proved.using(() => {
+            const [told, read] = allOf([() => strands(asked), () => qualitiesOf(asked)]);
+            if (told.refusal !== 0n) return refused(told);
+            if (read.refusal !== 0n) return refused(read);
+            const qualities = proved.bytes(read.out).slice();
+            // they are in the order of the first strand
+            const records = recordsOf(asked, told.found).map((record, k) => fastqOf(record, k === 0 ? qualities : qualities.slice().reverse()));
+            return records.includes(undefined) ? { fault: "fault.fastq" } : { parts: records };
         });
     },
 

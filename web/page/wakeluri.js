@@ -195,13 +195,6 @@ export class Wakeluri {
         return (row) => [halves[16 * row], halves[16 * row + 2], halves[16 * row + 12], halves[16 * row + 14]];
     }
 
-    // Puts the name and the description of a row at other places: for rows whose file is not at hand, and whose names are kept apart.
-    rename(table, row, name, description) {
-        const view = new DataView(this.memory.buffer, table.start, table.length);
-        view.setBigUint64(ROW * row, BigInt(name), true);
-        view.setBigUint64(ROW * row + 48, BigInt(description), true);
-    }
-
     // Asks with no room for an output to hear how many bytes are needed (refusal 14), and again with as many. The answer has `out`, the
     // bytes that were written, as a room: inside `using` alone.
     output(ask) {

@@ -28,15 +28,19 @@ byId("read-form").addEventListener("submit", (e) => {
         lastRead = { ...wanted, name: told.name, text: lines.join("\n") };
         // what is not all shown is not copied in part either
         byId("copy").hidden = told.count > SHOWN;
+        byId("save-fastq").hidden = told.qualities === undefined;
         byId("read-more").hidden = false;
     });
 });
 byId("copy").addEventListener("click", () => copy(lastRead.text, byId("copied")));
-byId("save-fasta").addEventListener("click", () => working(byId("copied"), async () => {
-    const told = await askFile("fasta", { ...lastRead, width: WIDTH });
-    if (told.refused) return show(byId("copied"), refusal(told).text, "bad");
-    save(`${fileName(lastRead.name)}.fa`, told.parts);
-}));
+for (const [form, ending] of [["fasta", "fa"], ["fastq", "fq"]]) {
+    byId(`save-${form}`).addEventListener("click", () => working(byId("copied"), async () => {
+        const told = await askFile(form, { ...lastRead, width: WIDTH });
+        if (told.refused) return show(byId("copied"), refusal(told).text, "bad");
+        if (told.fault) return show(byId("copied"), t("refused", { words: t(told.fault) }), "bad");
+        save(`${fileName(lastRead.name)}.${ending}`, told.parts);
+    }));
+}
 
 // --- sheets
 

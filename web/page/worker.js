@@ -46,29 +46,24 @@ function placesOf(told) {
     });
 }
 
-// Where in a FASTQ file a fault of an index shows: at the base that its line doesn't lead to, or else at the quality; of another fault at the record.
+// Where in a FASTQ file a fault of an index shows: at the base that its line doesn't lead to, or where it leads there at its quality; of another fault at the
+// record.
 function shownOf(told, rows, record) {
-    if (told.refusal !== 23n) return { offset: Number(placeBy(rowOf(rows, record), 1n)) - 1, ofLine: true };
-    return { offset: elsewhere(told, rows, rowsIn(now.index)[1], record), ofLine: false };
-}
-
-// The offset of the base that an index's row doesn't lead to, or of FASTQ where it leads to the base, of its quality.
-function elsewhere(told, rows, given, record) {
-    const [own, theirs] = [rowOf(rows, record), rowOf(given, record)];
-    const isQuality = rows.qualities && placeBy(own, told.second) === placeBy(theirs, told.second);
-    return Number(placeBy(isQuality ? qualityNumbers(now.proved, rows, record) : own, told.second));
+    const own = rowOf(rows, record);
+    if (told.refusal !== 23n) return { offset: Number(placeBy(own, 1n)) - 1, ofLine: true };
+    const isQuality = placeBy(own, told.second) === placeBy(rowOf(rowsIn(now.index)[1], record), told.second);
+    return { offset: Number(placeBy(isQuality ? qualityNumbers(now.proved, rows, record) : own, told.second)), ofLine: false };
 }
 
 // What the checker says of an index of a file in parts, with the lines that it is about.
 function checkedInParts() {
     const { proved, index, own, file } = now;
     return proved.using(() => {
-        const read = rowsIn(index);
-        const told = checkedBeside(proved, own, read);
+        const told = checkedBeside(proved, own, index, rowsIn);
         if (told.refusal === 0n) return {};
         const record = Number(told.first) - 1;
         if (told.refusal === 20n) return refused(told, { about: "check", lines: linesBeside(told, file, proved.bytes(index)) });
-        const at = told.refusal === 23n ? { offset: elsewhere(told, own, read[1], record), ofLine: false } : undefined;
+        const at = told.place === undefined ? undefined : { offset: Number(told.place), ofLine: false };
         const write = lineWriter(proved, own);
         const line = proved.output((out) => write(record, out));
         const made = line.refusal === 0n ? shown(proved.bytes(line.out.part(0, line.out.length - 1))) : "";

@@ -18,7 +18,7 @@ REACHED = """
 """
 OVER = """
     return Array.from(document.querySelectorAll("main *")).filter((e) => e.checkVisibility() && !e.closest("pre, .scrolled, .apart, select")
-        && (e.getBoundingClientRect().right > innerWidth + 1 || (e.matches("button, label, legend") && e.scrollWidth > e.clientWidth + 1 && getComputedStyle(e).display !== "inline")))
+        && (e.getBoundingClientRect().right > innerWidth + 1 || e.getBoundingClientRect().left < -1 || (e.matches("button, label, legend") && e.scrollWidth > e.clientWidth + 1 && getComputedStyle(e).display !== "inline")))
         .map((e) => e.tagName + e.id).concat(document.documentElement.scrollWidth > document.documentElement.clientWidth ? ["the page"] : [])
 """
 
@@ -124,7 +124,7 @@ def narrow_and_zoomed(c):
             c.check(f"'{tab}' on {what} needs no sideways scrolling", not over, over)
     c.cdp("Emulation.clearDeviceMetricsOverride")
     c.everything()
-    for what, change in (("letters of 200 %", "document.documentElement.style.fontSize = '200%'"),
+    for what, change in (("what is written from right to left", "document.documentElement.dir = 'rtl'"), ("letters of 200 %", "document.documentElement.style.fontSize = '200%'"),
                          ("wide spaces", """document.documentElement.style.fontSize = '';
                             for (const e of document.querySelectorAll('body *')) Object.assign(e.style, { lineHeight: '1.5', letterSpacing: '.12em', wordSpacing: '.16em' })""")):
         c.browser.run(change)

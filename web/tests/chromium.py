@@ -109,6 +109,8 @@ def every_text_is_in_the_table(c):
     texts = json.load(open(os.path.join(os.path.dirname(__file__), "..", "texts.json"), encoding="utf-8"))
     words = json.load(open(os.path.join(os.path.dirname(__file__), "..", "words.json"), encoding="utf-8"))
     pseudo = {key: text if key == "lang" else f"⟦{text}⟧" for key, text in texts.items()}
+    # a language may have more forms of the plural
+    pseudo["record.few"] = "⟦few⟧"
     mark = lambda entry: [f"⟦{entry[0]}⟧", f"⟦{entry[1]}⟧"]
     pseudo["words"] = {**words, "any": {k: mark(v) for k, v in words["any"].items()}, "unknown": mark(words["unknown"]),
                        "calls": {c: {k: mark(v) for k, v in own.items()} for c, own in words["calls"].items()}}

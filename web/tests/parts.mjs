@@ -321,9 +321,12 @@ tests["an index beside the rows"] = () => {
             proved.using(() => {
                 const index = proved.lend(bytes(text));
                 const own = numbers(proved.call(call, whole.room, index));
-                const beside = checkedBeside(proved, rows, read(index));
-                assert.deepEqual(numbers(beside), own, `${JSON.stringify(file)} ${JSON.stringify(text)}`);
-                assert.equal(beside.call, call);
+                // all lines at once, and each by itself
+                for (const size of [undefined, 1]) {
+                    const beside = checkedBeside(proved, rows, index, read, size);
+                    assert.deepEqual(numbers(beside), own, `${JSON.stringify(file)} ${JSON.stringify(text)}`);
+                    assert.equal(beside.call, call);
+                }
                 told.set(own[0], (told.get(own[0]) ?? 0) + 1);
                 tried++;
             });
