@@ -3,7 +3,7 @@
 use Prim.Native.Nat.{ℕ, _+_}
 use mathlib.Core.Path.{ap, _∙_}
 use borrow.Author.Needs.{needs}
-use Rattle.comparing.specs.Blocks.{span-cut}
+use Rattle.comparing.specs.Spans.{span-cut}
 use Rattle.comparing.proofs.same_spans.Statement.{statement}
 use Rattle.comparing.proofs.same_spans.Tie as tie
 

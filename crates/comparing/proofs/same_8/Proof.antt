@@ -1,21 +1,23 @@
--- `comparing::same_16` meets its contract: at each place `all` says whether the bytes so far are the same.
+-- `comparing::same_8` meets its contract: at each place `all` says whether the bytes so far are the same.
 -- Assumes nothing.
 use Prim.Native.Nat.{_-_, _≤_}
 use mathlib.Core.Path.{_≡_}
 use native.Mathlib.Omega.{arith}
 use borrow.Author.Needs.{needs}
-use Rattle.comparing.specs.Blocks.{sameAt, same-none, same-more}
-use Rattle.comparing.proofs.same_16.Statement.{statement}
-use Rattle.comparing.proofs.same_16.Tie as tie
+use lib.ListN.{take, drop}
+use Rattle.lines.specs.Same.{sameBytes}
+use Rattle.comparing.specs.Laws.{block-none, block-more}
+use Rattle.comparing.proofs.same_8.Statement.{statement}
+use Rattle.comparing.proofs.same_8.Tie as tie
 
 abbrev Inv-loop : tie.InvT-loop
-Inv-loop a b at all₀ k₀ all k = (k ≤ 16) × (all ≡ sameAt a b at k)
+Inv-loop a b i all₀ k₀ all k = (k ≤ 8) × (all ≡ sameBytes (take k (drop i a)) (take k (drop i b)))
 
 abbrev μ-loop : tie.MeasureT-loop
-μ-loop a b at all₀ k₀ all k = 16 - k
+μ-loop a b i all₀ k₀ all k = 8 - k
 
 loop-holds : tie.Need-loop-holds Inv-loop μ-loop
-loop-holds c = (omega arith, same-none _ _ _)
+loop-holds c = (omega arith, block-none (drop (c .args .i) (c .args .a .now)) (drop (c .args .i) (c .args .b .now)))
 
 add-all : tie.Need-add-all Inv-loop μ-loop
 add-all c = search needs
@@ -36,13 +38,16 @@ loop-less : tie.Need-loop-less Inv-loop μ-loop
 loop-less c = search needs
 
 loop-again : tie.Need-loop-again Inv-loop μ-loop
-loop-again c = (omega arith, same-more _ _ _ _ _ (omega arith) (omega arith) (c .before .before .before .loop .inv .1))
+loop-again c =
+    let l = c .before .before .before in
+    let a = l .before .args in
+    (omega arith, block-more (a .a .now) (a .b .now) (a .i) (l .loop .k) (l .loop .all) (omega arith) (omega arith) (l .loop .inv .1))
 
 returns : tie.Need-returns Inv-loop μ-loop
-returns c = let e : c .before .loop .k ≡ 16 = omega arith in rw e at (c .before .loop .inv .1)
+returns c = let e : c .before .loop .k ≡ 8 = omega arith in rw e at (c .before .loop .inv .1)
 
-pub same-16-spec : {M : Type 1} → statement M
-same-16-spec =
+pub same-8-spec : {M : Type 1} → statement M
+same-8-spec =
     tie.close
     (tie.spec
     Inv-loop
