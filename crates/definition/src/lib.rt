@@ -1,12 +1,11 @@
 // A definition line: '>', a name, whitespace, and a description. Refuses an empty line (2), a line without '>' (3), and one without a name
 // (4). The two calls at the bottom also refuse bytes over the size limit (1).
 ghost use mathlib.Core.Path.{_≡_};
-ghost use mathlib.Core.Bool.{cond, false};
-ghost use Prim.Native.Nat.{_+_, _≤_, max};
+ghost use mathlib.Core.Bool.{false};
+ghost use Prim.Native.Nat.{_+_, _≤_};
 ghost use lib.ListN.{length, drop};
 ghost use Rattle.lines.specs.Lines.{contentOf};
-ghost use Rattle.lines.specs.LeftAt.{leftAt};
-ghost use Rattle.definition.specs.Low.{low};
+ghost use Rattle.definition.specs.Low.{anyLow};
 ghost use Rattle.definition.specs.Definition.{isSpace, spaced, run, keep, markedSays, contentSays, definitionSays, failsAt, refusalOf, readAs, contentRead, lineRead};
 use lines::Span;
 use refusal::Refusal;
@@ -68,35 +67,21 @@ fn run_end_near(l: &[u8], at: usize, space: bool) -> usize
     i
 }
 
-// `left` where a byte is low: a space, or less, as all whitespace is; else 0.
-fn left_if_low(b: u8, left: u8) -> u8
-    ensures { λ r. ⌜ r ≡ cond (low b) left 0 ⌝ }
-{
-    if b < 33 { left } else { 0 }
-}
-
-// The greater of two numbers.
-fn greater(a: u8, b: u8) -> u8
-    ensures { λ r. ⌜ r ≡ max a b ⌝ }
-{
-    if a < b { b } else { a }
-}
-
-// Of the 16 bytes from `i` on, how many are left at the first low one, with it; 0 where none is low. The loop never stops early, so the
-// compiler looks at all bytes at once; the first is the one with most bytes left.
-fn left_at_low(l: &[u8], i: usize) -> usize
+// Is one of the 16 bytes from `i` on low: a space, or less, as all whitespace is. The loop never stops early, so the compiler looks at all of
+// them at once.
+fn low_in_16(l: &[u8], i: usize) -> bool
     requires { ⌜ i + 16 ≤ length (now l) ⌝ }
-    ensures { λ r. ⌜ r ≡ leftAt low 16 (drop i (now (l .entry))) ⌝ }
+    ensures { λ r. ⌜ r ≡ anyLow 16 (drop i (now (l .entry))) ⌝ }
 {
-    let mut left: u8 = 0;
+    let mut any = false;
     for k in 0..16 {
-        left = greater(left, left_if_low(l[i + k], (16 - k) as u8));
+        any = any | (l[i + k] < 33);
     }
-    left as usize
+    any
 }
 
-// The end of the bytes from `at` on that are no whitespace, by blocks of 16: most have no low byte. Example: of "r1 first one of all" the
-// first 16 bytes have 14 left at the first low one, which is 2 bytes on.
+// The end of the bytes from `at` on that are no whitespace, by blocks of 16: most of a long name have no low byte. Example: a name of 35 bytes is
+// two such blocks, and three bytes that are looked at one by one.
 fn word_end(l: &[u8], at: usize) -> usize
     ensures { λ r. ⌜ r ≡ at + run (spaced false) (drop at (now (l .entry))) ⌝ }
 {
@@ -105,9 +90,8 @@ fn word_end(l: &[u8], at: usize) -> usize
         if l.len() - i < 16 {
             return run_end_near(l, i, false);
         }
-        let left = left_at_low(l, i);
-        if 0 < left {
-            return run_end_near(l, i + (16 - left), false);
+        if low_in_16(l, i) {
+            return run_end_near(l, i, false);
         }
         i += 16;
     }

@@ -70,14 +70,14 @@ enum Qualities {
     Refused(Refusal),
 }
 
-// The line at `at`; 0 and 0 where there is none.
+// The line at `at`, a long one mostly; 0 and 0 where there is none.
 fn line_at(s: &[u8], at: usize) -> Line
     ensures { λ r. ⌜ r ≡ firstLine (linesAt (now (s .entry)) at) ⌝ }
 {
     if s.len() <= at {
         return Line { width: 0, bases: 0 };
     }
-    let e = lines::ends::line_end(s, at);
+    let e = lines::ends::line_end_far(s, at);
     let bases = lines::base_count(&s[at..e]);
     Line {
         width: e - at,

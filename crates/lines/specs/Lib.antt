@@ -11,5 +11,4 @@ pub mod Alike
 pub mod Clear
 pub mod UpTo
 pub mod Blocks
-pub mod LeftAt
 pub mod FirstLf

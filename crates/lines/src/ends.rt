@@ -62,8 +62,9 @@ fn line_end_near(s: &[u8], at: usize) -> usize
     i
 }
 
-// The offset just past the line that begins at `at`, by blocks of 64 bytes: most have no LF.
-fn line_end_far(s: &[u8], at: usize) -> usize
+// The offset just past the line that begins at `at`; `at` itself at or past the end. By blocks of 64 bytes, of which most have no LF: for lines
+// that are long, as a read's bases.
+pub fn line_end_far(s: &[u8], at: usize) -> usize
     ensures { λ r. ⌜ r ≡ lineEnd (now (s .entry)) at ⌝ }
 {
     let mut i = at;

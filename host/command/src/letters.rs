@@ -25,6 +25,9 @@ fn odd() -> &'static [u8; 256] {
 /// So many bytes are judged together.
 const CHUNK: usize = 64;
 
+/// So many bases of one line are.
+const BASES: usize = 32;
+
 /// Whether a byte is one of the most common letters, in either case. C and G differ in one bit.
 fn is_common(byte: u8) -> bool {
     let small = byte | 0x20;
@@ -42,20 +45,24 @@ fn is_plain(bytes: &[u8; CHUNK + 1]) -> bool {
     all
 }
 
-/// Whether some bytes of one line are the most common letters. All are looked at, many at once.
-fn are_common(line: &[u8]) -> bool {
-    line.iter().fold(true, |all, byte| all & is_common(*byte))
-}
-
 /// Whether the bytes from one place of a file to another are the most common letters and ends of lines, and nothing else.
 fn are_plain(file: &[u8], from: usize, to: usize) -> bool {
     let is_chunk = |at: usize| file.get(at..).and_then(<[u8]>::first_chunk).is_some_and(is_plain);
     if to < from + CHUNK {
-        let letters = b"ACGTNacgtn";
-        return file.get(from..to).is_some_and(|few| few.iter().all(|byte| letters.contains(byte)));
+        return file.get(from..to).is_some_and(|few| few.iter().all(|byte| is_common(*byte)));
     }
     // the last chunk may have some bytes of the one before it
     (from..=to - CHUNK).step_by(CHUNK).all(is_chunk) && is_chunk(to - CHUNK)
+}
+
+/// The same for the bases of one line, which has no end among them: as a short read has.
+fn is_plain_line(bases: &[u8]) -> bool {
+    let are_common = |bases: &[u8; BASES]| bases.iter().fold(true, |all, byte| all & is_common(*byte));
+    match bases.last_chunk() {
+        None => bases.iter().all(|byte| is_common(*byte)),
+        // the last chunk may have some bytes of the one before it
+        Some(last) => bases.chunks_exact(BASES).filter_map(<[u8]>::first_chunk).all(are_common) && are_common(last),
+    }
 }
 
 /// How many bytes are no letters, and where the first lies.
@@ -144,16 +151,17 @@ impl Odd {
         let table = odd();
         let mut found = Self::default();
         for [position, length, line_bases, line_width] in records {
-            if length <= line_bases
-                && file.get(position as usize..position.saturating_add(length) as usize).is_some_and(are_common)
-            {
-                continue;
-            }
             let offset = |before: u64| {
                 before.checked_div(line_bases).map(|lines| position + lines * line_width + before % line_bases)
             };
-            let last = length.checked_sub(1).and_then(offset);
-            if last.is_none_or(|last| are_plain(file, position as usize, last as usize + 1)) {
+            let is_plain = if length <= line_bases {
+                let rest = file.get(position as usize..).unwrap_or_default();
+                rest.get(..length as usize).is_some_and(is_plain_line)
+            } else {
+                let last = length.checked_sub(1).and_then(offset);
+                last.is_none_or(|last| are_plain(file, position as usize, last as usize + 1))
+            };
+            if is_plain {
                 continue;
             }
             for line in 0..length.div_ceil(line_bases) {

@@ -5,8 +5,7 @@ use mathlib.Core.Path.{_≡_, _∙_}
 use native.Mathlib.Omega.{arith}
 use borrow.Author.Needs.{needs}
 use lib.ListN.{take, drop}
-use Rattle.lines.specs.LeftAt.{left-none, left-more, left-all, left-le}
-use Rattle.lines.specs.FirstLf.{isLf, leftAtLf}
+use Rattle.lines.specs.FirstLf.{leftAtLf, left-none, left-more, left-all, left-le}
 use Rattle.lines.proofs.ends.left_at_lf.Statement.{statement}
 use Rattle.lines.proofs.ends.left_at_lf.Tie as tie
 
@@ -17,7 +16,7 @@ abbrev μ-loop : tie.MeasureT-loop
 μ-loop s i left₀ k₀ left k = 64 - k
 
 loop-holds : tie.Need-loop-holds Inv-loop μ-loop
-loop-holds c = (omega arith, left-none isLf 64)
+loop-holds c = (omega arith, left-none 64)
 
 add-left-if-lf : tie.Need-add-left-if-lf Inv-loop μ-loop
 add-left-if-lf c = search needs
@@ -47,19 +46,19 @@ loop-again : tie.Need-loop-again Inv-loop μ-loop
 loop-again c =
     let l = c .before .before .before .before in
     let a = l .before .before .args in
-    (omega arith, c .greater .ensures ∙ rw (c .before .left-if-lf .ensures) (left-more isLf 64 (a .s .now) (a .i) (l .loop .k) (l .loop .left) (omega arith) (l .loop .inv .1)))
+    (omega arith, c .greater .ensures ∙ rw (c .before .left-if-lf .ensures) (left-more 64 (a .s .now) (a .i) (l .loop .k) (l .loop .left) (omega arith) (l .loop .inv .1)))
 
 cast-result : tie.Need-cast-result Inv-loop μ-loop
 cast-result c =
     let a = c .before .before .before .args in
-    let h : c .before .loop .left ≤ 64 = rw (c .before .loop .inv .1) (left-le isLf 64 (take (c .before .loop .k) (drop (a .i) (a .s .now)))) in
+    let h : c .before .loop .left ≤ 64 = rw (c .before .loop .inv .1) (left-le 64 (take (c .before .loop .k) (drop (a .i) (a .s .now)))) in
     search needs
 
 returns : tie.Need-returns Inv-loop μ-loop
 returns c =
     let a = c .before .before .before .args in
     let e : c .before .loop .k ≡ 64 = omega arith in
-    rw e at (c .before .loop .inv .1) ∙ left-all isLf 64 (drop (a .i) (a .s .now))
+    rw e at (c .before .loop .inv .1) ∙ left-all 64 (drop (a .i) (a .s .now))
 
 pub left-at-lf-spec : {M : Type 1} → statement M
 left-at-lf-spec =

@@ -4,8 +4,7 @@ use mathlib.Core.Path.{_≡_, sym, _∙_}
 use native.Mathlib.Omega.{arith}
 use borrow.Author.Needs.{needs}
 use lib.ListN.{drop}
-use Rattle.lines.specs.LeftAt.{left-le}
-use Rattle.lines.specs.FirstLf.{isLf, left-clear, end-past, end-here}
+use Rattle.lines.specs.FirstLf.{left-le, left-clear, end-past, end-here}
 use Rattle.lines.proofs.ends.line_end.Statement.{statement}
 use Rattle.lines.proofs.ends.line_end.Tie as tie
 
@@ -42,7 +41,7 @@ returns-3 c =
 sub-result : tie.Need-sub-result
 sub-result c =
     let a = c .before .before .before .before .before .args in
-    omega (arith, c .before .left-at-lf .ensures, left-le isLf 64 (drop (a .at) (a .s .now)))
+    omega (arith, c .before .left-at-lf .ensures, left-le 64 (drop (a .at) (a .s .now)))
 
 add-result : tie.Need-add-result
 add-result c = search needs

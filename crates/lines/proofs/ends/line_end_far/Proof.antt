@@ -7,8 +7,7 @@ use borrow.Author.Needs.{needs}
 use lib.ListN.{length, drop}
 use Rattle.lines.specs.Lines.{lineEnd}
 use Rattle.lines.specs.Laws.{lineLen-end}
-use Rattle.lines.specs.LeftAt.{left-le}
-use Rattle.lines.specs.FirstLf.{isLf, leftAtLf, left-some, end-past, end-here}
+use Rattle.lines.specs.FirstLf.{leftAtLf, left-le, left-some, end-past, end-here}
 use Rattle.lines.proofs.ends.line_end_far.Statement.{statement}
 use Rattle.lines.proofs.ends.line_end_far.Tie as tie
 
@@ -41,7 +40,7 @@ found : (c : tie.After-left-at-lf Inv-loop μ-loop) → (0 < c .left-at-lf .resu
 found c =
     let b = c .before .before in
     let l = drop (b .before .before .before .loop .i) (b .before .before .before .before .before .args .s .now) in
-    rw (c .left-at-lf .ensures) (left-some 64 l (sym (b .lf-in-64 .ensures) ∙ c .before .if2 .taken), left-le isLf 64 l)
+    rw (c .left-at-lf .ensures) (left-some 64 l (sym (b .lf-in-64 .ensures) ∙ c .before .if2 .taken), left-le 64 l)
 
 sub-result : tie.Need-sub-result Inv-loop μ-loop
 sub-result c = omega (arith, found c)
