@@ -106,7 +106,8 @@ fn is_thymine(x: u8) -> bool
     x | 1 == b'u'
 }
 
-// The letter that the key means, in lower case: what was typed where the key has N, else its own.
+// The letter that the key means, in lower case: what was typed where the key has N, else its own. The key `ANT` and typed `AGU` mean a, g
+// and t.
 fn meant(k: u8, t: u8) -> u8
     ensures { λ r. ⌜ r ≡ meant k t ⌝ }
 {
@@ -116,7 +117,7 @@ fn meant(k: u8, t: u8) -> u8
     k | 32
 }
 
-// Is a letter in lower case A, C, G, T, U or N. C and G differ in the bit 4.
+// Is a letter in lower case A, C, G, T, U or N. C and G differ in the bit 4. N is meant only where N was typed for N.
 fn is_clear(x: u8) -> bool
     ensures { λ r. ⌜ r ≡ isClear x ⌝ }
 {
@@ -150,8 +151,8 @@ fn same32(key: &[u8], typed: &[u8], at: usize) -> u8
     right
 }
 
-// How many of some places are right if all are told by the letters alone, and how many are told. Both are counted in one loop, in bytes, so
-// that the compiler counts 32 places at once; 224 is the most times 32 that a byte holds.
+// How many of some places are right if all are told by the letters alone, and how many are told: of `ACGN` and typed `acTa` two and three.
+// Both are counted in one loop, in bytes, so that the compiler counts 32 places at once; 224 is the most times 32 that a byte holds.
 fn alike_in(key: &[u8], typed: &[u8], at: usize, n: usize) -> Seen
     requires { ⌜ (n ≤ 224) × (at + n ≤ length (now key)) × (at + n ≤ length (now typed)) ⌝ }
     ensures { λ r. ⌜ Counted (agrees alike (now (key .entry)) (now (typed .entry))) at n (r .right) × Counted (agrees told (now (key .entry)) (now (typed .entry))) at n (r .told) ⌝ }
@@ -169,7 +170,7 @@ fn alike_in(key: &[u8], typed: &[u8], at: usize, n: usize) -> Seen
     Seen { right, told }
 }
 
-// The same with N and U.
+// The same by the letters that the key means: of `ACGN` and typed `acTa` three and four.
 fn fits_in(key: &[u8], typed: &[u8], at: usize, n: usize) -> Seen
     requires { ⌜ (n ≤ 224) × (at + n ≤ length (now key)) × (at + n ≤ length (now typed)) ⌝ }
     ensures { λ r. ⌜ Counted (agrees fits (now (key .entry)) (now (typed .entry))) at n (r .right) × Counted (agrees clear (now (key .entry)) (now (typed .entry))) at n (r .told) ⌝ }
@@ -253,8 +254,8 @@ fn second_rest(codes: &[u8; 256], key: &[u8], typed: &[u8], at: usize, n: usize)
     right
 }
 
-// How many of the first n places are right in edition 2: by the letters alone, which is quickest, up to the first part that has a key
-// letter or a U that they do not tell; a key that has one N has more.
+// How many of the first n places are right in edition 2: by the letters alone, which is quickest, up to the first part that they do not tell.
+// From there on they are not tried again: a key that has one N is likely to have more.
 fn second_in(codes: &[u8; 256], key: &[u8], typed: &[u8], n: usize) -> usize
     requires { ⌜ IsTable setOf (now codes) × (n ≤ length (now key)) × (n ≤ length (now typed)) ⌝ }
     ensures { λ r. ⌜ Counted (agrees (ruleFor true) (now (key .entry)) (now (typed .entry))) 0 n r ⌝ }
