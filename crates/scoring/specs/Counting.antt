@@ -68,6 +68,10 @@ counted-more f at n r b c e =
     let q : at + (n + 1) ≡ at + n + 1 = omega arith in
     record { counts = rw q (omega (arith, c .counts, count-more f (at + n))); most = omega (arith, c .most, bit-lt (f (at + n))) }
 
+-- as many as there are places are all
+pub counted-full : (f : ℕ → Bool) (at n r : ℕ) → Counted f at n r → n ≤ r → Counted f at n n
+counted-full f at n r c h = let q : r ≡ n = omega (arith, c .most) in rw q at c
+
 pub counted-join : (f : ℕ → Bool) (at m n r s : ℕ) → Counted f at m r → Counted f (at + m) n s → Counted f at (m + n) (r + s)
 counted-join f at m n r s c d =
     let q : at + (m + n) ≡ at + m + n = omega arith in
@@ -78,21 +82,25 @@ unfolding countBelow
 count-rise f a zero = rw (add-zero a) (omega arith)
 count-rise f a (suc d) = rw (add-suc a d) (omega (arith, count-rise f a d, bit-lt (f (a + d))))
 
--- where all pass, all pass a weaker test
-pub counted-all : (f g : ℕ → Bool) (at n : ℕ) → ((p : ℕ) → f p ≡ true → g p ≡ true) → Counted f at n n → Counted g at n n
+-- where all pass a test, two others that agree there count the same
+count-as : (f g h : ℕ → Bool) (at n : ℕ) → ((p : ℕ) → h p ≡ true → g p ≡ f p) → countBelow h at + n ≡ countBelow h (at + n)
+    → countBelow g (at + n) + countBelow f at ≡ countBelow g at + countBelow f (at + n)
 unfolding countBelow
-counted-all f g at zero h c = counted-none g at
-counted-all f g at (suc n) h c = go (f (at + n)) refl (λ w. counted-all f g at n h w)
+count-as f g h at zero e c = rw (add-zero at) (omega arith)
+count-as f g h at (suc n) e c = rw (add-suc at n) (go (h (at + n)) refl (λ w. count-as f g h at n e w))
   where
-    here : countBelow f at + suc n ≡ countBelow f (at + n) + bit (f (at + n))
-    here = rw (add-suc at n) at (c .counts)
+    here : countBelow h at + suc n ≡ countBelow h (at + n) + bit (h (at + n))
+    here = rw (add-suc at n) at c
 
-    go : (t : Bool) → f (at + n) ≡ t → (Counted f at n n → Counted g at n n) → Counted g at (suc n) (suc n)
-    go true e more =
-        let m : countBelow f at + n ≡ countBelow f (at + n) = omega (arith, count-rise f at n, here, ap bit e) in
-        let w = more (record { counts = m; most = omega arith }) in
-        record { counts = rw (add-suc at n, h (at + n) e) (omega (arith, w .counts)); most = omega arith }
-    go false e more = absurd (omega (arith, count-rise f at n, here, ap bit e))
+    go : (t : Bool) → h (at + n) ≡ t → (countBelow h at + n ≡ countBelow h (at + n) → countBelow g (at + n) + countBelow f at ≡ countBelow g at + countBelow f (at + n))
+        → countBelow g (at + n) + bit (g (at + n)) + countBelow f at ≡ countBelow g at + (countBelow f (at + n) + bit (f (at + n)))
+    go true p more =
+        let w : countBelow h at + n ≡ countBelow h (at + n) = omega (arith, count-rise h at n, here, ap bit p) in
+        omega (arith, more w, ap bit (e (at + n) p))
+    go false p more = absurd (omega (arith, count-rise h at n, here, ap bit p))
+
+pub counted-as : (f g h : ℕ → Bool) (at n r : ℕ) → ((p : ℕ) → h p ≡ true → g p ≡ f p) → Counted h at n n → Counted f at n r → Counted g at n r
+counted-as f g h at n r e d c = record { counts = omega (arith, count-as f g h at n e (d .counts), c .counts); most = c .most }
 
 -- ---- the places of a key and what was typed
 

@@ -5,4 +5,5 @@ pub mod RuleLaws
 pub mod Laws
 pub mod Theorems
 pub mod Plain
+pub mod Meant
 pub mod Examples

@@ -3,15 +3,12 @@ use Prim.Native.Nat.{ℕ, zero, suc, _-_, _≤_, _<_}
 use mathlib.Core.Path.{_≡_, refl, sym, ap, _∙_}
 use mathlib.Core.Bool.{Bool, true, false, cond, not, _&&_, true≢false}
 use native.Mathlib.Omega.{arith}
-use mathlib.Core.List.{List}
-use lib.ListN.{getD}
 use lib.Dec.{T, eqb, ltb, eqb→eq}
 use lib.Bits.{bitAnd, and-self, and-zero-r}
 use borrow.Author.Tests.{eq-eqb, ne-eqb, eqb-true, eqb-false, ltb-true, ltb-false, lt-ltb, le-ltb}
 use Rattle.letters.specs.Letters.{setOf}
 use Rattle.letters.specs.Sets.{inside}
-use Rattle.scoring.specs.Rules.{folded, same, coded, lies, ruleFor}
-use Rattle.scoring.specs.Counting.{Counted, agrees, counted-all}
+use Rattle.scoring.specs.Rules.{folded, same, coded, lies}
 
 -- ---- folding
 
@@ -112,8 +109,10 @@ lies-no k t z e = go (same k t) refl
     go true p = absurd (e (ap (bitAnd (setOf t)) (same-set k t p) ∙ and-self (setOf t)))
     go false p = sym (not-lies k t z e p)
 
--- a part all right in edition 1 is all right in either
-pub counted-right : (second : Bool) (key typed : List ℕ) (at n : ℕ) → Counted (agrees same key typed) at n n → Counted (agrees (ruleFor second) key typed) at n n
-unfolding agrees
-counted-right true key typed at n c = counted-all (agrees same key typed) (agrees lies key typed) at n (λ p e. same-lies (getD key p 0) (getD typed p 0) e) c
-counted-right false key typed at n c = c
+-- so the two sets tell it
+pub lies-set : (k t : ℕ) → (setOf t ≡ 0 → ⊥) → eqb (bitAnd (setOf t) (setOf k)) (setOf t) ≡ lies k t
+lies-set k t z = go (eqb (bitAnd (setOf t) (setOf k)) (setOf t)) refl
+  where
+    go : (a : Bool) → eqb (bitAnd (setOf t) (setOf k)) (setOf t) ≡ a → a ≡ lies k t
+    go true e = lies-in k t z (eqb-true _ _ e)
+    go false e = lies-no k t z (eqb-false _ _ e)

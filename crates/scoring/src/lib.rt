@@ -2,14 +2,15 @@
 // whose denominator is what was asked. Refused: 1 for bytes over the limit, then 33 for an edition that is not known.
 use refusal::Refusal;
 ghost use mathlib.Core.Path.{_≡_};
-ghost use mathlib.Core.Bool.{true};
+ghost use mathlib.Core.Bool.{true, false};
 ghost use Prim.Native.Nat.{ℕ, _+_, _≤_, _<_, min};
 ghost use lib.ListN.{length, getD};
 ghost use Rattle.letters.specs.Letters.{setOf};
 ghost use Rattle.letters.specs.Sets.{bit};
 ghost use Rattle.letters.specs.Table.{IsTable};
 ghost use Rattle.scoring.specs.Rules.{folded, same, lies, ruleFor};
-ghost use Rattle.scoring.specs.Plain.{isPlain, isAny, isLone, isUracil, alike, told, sure, anyAt};
+ghost use Rattle.scoring.specs.Plain.{isLone, isUracil, alike, told};
+ghost use Rattle.scoring.specs.Meant.{isClear, isThymine, meant, clear, fits};
 ghost use Rattle.scoring.specs.Places.{tenths, scoreBy, keyScored, scoredAs};
 ghost use Rattle.scoring.specs.Counting.{Counted, agrees};
 
@@ -27,9 +28,9 @@ pub enum Scored {
     Refused(Refusal),
 }
 
-// What is seen of some places: at how many the bytes are alike, and at how many that tells edition 2.
+// What is seen of some places: how many are right if all of them are told, and how many are told.
 struct Seen {
-    alike: u8,
+    right: u8,
     told: u8,
 }
 
@@ -65,38 +66,7 @@ fn lies_bit(codes: &[u8; 256], k: u8, t: u8) -> u8
     if set == 0 {
         return same_bit(k, t);
     }
-    if set & codes[k as usize] == set {
-        return 1;
-    }
-    0
-}
-
-// Is a byte A, C, G or T, in either case. A letter in lower case has the bit 32; C and G differ in the bit 4.
-fn is_plain(b: u8) -> bool
-    ensures { λ r. ⌜ r ≡ isPlain b ⌝ }
-{
-    let low = b | 32;
-    (low | 4 == b'g') | (low == b'a') | (low == b't')
-}
-
-// Is a byte N, in either case: any base.
-fn is_any(b: u8) -> bool
-    ensures { λ r. ⌜ r ≡ isAny b ⌝ }
-{
-    b | 32 == b'n'
-}
-
-fn any_bit(k: u8) -> u8
-    ensures { λ r. ⌜ r ≡ bit (isAny k) ⌝ }
-{
-    is_any(k) as u8
-}
-
-// Is edition 2 told by the letters and by N, as a number: a plain letter was typed for a plain one or for N.
-fn sure_bit(k: u8, t: u8) -> u8
-    ensures { λ r. ⌜ r ≡ bit (sure k t) ⌝ }
-{
-    (is_plain(t) & (is_plain(k) | is_any(k))) as u8
+    (set & codes[k as usize] == set) as u8
 }
 
 // Is a byte A, C, G or T, or E, in either case: letters that stand for one base, and one that stands for none. Of these but T all have the
@@ -129,6 +99,46 @@ fn alike_bit(k: u8, t: u8) -> u8
     (k | 32 == t | 32) as u8
 }
 
+// Is a letter in lower case T or U: they differ in the bit 1.
+fn is_thymine(x: u8) -> bool
+    ensures { λ r. ⌜ r ≡ isThymine x ⌝ }
+{
+    x | 1 == b'u'
+}
+
+// The letter that the key means, in lower case: what was typed where the key has N, else its own. The key `ANT` and typed `AGU` mean a, g
+// and t.
+fn meant(k: u8, t: u8) -> u8
+    ensures { λ r. ⌜ r ≡ meant k t ⌝ }
+{
+    if k | 32 == b'n' {
+        return t | 32;
+    }
+    k | 32
+}
+
+// Is a letter in lower case A, C, G, T, U or N. C and G differ in the bit 4. N is meant only where N was typed for N.
+fn is_clear(x: u8) -> bool
+    ensures { λ r. ⌜ r ≡ isClear x ⌝ }
+{
+    (x | 4 == b'g') | (x == b'a') | is_thymine(x) | (x == b'n')
+}
+
+// Is edition 2 told by the letter that the key means, as a number.
+fn clear_bit(k: u8, t: u8) -> u8
+    ensures { λ r. ⌜ r ≡ bit (clear k t) ⌝ }
+{
+    is_clear(meant(k, t)) as u8
+}
+
+// Was the letter typed that the key means, as a number. The two may differ in the bit 1 where it is T or U.
+fn fits_bit(k: u8, t: u8) -> u8
+    ensures { λ r. ⌜ r ≡ bit (fits k t) ⌝ }
+{
+    let x = meant(k, t);
+    (x ^ (t | 32) <= is_thymine(x) as u8) as u8
+}
+
 // How many of 32 places are right in edition 1.
 fn same32(key: &[u8], typed: &[u8], at: usize) -> u8
     requires { ⌜ (at + 32 ≤ length (now key)) × (at + 32 ≤ length (now typed)) ⌝ }
@@ -141,45 +151,41 @@ fn same32(key: &[u8], typed: &[u8], at: usize) -> u8
     right
 }
 
-// At how many of 32 places the bytes are the same but for the bit of lower case, and at how many edition 2 is told by the letters alone. Both
-// are counted in one loop: it is too long to be unrolled, and so the compiler counts 16 places at once.
-fn seen32(key: &[u8], typed: &[u8], at: usize) -> Seen
-    requires { ⌜ (at + 32 ≤ length (now key)) × (at + 32 ≤ length (now typed)) ⌝ }
-    ensures { λ r. ⌜ Counted (agrees alike (now (key .entry)) (now (typed .entry))) at 32 (r .alike) × Counted (agrees told (now (key .entry)) (now (typed .entry))) at 32 (r .told) ⌝ }
+// How many of some places are right if all are told by the letters alone, and how many are told: of `ACGN` and typed `acTa` two and three.
+// Both are counted in one loop, in bytes, so that the compiler counts 32 places at once; 224 is the most times 32 that a byte holds.
+fn alike_in(key: &[u8], typed: &[u8], at: usize, n: usize) -> Seen
+    requires { ⌜ (n ≤ 224) × (at + n ≤ length (now key)) × (at + n ≤ length (now typed)) ⌝ }
+    ensures { λ r. ⌜ Counted (agrees alike (now (key .entry)) (now (typed .entry))) at n (r .right) × Counted (agrees told (now (key .entry)) (now (typed .entry))) at n (r .told) ⌝ }
 {
-    let mut alike: u8 = 0;
+    let mut right: u8 = 0;
     let mut told: u8 = 0;
-    for j in 0..32 {
+    let mut j = 0;
+    while j < n {
         let k = key[at + j];
         let t = typed[at + j];
-        alike = alike + alike_bit(k, t);
+        right = right + alike_bit(k, t);
         told = told + told_bit(k, t);
+        j += 1;
     }
-    Seen { alike, told }
+    Seen { right, told }
 }
 
-// At how many of 32 places edition 2 is told by them and by N.
-fn sure32(key: &[u8], typed: &[u8], at: usize) -> u8
-    requires { ⌜ (at + 32 ≤ length (now key)) × (at + 32 ≤ length (now typed)) ⌝ }
-    ensures { λ r. ⌜ Counted (agrees sure (now (key .entry)) (now (typed .entry))) at 32 r ⌝ }
+// The same by the letters that the key means: of `ACGN` and typed `acTa` three and four.
+fn fits_in(key: &[u8], typed: &[u8], at: usize, n: usize) -> Seen
+    requires { ⌜ (n ≤ 224) × (at + n ≤ length (now key)) × (at + n ≤ length (now typed)) ⌝ }
+    ensures { λ r. ⌜ Counted (agrees fits (now (key .entry)) (now (typed .entry))) at n (r .right) × Counted (agrees clear (now (key .entry)) (now (typed .entry))) at n (r .told) ⌝ }
 {
     let mut right: u8 = 0;
-    for j in 0..32 {
-        right = right + sure_bit(key[at + j], typed[at + j]);
+    let mut told: u8 = 0;
+    let mut j = 0;
+    while j < n {
+        let k = key[at + j];
+        let t = typed[at + j];
+        right = right + fits_bit(k, t);
+        told = told + clear_bit(k, t);
+        j += 1;
     }
-    right
-}
-
-// At how many of 32 places the key has N.
-fn any32(key: &[u8], at: usize) -> u8
-    requires { ⌜ at + 32 ≤ length (now key) ⌝ }
-    ensures { λ r. ⌜ Counted (anyAt (now (key .entry))) at 32 r ⌝ }
-{
-    let mut right: u8 = 0;
-    for j in 0..32 {
-        right = right + any_bit(key[at + j]);
-    }
-    right
+    Seen { right, told }
 }
 
 fn wide(b: u8) -> usize
@@ -212,34 +218,74 @@ fn right_bit(codes: &[u8; 256], k: u8, t: u8, second: bool) -> u8
     same_bit(k, t)
 }
 
-// How many of 32 places are right in edition 2: by letters alone, where those of the key stand for one base; with N, any plain letter is
-// right too; what edition 1 takes, edition 2 takes too; else each place is looked at.
-fn second_block(codes: &[u8; 256], key: &[u8], typed: &[u8], at: usize) -> usize
-    requires { ⌜ IsTable setOf (now codes) × (at + 32 ≤ length (now key)) × (at + 32 ≤ length (now typed)) ⌝ }
-    ensures { λ r. ⌜ Counted (agrees (ruleFor true) (now (key .entry)) (now (typed .entry))) at 32 r ⌝ }
+// How many of at most 224 places are right in edition 2: by the letters that the key means, or each place is looked at.
+fn second_part(codes: &[u8; 256], key: &[u8], typed: &[u8], at: usize, n: usize) -> usize
+    requires { ⌜ (IsTable setOf (now codes) × (n ≤ 224)) × (at + n ≤ length (now key)) × (at + n ≤ length (now typed)) ⌝ }
+    ensures { λ r. ⌜ Counted (agrees (ruleFor true) (now (key .entry)) (now (typed .entry))) at n r ⌝ }
 {
-    let seen = seen32(key, typed, at);
-    if seen.told == 32 {
-        return wide(seen.alike);
+    let seen = fits_in(key, typed, at, n);
+    if wide(seen.told) == n {
+        return wide(seen.right);
     }
-    if sure32(key, typed, at) == 32 {
-        return wide(seen.alike) + wide(any32(key, at));
-    }
-    if same32(key, typed, at) == 32 {
-        return 32;
-    }
-    run(codes, key, typed, at, 32, true)
+    run(codes, key, typed, at, n, true)
 }
 
-// How many of 32 places are right.
-fn block(codes: &[u8; 256], key: &[u8], typed: &[u8], at: usize, second: bool) -> usize
-    requires { ⌜ IsTable setOf (now codes) × (at + 32 ≤ length (now key)) × (at + 32 ≤ length (now typed)) ⌝ }
-    ensures { λ r. ⌜ Counted (agrees (ruleFor second) (now (key .entry)) (now (typed .entry))) at 32 r ⌝ }
+fn smaller(a: usize, b: usize) -> usize
+    ensures { λ r. ⌜ r ≡ min a b ⌝ }
 {
-    if second {
-        return second_block(codes, key, typed, at);
+    if a < b {
+        return a;
     }
-    wide(same32(key, typed, at))
+    b
+}
+
+// The same of any number of places, part by part.
+fn second_rest(codes: &[u8; 256], key: &[u8], typed: &[u8], at: usize, n: usize) -> usize
+    requires { ⌜ IsTable setOf (now codes) × (at + n ≤ length (now key)) × (at + n ≤ length (now typed)) ⌝ }
+    ensures { λ r. ⌜ Counted (agrees (ruleFor true) (now (key .entry)) (now (typed .entry))) at n r ⌝ }
+{
+    let mut right: usize = 0;
+    let mut j = 0;
+    while j < n {
+        let m = smaller(n - j, 224);
+        right = right + second_part(codes, key, typed, at + j, m);
+        j += m;
+    }
+    right
+}
+
+// How many of the first n places are right in edition 2: by the letters alone, which is quickest, up to the first part that they do not tell.
+// From there on they are not tried again: a key that has one N is likely to have more.
+fn second_in(codes: &[u8; 256], key: &[u8], typed: &[u8], n: usize) -> usize
+    requires { ⌜ IsTable setOf (now codes) × (n ≤ length (now key)) × (n ≤ length (now typed)) ⌝ }
+    ensures { λ r. ⌜ Counted (agrees (ruleFor true) (now (key .entry)) (now (typed .entry))) 0 n r ⌝ }
+{
+    let mut right: usize = 0;
+    let mut i = 0;
+    while i < n {
+        let m = smaller(n - i, 224);
+        let seen = alike_in(key, typed, i, m);
+        if wide(seen.told) < m {
+            return right + second_rest(codes, key, typed, i, n - i);
+        }
+        right = right + wide(seen.right);
+        i += m;
+    }
+    right
+}
+
+// How many of the first n places are right in edition 1: by 32 places, and one by one.
+fn first_in(codes: &[u8; 256], key: &[u8], typed: &[u8], n: usize) -> usize
+    requires { ⌜ IsTable setOf (now codes) × (n ≤ length (now key)) × (n ≤ length (now typed)) ⌝ }
+    ensures { λ r. ⌜ Counted (agrees (ruleFor false) (now (key .entry)) (now (typed .entry))) 0 n r ⌝ }
+{
+    let mut right: usize = 0;
+    let mut i = 0;
+    while 32 <= n - i {
+        right = right + wide(same32(key, typed, i));
+        i += 32;
+    }
+    right + run(codes, key, typed, i, n - i, false)
 }
 
 // How many of the first n places are right.
@@ -248,13 +294,10 @@ fn right_in(key: &[u8], typed: &[u8], n: usize, second: bool) -> usize
     ensures { λ r. ⌜ Counted (agrees (ruleFor second) (now (key .entry)) (now (typed .entry))) 0 n r ⌝ }
 {
     let codes = letters::sets();
-    let mut right: usize = 0;
-    let mut i = 0;
-    while 32 <= n - i {
-        right = right + block(&codes, key, typed, i, second);
-        i += 32;
+    if second {
+        return second_in(&codes, key, typed, n);
     }
-    right + run(&codes, key, typed, i, n - i, second)
+    first_in(&codes, key, typed, n)
 }
 
 // The score of so many right places, of a whole.
@@ -266,15 +309,6 @@ fn tenths(right: u64, whole: u64) -> u64
         return 0;
     }
     1000 * right / whole
-}
-
-fn smaller(a: usize, b: usize) -> usize
-    ensures { λ r. ⌜ r ≡ min a b ⌝ }
-{
-    if a < b {
-        return a;
-    }
-    b
 }
 
 // The counts and the score of a key and what was typed, in edition 1 or 2.

@@ -1,13 +1,14 @@
 -- `scoring::lies_bit` meets its contract, by the typed byte's set.
 -- Assumes nothing.
 use mathlib.Core.Path.{_≡_, refl, sym, ap, _∙_}
-use native.Mathlib.Omega.{arith}
-use Prim.Native.Nat.{_<_}
+use lib.Bits.{bitAnd}
+use lib.Dec.{eqb}
 use lib.ListN.{getD}
 use Rattle.letters.specs.Sets.{bit}
 use Rattle.letters.specs.Letters.{setOf}
 use Rattle.letters.specs.Table.{entry}
-use Rattle.scoring.specs.RuleLaws.{lies-none, lies-in, lies-no}
+use Rattle.scoring.specs.RuleLaws.{lies-none, lies-set}
+use Rattle.scoring.specs.Plain.{byte-bit}
 use borrow.Author.Needs.{needs}
 use Rattle.scoring.proofs.lies_bit.Statement.{statement}
 use Rattle.scoring.proofs.lies_bit.Tie as tie
@@ -30,14 +31,14 @@ same-bit-requires c κs = search needs
 returns : tie.Need-returns
 returns c = let s = c .before .before .before in c .same-bit .ensures ∙ ap bit (lies-none _ _ (sym (typed-set s) ∙ c .before .if1 .taken))
 
-element-copy-out-if2 : tie.Need-element-copy-out-if2
-element-copy-out-if2 c = search needs
+element-copy-out-result : tie.Need-element-copy-out-result
+element-copy-out-result c = search needs
+
+cast-result : tie.Need-cast-result
+cast-result c = search needs
 
 returns-2 : tie.Need-returns-2
-returns-2 c = let s = c .before .before .before .before in ap bit (lies-in _ _ (λ z. c .before .before .if1 .left (typed-set s ∙ z)) (rw (typed-set s, key-set s) at (c .if2 .taken)))
-
-returns-3 : tie.Need-returns-3
-returns-3 c = let s = c .before .before .before .before in ap bit (lies-no _ _ (λ z. c .before .before .if1 .left (typed-set s ∙ z)) (λ z. c .if2 .left (rw (typed-set s, key-set s) z)))
+returns-2 c = let s = c .before .before .before in rw (typed-set s, key-set s) (byte-bit (eqb (bitAnd (setOf (s .args .t)) (setOf (s .args .k))) (setOf (s .args .t))) ∙ ap bit (lies-set (s .args .k) (s .args .t) (λ z. c .before .if1 .left (typed-set s ∙ z))))
 
 pub lies-bit-spec : {M : Type 1} → statement M
 lies-bit-spec =
@@ -46,6 +47,6 @@ lies-bit-spec =
     element-copy-out-set
     same-bit-requires
     returns
-    element-copy-out-if2
-    returns-2
-    returns-3)
+    element-copy-out-result
+    cast-result
+    returns-2)

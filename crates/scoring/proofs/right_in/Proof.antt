@@ -1,78 +1,27 @@
--- `scoring::right_in` meets its contract: block by block, and the rest.
+-- `scoring::right_in` meets its contract: each edition has its own way to count.
 -- Assumes nothing.
-use Prim.Native.Nat.{_+_, _-_, _≤_}
-use mathlib.Core.Path.{_≡_, refl, sym, ap, _∙_}
-use native.Mathlib.Omega.{arith}
-use Rattle.scoring.specs.Rules.{ruleFor}
-use Rattle.scoring.specs.Counting.{Counted, agrees, counted-none, counted-onward}
 use borrow.Author.Needs.{needs}
 use Rattle.scoring.proofs.right_in.Statement.{statement}
 use Rattle.scoring.proofs.right_in.Tie as tie
 use Rattle.scoring.proofs.right_in.Reads as reads
 use Rattle.scoring.proofs.right_in.Lts as lts
-use Rattle.scoring.proofs.block.Reads as block-reads
-use Rattle.scoring.proofs.run.Reads as run-reads
+use Rattle.scoring.proofs.first_in.Reads as first-in-reads
+use Rattle.scoring.proofs.second_in.Reads as second-in-reads
 
-abbrev Inv-loop : tie.InvT-loop
-Inv-loop key typed n second codes right₀ i₀ right i = (i ≤ n) × Counted (agrees (ruleFor second) key typed) 0 i right
-
-abbrev μ-loop : tie.MeasureT-loop
-μ-loop key typed n second codes right₀ i₀ right i = n - i
-
-sets-requires : tie.Need-sets-requires Inv-loop μ-loop
+sets-requires : tie.Need-sets-requires
 sets-requires c κs = search needs
 
-loop-holds : tie.Need-loop-holds Inv-loop μ-loop
-loop-holds c = (search needs, counted-none _ _)
+second-in-requires : tie.Need-second-in-requires
+second-in-requires c κs = search needs
 
-sub-loop : tie.Need-sub-loop Inv-loop μ-loop
-sub-loop c = search needs
+returns : tie.Need-returns
+returns c = rw (c .before .before .if1 .taken) (c .second-in .ensures)
 
-block-requires : tie.Need-block-requires Inv-loop μ-loop
-block-requires c κs = search needs
+first-in-requires : tie.Need-first-in-requires
+first-in-requires c κs = search needs
 
-add-right : tie.Need-add-right Inv-loop μ-loop
-add-right c = let w = counted-onward _ _ 32 _ _ (c .before .before .before .loop .inv .1) (c .block .ensures) in omega (arith, w .most)
-
-add-i : tie.Need-add-i Inv-loop μ-loop
-add-i c = search needs
-
-loop-less : tie.Need-loop-less Inv-loop μ-loop
-loop-less c = search needs
-
-loop-again : tie.Need-loop-again Inv-loop μ-loop
-loop-again c = let l = c .before .before .before in (search needs, counted-onward _ _ 32 _ _ (l .loop .inv .1) (c .block .ensures))
-
-sub-run : tie.Need-sub-run Inv-loop μ-loop
-sub-run c = search needs
-
-run-requires : tie.Need-run-requires Inv-loop μ-loop
-run-requires c κs = search needs
-
-add-result : tie.Need-add-result Inv-loop μ-loop
-add-result c = let w = counted-onward _ _ _ _ _ (c .before .before .before .loop .inv .1) (c .run .ensures) in omega (arith, w .most)
-
-returns : tie.Need-returns Inv-loop μ-loop
-returns c =
-    let l = c .before .before .before in
-    let q : l .loop .i + (l .before .before .before .before .args .n - l .loop .i) ≡ l .before .before .before .before .args .n = omega arith in
-    rw q at (counted-onward _ _ _ _ _ (l .loop .inv .1) (c .run .ensures))
+returns-2 : tie.Need-returns-2
+returns-2 c = rw (c .before .before .if1 .left) (c .first-in .ensures)
 
 pub right-in-spec : {M : Type 1} → statement M
-right-in-spec =
-    tie.close
-    (tie.spec
-    Inv-loop
-    μ-loop
-    sets-requires
-    loop-holds
-    sub-loop
-    block-requires
-    add-right
-    add-i
-    loop-less
-    loop-again
-    sub-run
-    run-requires
-    add-result
-    returns)
+right-in-spec = tie.close (tie.spec sets-requires second-in-requires returns first-in-requires returns-2)

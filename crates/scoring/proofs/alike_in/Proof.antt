@@ -1,4 +1,4 @@
--- `scoring::seen32` meets its contract: of the places passed, so many are alike, and so many are told.
+-- `scoring::alike_in` meets its contract: of the places passed, so many are alike, and so many are told.
 -- Assumes nothing.
 use Prim.Native.Nat.{_+_, _-_, _≤_}
 use mathlib.Core.Path.{_≡_, _∙_}
@@ -6,18 +6,18 @@ use native.Mathlib.Omega.{arith}
 use Rattle.scoring.specs.Plain.{alike, told}
 use Rattle.scoring.specs.Counting.{Counted, agrees, counted-none, counted-more}
 use borrow.Author.Needs.{needs}
-use Rattle.scoring.proofs.seen32.Statement.{statement}
-use Rattle.scoring.proofs.seen32.Tie as tie
-use Rattle.scoring.proofs.seen32.Reads as reads
-use Rattle.scoring.proofs.seen32.Lts as lts
+use Rattle.scoring.proofs.alike_in.Statement.{statement}
+use Rattle.scoring.proofs.alike_in.Tie as tie
+use Rattle.scoring.proofs.alike_in.Reads as reads
+use Rattle.scoring.proofs.alike_in.Lts as lts
 use Rattle.scoring.proofs.alike_bit.Reads as alike-bit-reads
 use Rattle.scoring.proofs.told_bit.Reads as told-bit-reads
 
 abbrev Inv-loop : tie.InvT-loop
-Inv-loop key typed at alike₀ told₀ j₀ alike₁ told₁ j = (j ≤ 32) × (Counted (agrees alike key typed) at j alike₁ × Counted (agrees told key typed) at j told₁)
+Inv-loop key typed at n right₀ told₀ j₀ right₁ told₁ j = (j ≤ n) × (Counted (agrees alike key typed) at j right₁ × Counted (agrees told key typed) at j told₁)
 
 abbrev μ-loop : tie.MeasureT-loop
-μ-loop key typed at alike₀ told₀ j₀ alike₁ told₁ j = 32 - j
+μ-loop key typed at n right₀ told₀ j₀ right₁ told₁ j = n - j
 
 loop-holds : tie.Need-loop-holds Inv-loop μ-loop
 loop-holds c = (search needs, (counted-none _ _, counted-none _ _))
@@ -37,9 +37,9 @@ shared-slice-read-t c = search needs
 alike-bit-requires : tie.Need-alike-bit-requires Inv-loop μ-loop
 alike-bit-requires c κs = search needs
 
-add-alike : tie.Need-add-alike Inv-loop μ-loop
+add-right : tie.Need-add-right Inv-loop μ-loop
 unfolding agrees
-add-alike c = let w = counted-more _ _ _ _ _ (c .before .before .before .before .loop .inv .1 .0) (c .alike-bit .ensures) in omega (arith, w .most)
+add-right c = let w = counted-more _ _ _ _ _ (c .before .before .before .before .loop .inv .1 .0) (c .alike-bit .ensures) in omega (arith, w .most)
 
 told-bit-requires : tie.Need-told-bit-requires Inv-loop μ-loop
 told-bit-requires c κs = search needs
@@ -61,10 +61,10 @@ loop-again c =
     (search needs, (counted-more _ _ _ _ _ (l .loop .inv .1 .0) (c .before .alike-bit .ensures), counted-more _ _ _ _ _ (l .loop .inv .1 .1) (c .told-bit .ensures)))
 
 returns : tie.Need-returns Inv-loop μ-loop
-returns c = let q : c .before .loop .j ≡ 32 = omega arith in rw q at (c .before .loop .inv .1)
+returns c = let q : c .before .loop .j ≡ c .before .before .before .before .args .n = omega arith in rw q at (c .before .loop .inv .1)
 
-pub seen32-spec : {M : Type 1} → statement M
-seen32-spec =
+pub alike-in-spec : {M : Type 1} → statement M
+alike-in-spec =
     tie.close
     (tie.spec
     Inv-loop
@@ -75,7 +75,7 @@ seen32-spec =
     add-t
     shared-slice-read-t
     alike-bit-requires
-    add-alike
+    add-right
     told-bit-requires
     add-told
     add-j
