@@ -3,6 +3,7 @@
 // refusal's number, 0 for none, and its two numbers; what else it tells is 0 after a refusal, but for the rows that stand.
 pub mod answer;
 pub mod bases;
+pub mod cores;
 pub mod course;
 pub mod feeding;
 pub mod files;
