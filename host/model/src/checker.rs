@@ -30,13 +30,7 @@ pub(crate) fn check(fasta: &[u8], index: &[u8]) -> Result<(), No> {
 }
 
 /// A record, which begins at an offset with its definition line, against its index line; how many bytes the record has.
-pub(crate) fn judge(
-    fasta: &[u8],
-    at: usize,
-    line: &[u8],
-    record: u64,
-    index_line: Option<&[u8]>,
-) -> Result<usize, No> {
+pub(crate) fn judge(fasta: &[u8], at: usize, line: &[u8], record: u64, index_line: Option<&[u8]>) -> Result<usize, No> {
     let [name_start, name_length, ..] =
         definition_at(line, n(at)).map_err(|[number, offset, _]| [number, record, offset])?;
     let name = &line[name_start as usize..][..name_length as usize];

@@ -25,7 +25,10 @@ pub(crate) fn index(
     record: fn(&[u8], u64) -> Result<Option<(Row, u64)>, No>,
     table: &mut [u64],
 ) -> Filled {
-    fill(table, records_in(file, part).filter_map(|at| record(file, n(at)).transpose()).map(|row| row.map(|(row, _)| row)))
+    fill(
+        table,
+        records_in(file, part).filter_map(|at| record(file, n(at)).transpose()).map(|row| row.map(|(row, _)| row)),
+    )
 }
 
 /// The records of the part of a file against the lines of the part of its index.

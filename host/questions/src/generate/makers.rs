@@ -577,14 +577,7 @@ fn parted_pair(chance: &mut Chance) -> Vec<Value> {
     if chance.once_in(4) {
         its_lines = some_part(chance, &index);
     }
-    vec![
-        Bytes(sample.text),
-        Number(part[0]),
-        Number(part[1]),
-        Bytes(index),
-        Number(its_lines[0]),
-        Number(its_lines[1]),
-    ]
+    vec![Bytes(sample.text), Number(part[0]), Number(part[1]), Bytes(index), Number(its_lines[0]), Number(its_lines[1])]
 }
 
 // ---- FASTQ ----
