@@ -120,6 +120,13 @@ struct wakeluri_answer wakeluri_index_file(const uint8_t *file, size_t file_leng
  * numbers don't lead to: no index fits this file. Refuses 1, then record by record 2 to 4, 42 and 8. */
 struct wakeluri_answer wakeluri_index_complete(const uint8_t *file, size_t file_length, uint8_t *table, size_t table_length);
 
+/* The same of a part of a file, for a host that has several cores: a row for each record that begins at `from` or behind it, and before `to`. By
+ * the rule of wakeluri_index_file for 0, else by that of wakeluri_index_complete. Any numbers will do: a record begins at 0, and at a '>' behind
+ * an LF. Offsets and spans are those of the whole file. Where the numbers of parts rise from 0 to file_length or more, the rows of all parts,
+ * one behind the other up to the first refusal, are the rows of the file, and that refusal is the file's. Refuses 1 for the whole file, and as
+ * that call does. */
+struct wakeluri_answer wakeluri_index_part(const uint8_t *file, size_t file_length, uint64_t from, uint64_t to, uint64_t complete, uint8_t *table, size_t table_length);
+
 /* The start of a file that is indexed while it arrives: by the rule of wakeluri_index_file for 0, else by that of wakeluri_index_complete.
  * Refuses nothing. */
 struct wakeluri_feed wakeluri_feed_start(uint64_t complete);
@@ -209,6 +216,12 @@ struct wakeluri_score wakeluri_score_exercise(const uint8_t *exercise, size_t ex
 
 /* Accepts a FASTA file and an index of any program exactly if the index leads to every base. Refuses 1, 2 to 4, 19, 9 to 12, 21 to 23, 20. */
 struct wakeluri_answer wakeluri_check(const uint8_t *fasta, size_t fasta_length, const uint8_t *index, size_t index_length);
+
+/* The same of a part of a file and a part of its index: the records that begin at `from` or behind it, and before `to`, against the index lines
+ * that begin at `first` or behind it, and before `last`; both count from 1. Any numbers will do. Where both pairs of numbers rise from 0 to the
+ * lengths or more, and every part is accepted, the whole is. Where a part is refused, ask wakeluri_check: its refusal counts the records of the
+ * whole file. Refuses 1 for the whole file and the whole index, and as wakeluri_check does. */
+struct wakeluri_answer wakeluri_check_part(const uint8_t *fasta, size_t fasta_length, uint64_t from, uint64_t to, const uint8_t *index, size_t index_length, uint64_t first, uint64_t last);
 
 /* FASTQ. A row of its tables is seven numbers (name start, name length, length, position, line bases, line width, quality position), 56 bytes;
  * a line of its index has six columns. A definition line begins with '@'. */

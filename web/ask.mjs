@@ -103,6 +103,8 @@ const FAMILIES = {
     fqc: ["fastq_check", ["bytes", "bytes"], ifOk(() => "")],
     chk: ["check", ["bytes", "bytes"], ifOk(() => "")],
     // calls that a module may have or not
+    ipt: ["index_part", ["bytes", "number", "number", "number", "table"], counted],
+    cpt: ["check_part", ["bytes", "number", "number", "bytes", "number", "number"], ifOk(() => "")],
     scr: ["score_exercise", ["bytes", "bytes", "bytes", "bytes", "rows", "number", "output"], always((a) => `${a.right} ${a.wrong} ${a.missing} ${a.surplus} ${a.score}`)],
     win: ["read_window", ["number", "bytes", "number", ...region.slice(1)], counted],
     ned: ["needed_bytes", ["number", "number", "rows", "number", "number", "bound", "bound"], always((a) => `${a.from} ${a.to}`)],

@@ -75,6 +75,10 @@ recordsSay k at [] (l ∷ ls) = Refused (refusal.BytesLeft k)
 recordsSay k at (g ∷ gs) ls =
     andThen (recordSays (suc k) at g ls) (recordsSay (suc k) (at + length (g .def) + sumWidths (g .seq)) gs (tailOf ls))
 
+-- the records of a file from an offset on against the lines of an index from a place on, as if no record came before
+unfoldable pub fromSays : List ℕ → ℕ → List ℕ → ℕ → Verdict
+fromSays f at i line = recordsSay 0 at (groups (lines (drop at f))) (lines (drop line i))
+
 -- a file and an index: the size limit first, then every record
 unfoldable pub checkOf : List ℕ → List ℕ → Verdict
 checkOf f i =

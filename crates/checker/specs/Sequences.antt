@@ -44,7 +44,7 @@ bytes-attach l (g ∷ gs) = go (begins (g .def))
     go true = omega arith
     go false = omega arith
 
-bytes-lines : (ls : List (List ℕ)) → bytesOf (groups ls) ≡ sumWidths ls
+pub bytes-lines : (ls : List (List ℕ)) → bytesOf (groups ls) ≡ sumWidths ls
 unfolding groups sumWidths
 bytes-lines [] = unfold bytesOf in refl
 bytes-lines (l ∷ ls) = bytes-attach l (groups ls) ∙ ap (λ (n : ℕ). length l + n) (bytes-lines ls)

@@ -35,7 +35,7 @@ use Rattle.index_line.specs.declared.Entry.{Entry}
 use Rattle.index_line.specs.declared.LineRead.the-variants as read
 use Rattle.walking.specs.Places.{firstElsewhere, walkedAs}
 use Rattle.lines.specs.Sums.{widths-within}
-use Rattle.checker.specs.Check.{spanOf, sequenceSays, entrySays, lineJudged, againstLines, definedSays, recordSays, andThen, recordsSay, checkOf}
+use Rattle.checker.specs.Check.{spanOf, sequenceSays, entrySays, lineJudged, againstLines, definedSays, recordSays, andThen, recordsSay, fromSays, checkOf}
 use Rattle.walking.specs.declared.Placed.the-variants.{There, Elsewhere}
 use Rattle.walking.specs.declared.Walked.{Walked}
 use Rattle.checker.specs.declared.Verdict.{Verdict}
@@ -163,7 +163,7 @@ module _ (n at next : ℕ) (g : Group) (ls : List (List ℕ)) where
   judged-named d e = rw e
 
 -- only the first of the lines that are left matters
-first-line : (n at : ℕ) (g : Group) (l : List ℕ) (ls : List (List ℕ)) → recordSays n at g (l ∷ []) ≡ recordSays n at g (l ∷ ls)
+pub first-line : (n at : ℕ) (g : Group) (l : List ℕ) (ls : List (List ℕ)) → recordSays n at g (l ∷ []) ≡ recordSays n at g (l ∷ ls)
 unfolding recordSays againstLines
 first-line n at g l ls = go (definition.definitionSays (g .def))
   where
@@ -278,8 +278,17 @@ check-next f i w n h k e =
     go Accepted g = cc
     go (Refused x) g = let z : _≡_ {A = ℕ} 0 1 = cc in absurd (omega arith)
 
-pub check-start : (f i : List ℕ) → overLimit (length f) ≡ false → overLimit (length i) ≡ false → checkAt f i (record { fasta = 0; index = 0; records = 0 }) ≡ checkOf f i
-unfolding checkAt checkOf
+pub check-begin : (f i : List ℕ) (at line : ℕ) → checkAt f i (record { fasta = at; index = line; records = 0 }) ≡ fromSays f at i line
+unfolding checkAt fromSays
+check-begin f i at line = refl
+
+-- behind the end of the index there is no line
+pub check-past : (f i : List ℕ) (at line : ℕ) → length i < line → fromSays f at i (length i) ≡ fromSays f at i line
+unfolding fromSays
+check-past f i at line h = rw (drop-of-length-le i {i = length i} (omega arith), drop-of-length-le i {i = line} (omega arith))
+
+pub check-start : (f i : List ℕ) → overLimit (length f) ≡ false → overLimit (length i) ≡ false → fromSays f 0 i 0 ≡ checkOf f i
+unfolding fromSays checkOf
 check-start f i h k = rw (h, k)
 
 pub check-long : (f i : List ℕ) → overLimit (length f) ≡ true → Refused TooLong ≡ checkOf f i

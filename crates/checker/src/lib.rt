@@ -13,7 +13,7 @@ ghost use Prim.Native.Nat.{_+_, _≤_, _<_};
 ghost use lib.ListN.{length};
 ghost use Rattle.lines.specs.Lines.{seqAt};
 ghost use Rattle.index_line.specs.IndexLine.{nameIn};
-ghost use Rattle.checker.specs.Check.{spanOf, sequenceSays, entrySays, againstLines, recordSays, checkOf};
+ghost use Rattle.checker.specs.Check.{spanOf, sequenceSays, entrySays, againstLines, recordSays, fromSays, checkOf};
 ghost use Rattle.checker.specs.Steps.{groupOf, onlyLine, behindAt, judgedAs, stepOf};
 
 // Does an index describe its file, or why not.
@@ -138,19 +138,14 @@ impl Place {
     }
 }
 
-// Checks an index against its file.
-pub fn check(fasta: &[u8], index: &[u8]) -> Verdict
-    ensures { λ r. ⌜ r ≡ checkOf (now (fasta .entry)) (now (index .entry)) ⌝ }
+// The records from `at` on against the index lines from `line` on, as if no record came before.
+fn check_places(fasta: &[u8], at: usize, index: &[u8], line: usize) -> Verdict
+    requires { ⌜ line ≤ length (now index) ⌝ }
+    ensures { λ r. ⌜ r ≡ fromSays (now (fasta .entry)) at (now (index .entry)) line ⌝ }
 {
-    if refusal::over_limit(fasta.len()) {
-        return Verdict::Refused(Refusal::TooLong);
-    }
-    if refusal::over_limit(index.len()) {
-        return Verdict::Refused(Refusal::TooLong);
-    }
     let mut w = Place {
-        fasta: 0,
-        index: 0,
+        fasta: at,
+        index: line,
         records: 0,
     };
     while w.fasta < fasta.len() {
@@ -167,4 +162,27 @@ pub fn check(fasta: &[u8], index: &[u8]) -> Verdict
         return Verdict::Refused(Refusal::BytesLeft { records: w.records });
     }
     Verdict::Accepted
+}
+
+// The same for every place, of a file and an index that are not too long: behind the end of the index there is no line.
+pub fn check_from(fasta: &[u8], at: usize, index: &[u8], line: usize) -> Verdict
+    ensures { λ r. ⌜ r ≡ fromSays (now (fasta .entry)) at (now (index .entry)) line ⌝ }
+{
+    if index.len() < line {
+        return check_places(fasta, at, index, index.len());
+    }
+    check_places(fasta, at, index, line)
+}
+
+// Checks an index against its file.
+pub fn check(fasta: &[u8], index: &[u8]) -> Verdict
+    ensures { λ r. ⌜ r ≡ checkOf (now (fasta .entry)) (now (index .entry)) ⌝ }
+{
+    if refusal::over_limit(fasta.len()) {
+        return Verdict::Refused(Refusal::TooLong);
+    }
+    if refusal::over_limit(index.len()) {
+        return Verdict::Refused(Refusal::TooLong);
+    }
+    check_places(fasta, 0, index, 0)
 }

@@ -10,11 +10,11 @@ ghost use Rattle.table.specs.Bytes.{FilledBytes};
 ghost use Rattle.table.specs.ByteLaws.{FilledRows, heldBy};
 ghost use Rattle.fitting.specs.Rules.{rowsBy, rowsIn};
 
-// A row for each record of the file, from the table's first row on.
-fn index_rows(s: &[u8], table: &mut [u8], rule: Rule) -> Filled
-    ensures { λ r. ⌜ FilledRows (heldBy (now (table .entry)) (rowsBy rule (now (s .entry)) 0)) (now (table .entry)) (now (table .exit)) r ⌝ }
+// A row for each record from an offset on, of a file that is not too long, from the table's first row on. Offsets are those of the file.
+pub fn index_from(s: &[u8], from: usize, table: &mut [u8], rule: Rule) -> Filled
+    ensures { λ r. ⌜ FilledRows (heldBy (now (table .entry)) (rowsBy rule (now (s .entry)) from)) (now (table .entry)) (now (table .exit)) r ⌝ }
 {
-    let mut at = 0;
+    let mut at = from;
     let mut n = 0;
     loop {
         match table::bytes::keep(table, n, crate::next_row(s, at, rule)) {
@@ -39,5 +39,5 @@ pub fn index_file(s: &[u8], table: &mut [u8], rule: Rule) -> Filled
             stop: Stop::Refused(Refusal::TooLong),
         };
     }
-    index_rows(s, table, rule)
+    index_from(s, 0, table, rule)
 }

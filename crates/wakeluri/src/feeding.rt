@@ -48,7 +48,7 @@ pub struct Feed {
 }
 
 // The rule by its number: 0 for the original's, else the complete one.
-fn rule_by(n: u64) -> Rule
+pub(crate) fn rule_by(n: u64) -> Rule
     ensures { λ r. ⌜ r ≡ ruleBy n ⌝ }
 {
     if n == 0 {

@@ -3,6 +3,7 @@
 // refusal's number, 0 for none, and its two numbers; all else in it is 0 after a refusal, except the count of rows that stand.
 pub mod answer;
 pub mod bases;
+pub mod cores;
 pub mod course;
 pub mod feeding;
 pub mod files;

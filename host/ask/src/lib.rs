@@ -114,6 +114,9 @@ impl Speaker for Library {
             }
             ("idx", [Bytes(file), Table(table)]) => filled(table, |table| entry::index_file(file, table)),
             ("fit", [Bytes(file), Table(table)]) => filled(table, |table| entry::index_complete(file, table)),
+            ("ipt", [Bytes(file), Number(from), Number(to), Number(complete), Table(table)]) => {
+                filled(table, |table| entry::index_part(file, *from, *to, *complete, table))
+            }
             ("fed", [Table(table), Steps(steps)]) => fed(table, steps, 0),
             ("ffd", [Table(table), Steps(steps)]) => fed(table, steps, 1),
             ("ixl", [Bytes(line)]) => {
@@ -203,6 +206,9 @@ impl Speaker for Library {
             }
             ("fqc", [Bytes(fastq), Bytes(index)]) => told(entry::fastq_check(fastq, index).no(), ()),
             ("chk", [Bytes(fasta), Bytes(index)]) => told(entry::check(fasta, index).no(), ()),
+            ("cpt", [Bytes(fasta), Number(from), Number(to), Bytes(index), Number(first), Number(last)]) => {
+                told(entry::check_part(fasta, *from, *to, index, *first, *last).no(), ())
+            }
             ("prg", [Bytes(input)]) => told(None, vec![Bytes(output(self.program.as_ref()?, input)?)]),
             _ => return None,
         })

@@ -24,30 +24,35 @@ pub(crate) fn check(fasta: &[u8], index: &[u8]) -> Result<(), No> {
     let (mut at, mut record) = (0, 0);
     while let Some(line) = first_line(&fasta[at..]) {
         record += 1;
-        let [name_start, name_length, ..] =
-            definition_at(line, n(at)).map_err(|[number, offset, _]| [number, record, offset])?;
-        let name = &line[name_start as usize..][..name_length as usize];
-        let lines = sequence_lines(&fasta[at + line.len()..]);
-        let offsets = base_offsets(&lines, at + line.len());
-
-        let Some(index_line) = index_lines.next() else {
-            return no(19, record, 0);
-        };
-        let row = row(index_content(content(index_line), 0, record)?);
-        if name != &index_line[..row[1] as usize] {
-            return no(21, record, 0);
-        }
-        if n(offsets.len()) != row[2] {
-            return no(22, record, 0);
-        }
-        for (i, there) in offsets.iter().enumerate() {
-            if offset(&row, n(i) + 1) != *there as u128 {
-                return no(23, record, n(i) + 1);
-            }
-        }
-        at += line.len() + lines.iter().map(|line| line.len()).sum::<usize>();
+        at += judge(fasta, at, line, record, index_lines.next())?;
     }
     if index_lines.next().is_some() { no(20, record, 0) } else { Ok(()) }
+}
+
+/// A record, which begins at an offset with its definition line, against its index line; how many bytes the record has.
+pub(crate) fn judge(fasta: &[u8], at: usize, line: &[u8], record: u64, index_line: Option<&[u8]>) -> Result<usize, No> {
+    let [name_start, name_length, ..] =
+        definition_at(line, n(at)).map_err(|[number, offset, _]| [number, record, offset])?;
+    let name = &line[name_start as usize..][..name_length as usize];
+    let lines = sequence_lines(&fasta[at + line.len()..]);
+    let offsets = base_offsets(&lines, at + line.len());
+
+    let Some(index_line) = index_line else {
+        return no(19, record, 0);
+    };
+    let row = row(index_content(content(index_line), 0, record)?);
+    if name != &index_line[..row[1] as usize] {
+        return no(21, record, 0);
+    }
+    if n(offsets.len()) != row[2] {
+        return no(22, record, 0);
+    }
+    for (i, there) in offsets.iter().enumerate() {
+        if offset(&row, n(i) + 1) != *there as u128 {
+            return no(23, record, n(i) + 1);
+        }
+    }
+    Ok(line.len() + lines.iter().map(|line| line.len()).sum::<usize>())
 }
 
 // ---- the program ----

@@ -9,6 +9,7 @@ mod course;
 mod fastq;
 mod fed;
 mod lines;
+mod parts;
 mod primers;
 mod reads;
 mod rows;
@@ -82,6 +83,9 @@ impl Speaker for Model {
             }
             ("idx", [Bytes(file), Table(table)]) => file_rows(file, table, record).into(),
             ("fit", [Bytes(file), Table(table)]) => file_rows(file, table, fitted_record).into(),
+            ("ipt", [Bytes(file), Number(from), Number(to), Number(complete), Table(table)]) => {
+                parts::index(file, *from..*to, if *complete == 0 { record } else { fitted_record }, table).into()
+            }
             ("fed", [Table(table), Steps(steps)]) => Ok(vec![Stepped(fed::fed(table, steps, false))]).into(),
             ("ffd", [Table(table), Steps(steps)]) => Ok(vec![Stepped(fed::fed(table, steps, true))]).into(),
             ("ixl", [Bytes(line)]) => {
@@ -144,6 +148,9 @@ impl Speaker for Model {
             }
             ("fqc", [Bytes(file), Bytes(index)]) => fastq::check(file, index).into(),
             ("chk", [Bytes(fasta), Bytes(index)]) => check(fasta, index).into(),
+            ("cpt", [Bytes(fasta), Number(from), Number(to), Bytes(index), Number(first), Number(last)]) => {
+                parts::check(fasta, *from..*to, index, *first..*last).into()
+            }
             ("prg", [Bytes(input)]) => Ok(vec![Bytes(program(input))]).into(),
             _ => return None,
         })

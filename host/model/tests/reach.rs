@@ -17,7 +17,7 @@ fn a_seed_gives_the_same_questions() {
 #[test]
 fn every_refusal_of_every_family_is_reached() {
     let mut reached = BTreeSet::new();
-    for question in Questions::new(1).take(100_000) {
+    for question in Questions::new(1).take(400_000) {
         let line = answered(&Model, &question).expect("a question");
         let (question, answer) = line.split_once(" => ").expect("an answer");
         let family = question.split(' ').next().expect("a family").to_string();

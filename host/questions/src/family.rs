@@ -101,6 +101,8 @@ pub const FAMILIES: &[Family] = &[
     asks("rec", &[Bytes, Number], Found(&[Numbers, Number]), &[2, 3, 4, 5, 6, 7], Refusals),
     asks("idx", &[Bytes, Table], Always(&[Number]), &[2, 3, 4, 5, 6, 7, 8], Memory),
     asks("fit", &[Bytes, Table], Always(&[Number]), &[2, 3, 4, 8, 42], Lacks),
+    // the same of a part: from, to, and the rule
+    asks("ipt", &[Bytes, Number, Number, Number, Table], Always(&[Number]), &[2, 3, 4, 5, 6, 7, 8, 42], Lacks),
     // the same while the file arrives: what each step tells
     asks("fed", &[Table, Steps], Bare(&[Stepped]), &[2, 3, 4, 5, 6, 7, 8, 26], Lacks),
     asks("ffd", &[Table, Steps], Bare(&[Stepped]), &[2, 3, 4, 8, 26, 42], Lacks),
@@ -143,8 +145,12 @@ pub const FAMILIES: &[Family] = &[
     asks("fqw", &[Bytes, Rows, Number, Output], Always(&[Number]), &[13, 14, 25], Lacks),
     asks("fqr", &[Bytes, Rows, Number, Bounds, Number, Output], Always(&[Number]), &[14, 16, 17, 18, 25], Lacks),
     asks("fqc", &[Bytes, Bytes], IfOk(&[]), &[2, 3, 4, 5, 6, 7, 9, 10, 11, 12, 19, 20, 21, 22, 23, 38, 39], Lacks),
-    // the checker; the program's output
+    // the checker, of a whole file and of a part; the program's output
     asks("chk", &[Bytes, Bytes], IfOk(&[]), &[2, 3, 4, 9, 10, 11, 12, 19, 20, 21, 22, 23], Lacks),
+    asks(
+        "cpt", &[Bytes, Number, Number, Bytes, Number, Number], IfOk(&[]),
+        &[2, 3, 4, 9, 10, 11, 12, 19, 20, 21, 22, 23], Lacks,
+    ),
     asks("prg", &[Bytes], Bare(&[Bytes]), &[], Refusals),
 ];
 
@@ -174,6 +180,12 @@ fit x3e730a414347540a0a0a t7,7,7,7,7,7,7,7 => ok 1 t1,1,4,3,4,5,0,0
 fit x3e730a0a410a0a430a3e740a t700,701,702,703,704,705,706,707,708,709,710,711,712,713,714,715,716 => ok 2 t1,1,2,4,1,3,0,0,10,1,0,12,1,2,0,0,716
 fit x3e730a0a3e740a410a41410a t7,7,7,7,7,7,7,7 => no 42 10 3 1 t1,1,0,3,1,2,0,0
 fit x3e730a t => no 8 0 0 0 t
+ipt x3e730a410a3e740a430a 0 5 1 t7,7,7,7,7,7,7,7 => ok 1 t1,1,1,3,1,2,0,0
+ipt x3e730a410a3e740a430a 1 99 1 t7,7,7,7,7,7,7,7 => ok 1 t6,1,1,8,1,2,0,0
+ipt x3e730a413e0a3e740a430a 4 6 0 t7,7,7,7,7,7,7,7 => ok 0 t7,7,7,7,7,7,7,7
+ipt x3e730a0a3e740a430a 0 1 0 t7,7,7,7,7,7,7,7 => no 5 4 0 0 t7,7,7,7,7,7,7,7
+ipt x3e730a0a3e740a430a 5 4 0 t => ok 0 t
+ipt x730a3e740a430a 0 7 1 t => no 3 0 0 0 t
 fed t7,7,7,7,7,7,7,7 f3e730a41,f,f0a,f3e,e => 0:0:0:0 0:0:0:0 0:0:0:0 0:0:0:1 4:6:0:1 t1,1,1,3,1,2,0,0
 fed t f3e730a,f3e,e,f => 0:0:0:0 5:3:0:0 5:3:0:0 5:3:0:0 t
 fed t e,f,f3e,e => 0:0:0:0 0:0:0:0 26:0:0:0 26:0:0:0 t
@@ -278,6 +290,12 @@ fqc x40730a41430a470a2b0a402b0a4a0a x73093309330932093309390a => no 23 1 1
 fqc x40730a410a2b0a490a4074 x740931 => no 5 11 0
 chk x3e730a414347540a41430a x730936093309340936 => no 23 1 5
 chk x x => ok
+cpt x3e730a410a3e740a430a 1 10 x73093109330931093209740a74093109380931093209 5 99 => no 11 1 5
+cpt x3e730a410a3e740a430a 1 10 x730931093309310932740a7409310938093109320a 5 99 => ok
+cpt x3e730a410a3e740a430a 0 5 x730931093309310932740a7409310938093109320a 5 99 => no 21 1 0
+cpt x3e730a410a3e740a430a 5 9 x730a7409310938093109320a 0 3 => no 10 1 2
+cpt x3e730a410a3e740a430a 6 10 x 0 0 => ok
+cpt x3e730a410a 6 10 x730a 0 2 => no 20 0 0
 prg x3e730a41 => x7309310933093109310a
 prg x3e73 => x726566757365642035203220300a";
 

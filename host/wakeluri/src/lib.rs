@@ -55,6 +55,8 @@
 extern crate alloc;
 
 mod bounds;
+#[cfg(feature = "std")]
+mod cores;
 mod course;
 #[allow(unsafe_code)]
 pub mod entry;
@@ -76,6 +78,8 @@ mod window;
 mod writer;
 
 pub use bounds::Bounds;
+#[cfg(feature = "std")]
+pub use cores::{Cores, use_threads};
 pub use course::{Edition, Exercise, Score, read_exercise, score_typed, write_exercise};
 pub use feeder::{Fed, Feeder};
 pub use level::{LEVELS, use_level};

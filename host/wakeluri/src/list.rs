@@ -50,6 +50,10 @@ macro_rules! entry_points {
             /// record 2 to 4, 42, 8.
             fn index_complete(file: bytes, table: table) -> Answer;
 
+            /// The same of the records that begin at `from` or behind it, and before `to`: by the original's rule for 0, else by the
+            /// complete one. Refuses 1 for the whole file, and as those calls do.
+            fn index_part(file: bytes, from: number, to: number, complete: number, table: table) -> Answer;
+
             /// The start of a file that is indexed while it arrives: by the original's rule for 0, else by the complete one.
             fn feed_start(complete: number) -> Feed;
 
@@ -141,6 +145,12 @@ macro_rules! entry_points {
             /// Accepts a FASTA file and an index of any program exactly if the index leads to every base. Refuses 1, 2 to 4, 19, 9
             /// to 12, 21 to 23, 20.
             fn check(fasta: bytes, index: bytes) -> Answer;
+
+            /// The same of the records that begin at `from` or behind it, and before `to`, against the index lines that begin at
+            /// `first` or behind it, and before `last`. Refuses 1 for the whole file and the whole index, and as `check` does.
+            fn check_part(
+                fasta: bytes, from: number, to: number, index: bytes, first: number, last: number
+            ) -> Answer;
 
             /// A row for each record of a FASTQ file, from the table's first on, seven numbers to a row; returns how many. Refuses 1, then record
             /// by record 2 to 7, 38, 39, 8.

@@ -6,6 +6,7 @@ use crate::row::{Identity, Row};
 use crate::{Bounds, Refusal, entry, pages};
 use alloc::borrow::Cow;
 use alloc::vec::Vec;
+use core::ops::Range;
 
 /// A table of this many rows is tried first: enough for most files, and so small that it costs little beside any.
 const FIRST_ROWS: usize = 1 << 10;
@@ -128,8 +129,16 @@ pub fn index(fasta: &[u8]) -> Result<Table<'_>, Refusal> {
 /// assert_eq!(refusal.map(|refusal| (refusal.number, refusal.first, refusal.second)), Some((42, 13, 3)));
 /// ```
 pub fn index_until_refused(fasta: &[u8]) -> (Table<'_>, Option<Refusal>) {
+    #[cfg(feature = "std")]
+    return crate::Cores::default().index_until_refused(fasta);
+    #[cfg(not(feature = "std"))]
+    index_whole(fasta)
+}
+
+/// The same in one call.
+pub(crate) fn index_whole(fasta: &[u8]) -> (Table<'_>, Option<Refusal>) {
     // no record has fewer than three bytes, but a last one
-    filled(fasta, fasta.len() / 3 + 1, Call::Index, entry::index_complete)
+    filled(fasta, 0..fasta.len(), fasta.len() / 3 + 1, Call::Index, entry::index_complete)
 }
 
 /// A row for each record of a FASTA file whose lines are alike, as noodles-fasta takes it. Refuses 1 to 7.
@@ -156,8 +165,16 @@ pub fn index_strict(fasta: &[u8]) -> Result<Table<'_>, Refusal> {
 /// assert_eq!(refusal.map(|refusal| (refusal.number, refusal.first)), Some((5, 10)));
 /// ```
 pub fn index_strict_until_refused(fasta: &[u8]) -> (Table<'_>, Option<Refusal>) {
+    #[cfg(feature = "std")]
+    return crate::Cores::default().index_strict_until_refused(fasta);
+    #[cfg(not(feature = "std"))]
+    index_strict_whole(fasta)
+}
+
+/// The same in one call.
+pub(crate) fn index_strict_whole(fasta: &[u8]) -> (Table<'_>, Option<Refusal>) {
     // no record has fewer than four bytes
-    filled(fasta, fasta.len() / 4 + 1, Call::Index, entry::index_file)
+    filled(fasta, 0..fasta.len(), fasta.len() / 4 + 1, Call::Index, entry::index_file)
 }
 
 /// A row for each line of an index text, whose names are parts of that text. Refuses 1, 9 to 12.
@@ -181,12 +198,13 @@ pub fn read_index(index: &[u8]) -> Result<Table<'_>, Refusal> {
 /// A row for each line of an index text up to the first that is refused, and that refusal.
 pub fn read_index_until_refused(index: &[u8]) -> (Table<'_>, Option<Refusal>) {
     // no line has fewer than eight bytes
-    filled(index, index.len() / 8 + 1, Call::ReadIndex, entry::read_index)
+    filled(index, 0..index.len(), index.len() / 8 + 1, Call::ReadIndex, entry::read_index)
 }
 
-/// Fills a table, and tries again with a longer one while it is too short. There are never more rows than `most`.
-fn filled(
+/// Fills a table from a part of a text, and tries again with a longer one while it is too short. There are never more rows than `most`.
+pub(crate) fn filled(
     text: &[u8],
+    part: Range<usize>,
     most: usize,
     call: Call,
     fill: impl Fn(&[u8], &mut [u8]) -> entry::Answer,
@@ -200,7 +218,8 @@ fn filled(
         if answer.refusal == 8 && rows < most {
             let table = Table::from_bytes(text, bytes, in_use);
             let last_name = in_use.checked_sub(1).and_then(|row| table.numbers(row)).map_or(0, |[start, ..]| start);
-            rows = rows_for_all(in_use, last_name, text.len()).clamp(rows + 1, most);
+            let last_name = last_name.saturating_sub(part.start as u64);
+            rows = rows_for_all(in_use, last_name, part.len()).clamp(rows + 1, most);
             continue;
         }
         bytes.truncate(in_use.saturating_mul(ROW_BYTES));
@@ -212,7 +231,8 @@ fn filled(
 
 /// Accepts a FASTA file and an index of any program, exactly if the index leads to every base of every record.
 ///
-/// Refuses 1, and at the first fault, record by record, 2 to 4, 19, 9 to 12, 21 to 23, and last 20.
+/// Refuses 1, and at the first fault, record by record, 2 to 4, 19, 9 to 12, 21 to 23, and last 20. Large files of several records are
+/// checked, and indexed, on all cores, or on as many as [`use_threads`](crate::use_threads) says.
 ///
 /// ```
 /// let fasta = b">s\nACGT\nAC\n";
@@ -225,6 +245,14 @@ fn filled(
 /// );
 /// ```
 pub fn check(fasta: &[u8], index: &[u8]) -> Result<(), Refusal> {
+    #[cfg(feature = "std")]
+    return crate::Cores::default().check(fasta, index);
+    #[cfg(not(feature = "std"))]
+    check_whole(fasta, index)
+}
+
+/// The same in one call.
+pub(crate) fn check_whole(fasta: &[u8], index: &[u8]) -> Result<(), Refusal> {
     let answer = entry::check(fasta, index);
     Refusal::of(Call::Check, answer.refusal, answer.first, answer.second)
 }

@@ -67,6 +67,41 @@ pub(super) fn two_records() -> Source {
     Box::new(files.flat_map(|file| [0, 1, 2].map(|rows| vec![Bytes(file.clone()), Table(table(WORDS * rows))])))
 }
 
+/// Every part of every short file, by both rules.
+pub(super) fn parted_file() -> Source {
+    let files = strings(b">A\n", 4).chain(after(b">s\nA\n", b"A\n\r>", 4));
+    Box::new(files.flat_map(|file| {
+        let n = file.len() as u64 + 2;
+        let parts = (0..n).flat_map(|from| (from.saturating_sub(1)..n).map(move |to| (from, to)));
+        parts
+            .flat_map(|(from, to)| {
+                [0, 1].map(|complete| {
+                    vec![Bytes(file.clone()), Number(from), Number(to), Number(complete), Table(table(2 * WORDS))]
+                })
+            })
+            .collect::<Vec<_>>()
+    }))
+}
+
+/// A file of two records and its index, and every part of both.
+pub(super) fn parted_pair() -> Source {
+    const FILES: [&[u8]; 3] = [b">s\nA\n>t\nC\n", b">s\n>\n>t\nC", b">s\n\n>t\nC\n"];
+    let index = b"s\t1\t3\t1\t2\nt\t1\t8\t1\t2";
+    Box::new(FILES.into_iter().flat_map(move |file| {
+        let (n, m) = (file.len() as u64 + 2, index.len() as u64 + 2);
+        (0..n).flat_map(move |from| {
+            (from..n).flat_map(move |to| {
+                (0..m).flat_map(move |first| {
+                    (first..m).map(move |last| {
+                        let (file, index) = (Bytes(file.to_vec()), Bytes(index.to_vec()));
+                        vec![file, Number(from), Number(to), index, Number(first), Number(last)]
+                    })
+                })
+            })
+        })
+    }))
+}
+
 /// Every short file byte by byte, and in two pieces at every place.
 pub(super) fn split_file() -> Source {
     let files = strings(b">A\n\r ", 6).chain(after(b">s\nA\n", b"A\n\r>", 5));

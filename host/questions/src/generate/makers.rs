@@ -42,6 +42,7 @@ pub(super) const MAKERS: &[Maker] = &[
     maker("rec", 16, record, &[every::record]),
     maker("idx", 64, file_and_table, &[every::file, every::two_records]),
     maker("fit", 48, spaced_file_and_table, &[every::file, every::two_records]),
+    maker("ipt", 64, part_and_table, &[every::parted_file]),
     maker("fed", 64, fed, &[every::split_file]),
     maker("ffd", 64, fed_spaced, &[every::split_file]),
     maker("ixl", 16, index_line, &[every::index_line]),
@@ -72,6 +73,7 @@ pub(super) const MAKERS: &[Maker] = &[
     maker("fqr", 48, fastq_read, &[every::fastq_read]),
     maker("fqc", 48, fastq_pair, &[every::fastq_check]),
     maker("chk", 32, pair, &[every::check]),
+    maker("cpt", 48, parted_pair, &[every::parted_pair]),
     maker("prg", 1, program, &[every::program_limits]),
 ];
 
@@ -527,6 +529,55 @@ fn pair(chance: &mut Chance) -> Vec<Value> {
         damage(chance, &mut sample.text);
     }
     vec![Bytes(sample.text), Bytes(index)]
+}
+
+/// Two numbers that rise, mostly: where a line begins, near it, or anywhere.
+fn some_part(chance: &mut Chance, text: &[u8]) -> [u64; 2] {
+    let starts: Vec<usize> =
+        (0..text.len()).filter(|at| *at == 0 || text[at - 1] == b'\n').chain([text.len()]).collect();
+    let mut number = || {
+        let start = chance.one_of(&starts) as u64;
+        if chance.once_in(4) { place(chance, text) } else { about(chance, start) }
+    };
+    let (one, other) = (number(), number());
+    if chance.once_in(16) { [one.max(other), one.min(other)] } else { [one.min(other), one.max(other)] }
+}
+
+/// A part of a file, a rule, and a table.
+fn part_and_table(chance: &mut Chance) -> Vec<Value> {
+    let mut asked = spaced_file_and_table(chance);
+    let Some(Table(table)) = asked.pop() else { return asked };
+    let Some(Bytes(text)) = asked.pop() else { return asked };
+    let [from, to] = if chance.once_in(3) { [0, text.len() as u64] } else { some_part(chance, &text) };
+    let complete = chance.one_of(&[0, 0, 0, 1, 1, u64::MAX]);
+    vec![Bytes(text), Number(from), Number(to), Number(complete), Table(table)]
+}
+
+/// A part of a file and a part of its index: of the same records, mostly.
+fn parted_pair(chance: &mut Chance) -> Vec<Value> {
+    let mut sample = sample(chance);
+    let index = index_text(chance, &sample.text, &sample.rows);
+    let records: Vec<usize> = (0..sample.text.len())
+        .filter(|at| sample.text[*at] == b'>' && (*at == 0 || sample.text[at - 1] == b'\n'))
+        .chain([sample.text.len()])
+        .collect();
+    let lines: Vec<usize> =
+        (0..index.len()).filter(|at| *at == 0 || index[at - 1] == b'\n').chain([index.len()]).collect();
+    let (one, other) = (chance.below(records.len()), chance.below(records.len()));
+    let (a, b) = (one.min(other), one.max(other));
+    if chance.once_in(3) {
+        damage(chance, &mut sample.text);
+    }
+    let line = |k: usize| lines.get(k).copied().unwrap_or(index.len()) as u64;
+    let mut part = [records[a] as u64, records[b] as u64];
+    let mut its_lines = [line(a), line(b)];
+    if chance.once_in(4) {
+        part = some_part(chance, &sample.text);
+    }
+    if chance.once_in(4) {
+        its_lines = some_part(chance, &index);
+    }
+    vec![Bytes(sample.text), Number(part[0]), Number(part[1]), Bytes(index), Number(its_lines[0]), Number(its_lines[1])]
 }
 
 // ---- FASTQ ----

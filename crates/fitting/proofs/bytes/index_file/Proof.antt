@@ -15,8 +15,8 @@ returns : tie.Need-returns
 unfolding callBy
 returns c = rw (sym (c .before .over-limit .ensures) ∙ c .if1 .taken) (filled-nothing _ _ (λ i. omega (arith, c .before .before .slice-known .given i)))
 
-index-rows-requires : tie.Need-index-rows-requires
-index-rows-requires c κs = search needs
+index-from-requires : tie.Need-index-from-requires
+index-from-requires c κs = search needs
 
 same-length : tie.Need-same-length
 same-length c = search needs
@@ -25,8 +25,8 @@ returns-2 : tie.Need-returns-2
 unfolding callBy
 returns-2 c =
     let u = c .before .before .before .before in
-    rw (sym (u .before .over-limit .ensures) ∙ u .if1 .left) (filled-bytes _ _ _ _ (c .before .before .index-rows .ensures) (λ i. omega (arith, c .slice-known2 .given i)))
+    rw (sym (u .before .over-limit .ensures) ∙ u .if1 .left) (filled-bytes _ _ _ _ (c .before .before .index-from .ensures) (λ i. omega (arith, c .slice-known2 .given i)))
 
 pub index-file-spec : {M : Type 1} → statement M
 index-file-spec =
-    tie.close (tie.spec over-limit-requires returns index-rows-requires same-length returns-2)
+    tie.close (tie.spec over-limit-requires returns index-from-requires same-length returns-2)

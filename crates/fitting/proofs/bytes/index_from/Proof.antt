@@ -1,4 +1,4 @@
--- `fitting::bytes::index_rows` meets its contract: the rows in the table, with those that the file from `at` on still gives, are those of the whole file.
+-- `fitting::bytes::index_from` meets its contract: the rows in the table, with those that the file from `at` on still gives, are those of the file from `from` on.
 -- Assumes nothing.
 use Prim.Native.Nat.{_≤_, _<_, _/_, _-_, _+_}
 use mathlib.Core.Path.{_≡_, refl, _∙_}
@@ -8,14 +8,14 @@ use borrow.Author.Needs.{needs}
 use Rattle.table.specs.Rows.{rowWords}
 use Rattle.table.specs.ByteLaws.{OnwardIn, in-start, in-count, in-on, in-stops}
 use Rattle.fitting.specs.Rules.{rowsBy}
-use Rattle.fitting.proofs.bytes.index_rows.Statement.{statement}
-use Rattle.fitting.proofs.bytes.index_rows.Tie as tie
+use Rattle.fitting.proofs.bytes.index_from.Statement.{statement}
+use Rattle.fitting.proofs.bytes.index_from.Tie as tie
 
 abbrev Inv-loop : tie.InvT-loop
-Inv-loop s table₀ rule at₀ n₀ table at n = (length table ≡ length table₀) × OnwardIn table₀ (rowsBy rule s 0) n (rowsBy rule s at) table
+Inv-loop s from table₀ rule at₀ n₀ table at n = (length table ≡ length table₀) × OnwardIn table₀ (rowsBy rule s from) n (rowsBy rule s at) table
 
 abbrev μ-loop : tie.MeasureT-loop
-μ-loop s table₀ rule at₀ n₀ table at n = length s - at
+μ-loop s from table₀ rule at₀ n₀ table at n = length s - at
 
 -- so many rows are in, of those that the table has
 counted : (c : tie.At-loop Inv-loop μ-loop) → c .loop .n ≤ length (c .before .before .before .args .table .now) / 8 / rowWords
@@ -35,7 +35,7 @@ enum-known-behind c = search needs
 
 -- a turn that goes on: what the file from its place on still gives is the row that was kept, and what the file behind it gives
 turn : (c : tie.After-behind Inv-loop μ-loop) → let k = c .before .before .before .before in let l = k .before .before .before in let a = l .before .before .before .args in let b = c .behind .given .0 .0 in
-    OnwardIn (a .table .now) (rowsBy (a .rule) (a .s .now) 0) (l .loop .n + 1) (rowsBy (a .rule) (a .s .now) b) (k .keep .last .0)
+    OnwardIn (a .table .now) (rowsBy (a .rule) (a .s .now) (a .from)) (l .loop .n + 1) (rowsBy (a .rule) (a .s .now) b) (k .keep .last .0)
     × (l .loop .at < length (a .s .now)) × (l .loop .at < b)
 turn c =
     let k = c .before .before .before .before in
@@ -61,8 +61,8 @@ returns c =
     let k = c .before .before .before .before .before in
     in-stops _ _ _ _ _ (k .before .before .before .loop .inv .1) _ _ _ _ (k .before .next-row .ensures) _ _ (k .keep .ensures) _ (c .before .stop .given .1)
 
-pub index-rows-spec : {M : Type 1} → statement M
-index-rows-spec =
+pub index-from-spec : {M : Type 1} → statement M
+index-from-spec =
     tie.close
     (tie.spec
     Inv-loop
