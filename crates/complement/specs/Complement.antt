@@ -11,22 +11,22 @@ use Rattle.letters.specs.Letters.{partner}
 use Rattle.output.specs.declared.Written.{Written}
 use Rattle.output.specs.Outcome.{Outcome, refuses, gives}
 
--- what the bytes come to, before anything is written: the bytes that they give, or a refusal
+-- how the bytes are judged before anything is written: the complements to write, or a refusal
 pub data Judged : Type 0 where
   given : List ℕ → Judged
   refused : Refusal → Judged
 
--- the first of some refusals; where there is none, the bytes
+-- the first of some refusals; the bytes, if there is none
 unfoldable pub firstOr : List Refusal → List ℕ → Judged
 firstOr [] l = given l
 firstOr (r ∷ rs) l = refused r
 
--- a refusal, where a test holds
+-- a refusal, if a test holds
 abbrev pub when : Bool → Refusal → List Refusal
 when true r = r ∷ []
 when false r = []
 
--- what the bytes from a place on have against them: each that has no complement
+-- the refusals of the bytes from a place on: one for each byte that has no complement
 unfoldable pub faults : ℕ → List ℕ → List Refusal
 faults at [] = []
 faults at (b ∷ s) = when (eqb (partner b) 0) (NoComplement at b) ++ faults (suc at) s
@@ -39,11 +39,11 @@ complementOf s = firstOr (faults 0 s) (map partner s)
 unfoldable pub reverseComplementOf : List ℕ → Judged
 reverseComplementOf s = firstOr (reverse (faults 0 s)) (reverse (map partner s))
 
--- what a call on the bytes s comes to, which come to j: 1 is judged before 14, and both before the bytes
+-- how a call on the bytes s, which are judged as j, is judged: 1 before 14, and both before the bytes
 unfoldable pub sized : List ℕ → ℕ → Judged → Judged
 sized s room j = cond (overLimit (length s)) (refused TooLong) (cond (ltb room (length s)) (refused (NoRoom (length s))) j)
 
--- the bytes given, at the front of the output, or the refusal
+-- the complements at the front of the output, or the refusal
 unfoldable pub poured : Judged → List ℕ → Outcome Written
 poured (given l) out = gives l out
 poured (refused f) out = refuses f out

@@ -1,5 +1,5 @@
--- Both complements are their own inverse exactly where no base is U: a second one gives T where U stood (t where u), and every other
--- base again.
+-- Both complements are their own inverse exactly if no base is U. A second complement gives T for U (t for u), and every other base
+-- again.
 use Prim.Native.Nat.{ℕ}
 use mathlib.Core.Path.{_≡_, ap, sym, _∙_}
 use mathlib.Core.Logic.{_↔_}
@@ -25,7 +25,7 @@ reverse-complement-twice s t e =
     let g = good 0 s (sym (reverse-reverse (faults 0 s)) ∙ ap reverse n) in
     rw (← q, faultless 0 (reverse (map partner s)) (good-onto (map partner s) [] (good-map s g) tt), map-onto (map partner s) [], reverse-reverse, twice s g)
 
--- the complement of a complement is the bases themselves exactly where none is U
+-- the complement of a complement is the bases themselves exactly if none is U
 pub complement-own-inverse : (s t : List ℕ) → complementOf s ≡ given t → complementOf t ≡ given s ↔ NoU s
 complement-own-inverse s t e = exactly (complementOf t) s (complement-twice s t e)
 

@@ -1,4 +1,4 @@
--- Laws for Inverse.antt: a pairing of letters is undone by a second one, but for U.
+-- Laws for Inverse.antt: a second pairing of letters undoes the first, except for U.
 use Prim.Native.Nat.{ℕ, suc}
 use Prim.Native.Char.{code}
 use mathlib.Core.Path.{_≡_, refl, ap, _∙_}
@@ -60,7 +60,7 @@ pub twice : (s : List ℕ) → Good s → map partner (map partner s) ≡ map th
 twice [] g = refl
 twice (b ∷ s) g = rw (partner-twice b (g .0), twice s (g .1))
 
--- bytes are given where nothing is against them
+-- bytes that no refusal stands against are written
 pub inside : (rs : List Refusal) (l t : List ℕ) → firstOr rs l ≡ given t → (rs ≡ []) × (l ≡ t)
 unfolding firstOr
 inside [] l t e = (refl, cc)
@@ -78,6 +78,6 @@ only-without-u (b ∷ s) e =
     let k : thymine b ≡ b = cc in
     (λ q. let z : code "T" ≡ code "U" = rw q at k in omega arith, (λ q. let z : code "t" ≡ code "u" = rw q at k in omega arith, only-without-u s (cc)))
 
--- with T in the place of U the bases are the same exactly where none is U
+-- with T in the place of U the bases stay the same exactly if none is U
 pub exactly : (o : Judged) (s : List ℕ) → o ≡ given (map thymine s) → o ≡ given s ↔ NoU s
 exactly o s e = (λ q. only-without-u s (cc), λ n. e ∙ ap given (without-u s n))

@@ -42,18 +42,18 @@ agree true false t = absurd t
 agree false true t = absurd t
 agree false false t = refl
 
--- two tests of a byte are the same where they agree at each byte
+-- two tests of a byte are the same if they agree at each byte
 same-test : (f g : ℕ → Bool) → T (everyBelow (λ x. cond (f x) (g x) (not (g x))) 256) → (b : ℕ) → b < 256 → f b ≡ g b
 same-test f g t b h = agree _ _ (of-each-below (λ x. cond (f x) (g x) (not (g x))) 256 t b h)
 
--- a byte is plain where it is one of four letters once its bits 32, and for the first the bit 4, are set
+-- a byte is plain if with its bit 32 set it is a, t or n, or with its bits 32 and 4 set g; c and g differ in the bit 4
 pub plain-test : (b : ℕ) → b < 256
     → (((eqb (bitOr (bitOr b 32) 4) 103 || eqb (bitOr b 32) 97) || eqb (bitOr b 32) 116) || eqb (bitOr b 32) 110) ≡ isOf true b
 unfolding isOf
 plain-test b h =
     same-test (λ x. ((eqb (bitOr (bitOr x 32) 4) 103 || eqb (bitOr x 32) 97) || eqb (bitOr x 32) 116) || eqb (bitOr x 32) 110) (isOf true) tt b h
 
--- a byte has a complement where with its bit 32 it is a to d, g, h, k, m, n, r to w or y
+-- a byte has a complement if with its bit 32 set it is a to d, g, h, k, m, n, r to w or y
 pub paired-test : (b : ℕ) → b < 256
     → ((((((leb 97 (bitOr b 32) && leb (bitOr b 32) 100) || (leb 103 (bitOr b 32) && leb (bitOr b 32) 104)) || eqb (bitOr b 32) 107) || (leb 109 (bitOr b 32) && leb (bitOr b 32) 110)) || (leb 114 (bitOr b 32) && leb (bitOr b 32) 119)) || eqb (bitOr b 32) 121) ≡ isOf false b
 unfolding isOf partner
@@ -78,7 +78,7 @@ of-letters f (x ◂ s) t b h = go (eqb b (code x)) refl (of-letters f s (tests .
     go true e more h = rw (eqb-true b (code x) e) (tests .0)
     go false e more h = more h
 
--- what one computed test finds at each plain base holds of it
+-- a computed test that holds at every plain base holds at each
 of-plain : (f : ℕ → Bool) → T (everyOf f "ACGTNacgtn") → (b : ℕ) → isOf true b ≡ true → T (f b)
 unfolding isOf
 of-plain f t b h = of-letters f "ACGTNacgtn" t b h
@@ -142,7 +142,7 @@ module _ (p : Bool) where
   pub all-more : (s : List ℕ) (k : ℕ) → k < length s → allOf p (take (suc k) s) ≡ cond (allOf p (take k s)) (isOf p (getD s k 0)) false
   all-more s k h = rw (take-suc s k 0 h, ← all-one (getD s k 0)) (all-append (take k s) (getD s k 0 ∷ []))
 
-  -- the bytes from one place to another: where they are of the kind, those behind them decide
+  -- the bytes from one place to another: if they are of the kind, those behind them decide
   module _ (s : List ℕ) (i e : ℕ) (h : i ≤ e) where
     block : allOf p (drop i s) ≡ cond (allOf p (take (e - i) (drop i s))) (allOf p (drop e s)) false
     block =
@@ -164,7 +164,7 @@ module _ (p : Bool) where
   all-at (b ∷ s) zero h e = and-then (isOf p b) (allOf p s) e .0
   all-at (b ∷ s) (suc k) h e = all-at s k (omega arith) (and-then (isOf p b) (allOf p s) e .1)
 
-  -- they have nothing against them
+  -- no refusal stands against them
   all-good : (at : ℕ) (s : List ℕ) → allOf p s ≡ true → faults at s ≡ []
   unfolding allOf faults
   all-good at [] e = refl
@@ -172,7 +172,7 @@ module _ (p : Bool) where
       let (g, more) = and-then (isOf p b) (allOf p s) e in
       rw (ne-eqb _ _ (kind-good p b g)) (all-good (suc at) s more)
 
-  -- so their complements are given, either way
+  -- so their complements are written, either way
   pub all-given : (s : List ℕ) → allOf p s ≡ true → complementOf s ≡ given (map partner s)
   unfolding complementOf firstOr
   all-given s e = rw (all-good 0 s e)
@@ -181,7 +181,7 @@ module _ (p : Bool) where
   unfolding reverseComplementOf firstOr
   all-given-reversed s e = rw (all-good 0 s e)
 
--- ---- bytes of which some have no complement
+-- ---- bytes, some without a complement
 
 some-bad : (at : ℕ) (s : List ℕ) → allOf false s ≡ false → faults at s ≡ [] → ⊥
 unfolding isOf allOf faults

@@ -1,4 +1,4 @@
--- What the bytes are judged by: the plain bases, which most sequences have alone, and all that have a complement.
+-- The two kinds by which bytes are judged: plain bases, which are all that most sequences have, and all letters that have a complement.
 use Prim.Native.Nat.{ℕ}
 use Prim.Native.Char.{code}
 use Prim.Native.String.{String, [] as empty, _∷_ as _◂_}
@@ -18,16 +18,16 @@ among (x ◂ s) b = cond (eqb b (code x)) true (among s b)
 unfoldable pub isOf : Bool → ℕ → Bool
 isOf plain b = cond plain (among "ACGTNacgtn" b) (not (eqb (partner b) 0))
 
--- are all of some bytes
+-- are all of some bytes of it
 unfoldable pub allOf : Bool → List ℕ → Bool
 allOf plain [] = true
 allOf plain (b ∷ s) = cond (isOf plain b) (allOf plain s) false
 
--- what the bytes come to, from the back where it is reversed
+-- how the bytes are judged, from the back if it is reversed
 unfoldable pub judgedOf : Bool → List ℕ → Judged
 judgedOf reversed s = cond reversed (reverseComplementOf s) (complementOf s)
 
--- the answer, and the output afterwards, of what some bytes come to
+-- the answer, and the output afterwards, of a judgement
 abbrev pub answerOf : Judged → Written
 answerOf j = poured j [] .answer
 

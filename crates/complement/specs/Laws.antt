@@ -1,4 +1,4 @@
--- Laws of the complement: of the bytes that have none, of the writing, and of what a call tells.
+-- Laws of the complement: of the bytes that have none, of the writing, and of a call's answer.
 use Prim.Native.Nat.{ℕ, suc, _+_, _≤_, _<_}
 use mathlib.Core.Path.{_≡_, refl, sym, _∙_}
 use mathlib.Core.List.{List, [], _∷_, _++_, map, reverse, append-nil, append-assoc, reverse-append, reverse-cons, map-append}
@@ -27,7 +27,7 @@ faults-append at (b ∷ s) t =
     rw (faults-append (suc at) s t, suc-add at (length s), add-suc at (length s), append-assoc)
 
 module _ (s : List ℕ) (i : ℕ) (h : i < length s) where
-  -- what the byte at a place has against it
+  -- the refusal of the byte at a place, if it has one
   here : List Refusal
   here = when (eqb (partner (getD s i 0)) 0) (NoComplement i (getD s i 0))
 
@@ -47,7 +47,7 @@ module _ (s : List ℕ) (i : ℕ) (h : i < length s) where
   unfolding here
   good e = rw (ne-eqb _ _ e)
 
-  -- from the front: where no byte before it is bad, a bad byte is the first, and past a good one none is
+  -- from the front: if no byte before it is bad, a bad byte is the first, and a good one leaves none bad so far
   pub first-bad : faults i (drop i s) ≡ faults 0 s → partner (getD s i 0) ≡ 0 → (l : List ℕ) → firstOr (faults 0 s) l ≡ refused (NoComplement i (getD s i 0))
   unfolding firstOr
   first-bad inv e l = rw (← inv, from-here, bad e)
@@ -112,9 +112,9 @@ pub reversing-all : (s out after : List ℕ) → length s ≤ length out → Rev
 unfolding poured
 reversing-all s out after fits p = p .more out fits (rw (drop-length s))
 
--- ---- what a call tells
+-- ---- a call's answer
 
--- an answer and an output, each what some bytes come to, are their outcome
+-- an answer and an output that follow from one judgement are its outcome
 pub poured-both : (j : Judged) (out after : List ℕ) (r : Written) → r ≡ answerOf j → after ≡ outputOf j out → leaves r after ≡ poured j out
 unfolding poured
 poured-both (given l) out after r e q = rw (e, q)
@@ -124,7 +124,7 @@ pub poured-given : (l out after : List ℕ) (n : ℕ) → n ≡ length l → aft
 unfolding poured
 poured-given l out after n e q = rw (e, q)
 
--- where the sizes have nothing against them, what the bytes come to is told
+-- if the sizes are fine, the bytes decide the answer
 pub told-sized : (s out after : List ℕ) (j : Judged) (r : Written) → sized s (length out) j ≡ j → leaves r after ≡ poured j out → leaves r after ≡ complementWritten s j out
 unfolding complementWritten
 told-sized s out after j r k e = rw k e

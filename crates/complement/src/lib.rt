@@ -4,10 +4,10 @@
 // byte that has no complement (24, with its place and the byte): the first such byte, in the reverse complement the last. A
 // refusal leaves the output as it was. Else the output begins with the answer; bytes behind it stay.
 //
-// So all bytes are judged first, and then written. Most sequences are plain: A, C, G, T and N alone, in either case. These are
-// written by a few bit operations a base, of which the compiler does 16 and more at once; those that have other letters by one look
-// into a table for each base. Both write the same `partner`, and both kinds are judged by bits, since a look a base would cost
-// twice as much. No loop has a branch in it, but for the kind, which stays the same.
+// So all bytes are judged first, and then written. Most sequences are plain: A, C, G, T and N alone, in either case. A plain base takes a
+// few bit operations, and the compiler does 16 or more bases at once. Other letters take one table look-up a base. Both ways write the
+// same `partner`. Both kinds are judged by bits, since a look-up a base would cost twice as much. No loop branches, except on the
+// kind, which stays the same.
 use output::Written;
 use refusal::Refusal;
 ghost use mathlib.Core.Path.{_≡_};
@@ -57,7 +57,7 @@ fn is_of(b: u8, plain: bool) -> bool
     is_paired(b)
 }
 
-// Are all bytes of a block of the kind. All are looked at, which the compiler does at once.
+// Are all bytes of a block of the kind. The loop tests all of them, without an early exit, so that the compiler tests many at once.
 fn block_of(bases: &[u8], plain: bool) -> bool
     ensures { λ r. ⌜ r ≡ allOf plain (now (bases .entry)) ⌝ }
 {
@@ -124,7 +124,7 @@ fn no_complement(place: usize, byte: u8) -> Written
     })
 }
 
-// The answer that the bytes call for, from the front: all of them, or the refusal of the first that has no complement.
+// The answer for the bytes, from the front: all of them, or the refusal of the first that has no complement.
 fn first_fault(bases: &[u8]) -> Written
     ensures { λ r. ⌜ r ≡ answerOf (complementOf (now (bases .entry))) ⌝ }
 {
@@ -167,7 +167,7 @@ fn write(bases: &[u8], out: &mut [u8], plain: bool)
     }
 }
 
-// The complement of any byte: one look into the table.
+// The complement of any byte: one table look-up.
 fn look(table: &[u8; 256], b: u8) -> u8
     requires { ⌜ IsTable partner (now table) ⌝ }
     ensures { λ r. ⌜ r ≡ partner b ⌝ }
@@ -175,7 +175,7 @@ fn look(table: &[u8; 256], b: u8) -> u8
     table[b as usize]
 }
 
-// Writes the complements of 16 bases, from the last to the first. The size is constant, so that 16 looks stand side by side.
+// Writes the complements of 16 bases, from the last to the first. The size is constant, so that the compiler puts 16 look-ups side by side.
 fn reverse16(table: &[u8; 256], bases: &[u8], from: usize, out: &mut [u8], at: usize)
     requires { ⌜ IsTable partner (now table) × (from + 16 + at ≡ length (now bases)) × (length (now bases) ≤ length (now out)) ⌝ }
     ensures { λ _. ⌜ Reversing (now (bases .entry)) (from + 16) from (now (out .entry)) (now (out .exit)) ⌝ }
@@ -185,7 +185,7 @@ fn reverse16(table: &[u8; 256], bases: &[u8], from: usize, out: &mut [u8], at: u
     }
 }
 
-// From how many bases on they are written 16 at once: plain ones never, for they are not looked up.
+// From how many bases on they are written 16 at once. Plain bases never are: they need no look-up.
 fn least_at_once(plain: bool) -> usize
     ensures { λ r. ⌜ 16 ≤ r ⌝ }
 {
@@ -216,7 +216,7 @@ fn write_reversed(bases: &[u8], out: &mut [u8], plain: bool)
     }
 }
 
-// Writes all complements, from the last to the first where it is reversed, and tells how many.
+// Writes all complements, from the last to the first if it is reversed, and answers how many.
 fn write_all(bases: &[u8], out: &mut [u8], plain: bool, reversed: bool) -> Written
     requires { ⌜ (length (now bases) ≤ length (now out)) × (allOf plain (now bases) ≡ true) ⌝ }
     ensures { λ r. ⌜ leaves r (now (out .exit)) ≡ poured (judgedOf reversed (now (bases .entry))) (now (out .entry)) ⌝ }
@@ -229,7 +229,7 @@ fn write_all(bases: &[u8], out: &mut [u8], plain: bool, reversed: bool) -> Writt
     Written::Bytes(bases.len())
 }
 
-// The complement of the bases, from the last to the first where it is reversed: the limit and the room are judged before the bytes.
+// The complement of the bases, from the last to the first if it is reversed. The limit and the room are judged before the bytes.
 fn complement_all(bases: &[u8], out: &mut [u8], reversed: bool) -> Written
     ensures { λ r. ⌜ leaves r (now (out .exit)) ≡ complementWritten (now (bases .entry)) (judgedOf reversed (now (bases .entry))) (now (out .entry)) ⌝ }
 {

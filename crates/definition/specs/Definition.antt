@@ -21,7 +21,7 @@ use Rattle.definition.specs.declared.DefinitionRead.the-variants as read
 unfoldable pub isSpace : ℕ → Bool
 isSpace b = eqb b 32 || eqb b 9 || eqb b 10 || eqb b 12 || eqb b 13
 
--- is a byte whitespace, or none
+-- is a byte whitespace, or is it not
 abbrev pub spaced : Bool → ℕ → Bool
 spaced true b = isSpace b
 spaced false b = not (isSpace b)
@@ -31,7 +31,7 @@ unfoldable pub run : (ℕ → Bool) → List ℕ → ℕ
 run p [] = 0
 run p (b ∷ s) = cond (p b) (suc (run p s)) 0
 
--- how many bytes are left where those at the end that pass a test are taken off
+-- how many bytes are left once those at the end that pass a test are taken off
 abbrev pub kept : Bool → ℕ → ℕ
 kept t zero = cond t 0 1
 kept t (suc n) = suc (suc n)
@@ -44,12 +44,12 @@ keep p (b ∷ s) = kept (p b) (keep p s)
 abbrev pub trim : List ℕ → Span
 trim s = record { start = run (spaced true) s; length = keep isSpace (drop (run (spaced true) s) s) }
 
--- a description's place; 0 and 0 where it has no bytes
+-- a description's place; 0 and 0 if it has no bytes
 abbrev pub described : ℕ → ℕ → Span
 described at zero = record { start = 0; length = 0 }
 described at (suc n) = record { start = at; length = suc n }
 
--- a text behind its '>', which has a name of some bytes: the description is the rest with whitespace trimmed at both ends
+-- a text behind its '>' that has a name of some bytes: the description is the rest, trimmed of whitespace at both ends
 abbrev pub namedOf : List ℕ → ℕ → Parsed
 namedOf s zero = Bad NoName
 namedOf s (suc n) =
@@ -59,7 +59,7 @@ namedOf s (suc n) =
       description = described (suc (suc n) + trim (drop (suc n) s) .start) (trim (drop (suc n) s) .length);
     })
 
--- what the content of a line says that a mark begins: the name is what follows the mark, up to the first whitespace
+-- what the content of a line says, which begins with a mark: the name is what follows the mark, up to the first whitespace
 unfoldable pub markedSays : ℕ → List ℕ → Parsed
 markedSays mark [] = Bad Empty
 markedSays mark (b ∷ s) = cond (eqb b mark) (namedOf s (run (spaced false) s)) (Bad NoPrefix)
@@ -73,7 +73,7 @@ contentSays (b ∷ s) = cond (eqb b 62) (namedOf s (run (spaced false) s)) (Bad 
 unfoldable pub definitionSays : List ℕ → Parsed
 definitionSays l = contentSays (contentOf l)
 
--- the place in the line at which reading it failed: its first byte, or the one behind '>'
+-- the place in the line where reading it failed: its first byte, or the one behind '>'
 unfoldable pub failsAt : Fault → ℕ
 failsAt Empty = 0
 failsAt NoPrefix = 0

@@ -13,14 +13,14 @@ use Rattle.definition.specs.declared.Fault.{Fault}
 use Rattle.definition.specs.declared.Fault.the-variants.{Empty, NoPrefix, NoName}
 use Rattle.definition.specs.declared.Parsed.the-variants.{Named, Bad}
 
--- a content stops at a place to be one of a definition line: there it ends, or has a byte that no such line has there
+-- a content goes wrong at a place: it ends there, or has a byte that no definition line has there
 pub data StopsAt : List ℕ → ℕ → Type 0 where
   empty : StopsAt [] 0
   no-prefix : {b : ℕ} {s : List ℕ} → (b ≡ 62 → ⊥) → StopsAt (b ∷ s) 0
   prefix-alone : StopsAt (62 ∷ []) 1
   space-for-name : {b : ℕ} {s : List ℕ} → isSpace b ≡ true → StopsAt (62 ∷ b ∷ s) 1
 
--- the place told is that place
+-- the answered place is that place
 pub stops-at : (l : List ℕ) (f : Fault) → contentSays l ≡ Bad f → StopsAt l (failsAt f)
 unfolding contentSays failsAt run
 stops-at [] f h = let e : Empty ≡ f = cc in rw (← e) empty
@@ -44,7 +44,7 @@ numberOf Empty = 2
 numberOf NoPrefix = 3
 numberOf NoName = 4
 
--- the refusal of a fault tells its number, and the two numbers that it was given
+-- the refusal of a fault has the fault's number, and the two numbers that it was given
 pub tells : (f : Fault) (a b : ℕ) → numbersOf (refusalOf f a b) ≡ record { refusal = numberOf f; first = a; second = b }
 unfolding numbersOf refusalOf numberOf
 tells Empty a b = refl

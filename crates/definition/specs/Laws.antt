@@ -92,7 +92,7 @@ pub described-some : (d n : ℕ) → 0 < n → described d n ≡ record { start 
 described-some d zero h = absurd (omega arith)
 described-some d (suc n) h = refl
 
--- a mark '>' is that of every line of this crate's other laws
+-- the other laws of this crate are about lines whose mark is '>'
 pub marked-prefix : (l : List ℕ) → markedSays 62 l ≡ contentSays l
 unfolding markedSays contentSays
 marked-prefix [] = refl
@@ -204,7 +204,7 @@ keep-drop p (suc i) (b ∷ s) = keep-drop p i s ∙ go (p b) (keep p s)
     go false zero = omega arith
     go t (suc n) = omega arith
 
--- a span lies in a line, and is 0, 0 where it has no bytes
+-- a span lies in a line, and is 0, 0 if it has no bytes
 abbrev pub Inside : List ℕ → Span → Type 0
 Inside l s = (s .start + s .length ≤ length l) × (s .length ≡ 0 → s .start ≡ 0)
 

@@ -1,5 +1,5 @@
-// A definition line: '>', a name, and behind whitespace a description. Refuses an empty line (2), one without '>' (3), one without a
-// name (4); and, in the two calls at the bottom, bytes over the size limit (1).
+// A definition line: '>', a name, whitespace, and a description. Refuses an empty line (2), a line without '>' (3), and one without a name
+// (4). The two calls at the bottom also refuse bytes over the size limit (1).
 ghost use mathlib.Core.Path.{_≡_};
 ghost use Prim.Native.Nat.{_+_, _≤_};
 ghost use lib.ListN.{length, drop};
@@ -8,7 +8,7 @@ ghost use Rattle.definition.specs.Definition.{isSpace, spaced, run, keep
 use lines::Span;
 use refusal::Refusal;
 
-// The places of a name and of a description, counted from the line's start; 0 and 0 where there is no description.
+// The places of a name and of a description, counted from the line's start; 0 and 0 if there is no description.
 pub struct Definition {
     pub name: Span,
     pub description: Span,
@@ -31,7 +31,7 @@ pub enum DefinitionRead {
     Refused(Refusal),
 }
 
-// Space, tab, LF, form feed or CR; a vertical tab is none.
+// Space, tab, LF, form feed or CR, but no vertical tab.
 pub fn is_space(b: u8) -> bool
     ensures { λ r. ⌜ r ≡ isSpace b ⌝ }
 {
@@ -50,7 +50,7 @@ pub fn is_space(b: u8) -> bool
     b == b'\r'
 }
 
-// The end of the run of whitespace, or of bytes that are none, from `at` on.
+// The end of the run of whitespace from `at` on, or of the run of other bytes.
 pub fn run_end(l: &[u8], at: usize, space: bool) -> usize
     ensures { λ r. ⌜ r ≡ at + run (spaced space) (drop at (now (l .entry))) ⌝ }
 {
@@ -82,7 +82,7 @@ fn kept_end(l: &[u8], at: usize) -> usize
     i
 }
 
-// What the content of a definition line that a mark begins says: the line without its end.
+// What the content of a definition line says, which begins with a mark. The content is the line without its end.
 fn parse_content(content: &[u8], mark: u8) -> Parsed
     ensures { λ r. ⌜ r ≡ markedSays mark (now (content .entry)) ⌝ }
 {
@@ -127,7 +127,7 @@ fn parse_definition(content: &[u8]) -> Parsed
     parse_content(content, b'>')
 }
 
-// What a definition line that a mark begins says, given with its end: a FASTQ file's begins with '@'.
+// What a definition line says, which begins with a mark and is given with its end. A FASTQ file's mark is '@'.
 pub fn parse_marked(l: &[u8], mark: u8) -> Parsed
     ensures { λ r. ⌜ r ≡ markedSays mark (contentOf (now (l .entry))) ⌝ }
 {
@@ -144,7 +144,7 @@ pub fn parse_line(l: &[u8]) -> Parsed
 }
 
 impl Fault {
-    // The place in the line at which reading it failed.
+    // The place in the line where reading it failed.
     pub fn place(self) -> usize
         ensures { λ r. ⌜ r ≡ failsAt self ⌝ }
     {
@@ -155,8 +155,8 @@ impl Fault {
         }
     }
 
-    // The refusal of a line that says no name. Its two numbers are the offset of that place, and 0; or the checker's record, and that
-    // offset. The caller knows where the line begins.
+    // The refusal of a line without a name. Its two numbers are the offset of that place, and 0; in the checker the record, and that offset.
+    // The caller knows where the line begins.
     pub fn refusal(self, first: u64, second: u64) -> Refusal
         ensures { λ r. ⌜ r ≡ refusalOf self first second ⌝ }
     {

@@ -1,9 +1,9 @@
 -- Where a bad definition is (request K9), where a host meets it: at the entry points, over the bytes that it lends.
 --
--- `indexed-bad`: where wakeluri_index_file or wakeluri_index_complete tells 2, 3 or 4, the definition line of the record behind those that have a
--- row does not read, and `first` is where that line begins plus the place in it at which reading failed.
+-- `indexed-bad`: if wakeluri_index_file or wakeluri_index_complete answers 2, 3 or 4, the definition line of the record behind those that have a
+-- row does not read, and `first` is where that line begins plus the place in it where reading failed.
 --
--- `checked-bad`: where wakeluri_check tells 2, 3 or 4, `first` is the first record that is wrong, from 1: its definition line does not read, and
+-- `checked-bad`: if wakeluri_check answers 2, 3 or 4, `first` is the first record that is wrong, from 1: its definition line does not read, and
 -- `second` is that offset.
 use Prim.Native.Nat.{ℕ, suc, _+_, _≤_}
 use mathlib.Core.Path.{_≡_, refl, ap, sym, _∙_}
@@ -38,7 +38,7 @@ use Rattle.output.specs.Outcome.{Outcome, leaves}
 use Rattle.wakeluri.specs.Told.{filledTold}
 use Rattle.demands.specs.Calls.{Check, IndexFile}
 
--- an answer tells 2, 3 or 4
+-- an answer is 2, 3 or 4
 pub record OfDefinition (a : Answer) : Type 0 where
   pub least : 2 ≤ a .refusal
   pub most : a .refusal ≤ 4

@@ -1,5 +1,5 @@
--- Why mending a base (docs/RULES.md, R55) bars three bytes: for each the smallest file and index that the checker accepts, and no longer accepts once that
--- byte stands for a base. Each is asked of wakeluri_check's own definition, as in Marked.antt.
+-- Why mending a base (docs/RULES.md, R55) bars three bytes: for each there is a smallest file and index that the checker accepts, and no longer accepts
+-- once that byte replaces a base. Each question goes to wakeluri_check's own definition, as in Marked.antt.
 use mathlib.Core.Path.{_≡_, refl}
 use mathlib.Core.List.{List, [], _∷_}
 use Rattle.refusal.specs.Numbers.{numbersOf, overLimit}

@@ -37,7 +37,7 @@ indexRows index table = indexIn index (rowCount (numbersIn table))
 abbrev fileRows : Rule → List ℕ → List ℕ → Found
 fileRows rule file table = rowsIn rule file (rowCount (numbersIn table))
 
--- a call has filled a table with a file's records: what it told, and the table
+-- a call has filled a table with a file's records: its answer, and the table
 pub record Ready (file table′ : List ℕ) (filled : Answer) : Type 0 where
   pub small : length file ≤ limit
   pub told : Filled file filled

@@ -2,9 +2,9 @@
 -- hand out (`callTold`), for pieces that come one after another with one table. What is handed out as a state is the feeder when it comes
 -- back (`handed-back`), so the calls one after another are `allPieces`.
 --
--- `fed-whole`: any pieces within the size limit, and the end, tell the count and the refusal of the call on the joined bytes, and leave its
+-- `fed-whole`: any pieces within the size limit, and the end, answer the count and the refusal of the call on the joined bytes, and leave its
 -- table, to the byte, for each rule. `fed-told`: before the end, those of all lines but the last. `split-same`: two ways of splitting the same
--- bytes are handed out alike. `refusal-repeated`, `ended-first`: what a later call tells.
+-- bytes hand out the same. `refusal-repeated`, `ended-first`: what a later call answers.
 use Prim.Native.Nat.{ℕ, _≤_}
 use mathlib.Core.Path.{_≡_, refl, ap, sym, _∙_}
 use mathlib.Core.List.{List, [], _∷_}
@@ -36,7 +36,7 @@ use Rattle.wakeluri.specs.Answer.{filledAnswer}
 use Rattle.wakeluri.specs.Told.{filledTold}
 use Rattle.wakeluri.specs.Feeding.{ruleBy, linesTold, feederBy, feedIn, feedTold, callTold, feeder-back}
 
--- ---- what a host is told
+-- ---- what a host gets
 
 -- a refusal, and a count of rows
 pub record Tells (a : Feed) (n : refused.Numbers) (count : ℕ) : Type 0 where
@@ -53,7 +53,7 @@ pub record AsWhole (fed : Outcome Feed) (whole : Outcome Answer) : Type 0 where
   pub count : fed .answer .rows ≡ whole .answer .count
   pub table : fed .output ≡ whole .output
 
--- a feeder's state as it is handed out tells the refusal that stands, and the rows
+-- a feeder's state as it is handed out has the refusal that stands, and the rows
 feed-tells : (f : Feeder) → Tells (feedTold f) (refusalIn (f .phase)) (f .rows)
 unfolding feedTold refusalIn linesTold
 feed-tells f = go (f .phase)

@@ -1,10 +1,10 @@
 -- Just the needed bytes fetched, and read (request K7), where a host meets it: at the entry points, over the bytes that it lends. A host that
--- has only a part of a file at hand calls wakeluri_needed_bytes with the file's length and the room of its output, fetches the part that is
--- told, and calls wakeluri_read_window with it.
+-- has only a part of a file at hand calls wakeluri_needed_bytes with the file's length and the room of its output, fetches the part that this
+-- answers, and calls wakeluri_read_window with it.
 --
--- `fetched-exact`: where no refusal is told, that call tells and leaves what wakeluri_read_exact would for the whole file.
+-- `fetched-exact`: without a refusal, that call answers and leaves what wakeluri_read_exact would for the whole file.
 --
--- `not-fetched`: where one is told, wakeluri_read_exact would tell the same three numbers, and leave the output as it was.
+-- `not-fetched`: with one, wakeluri_read_exact would answer the same three numbers, and leave the output as it was.
 use Prim.Native.Nat.{ℕ, _-_}
 use mathlib.Core.Path.{_≡_, refl, ap, _∙_}
 use mathlib.Core.List.{List}
@@ -29,7 +29,7 @@ use Rattle.wakeluri.specs.Told.{writtenTold}
 use Rattle.wakeluri.specs.Window.{partAnswer}
 use Rattle.demands.specs.Calls.{ReadExact, NeededBytes, ReadWindow}
 
--- the read tells what the part told, and leaves the output as it was
+-- the read answers what the first call answered, and leaves the output as it was
 pub record NotRead (p : PartAnswer) (a : Answer) (out out′ : List ℕ) : Type 0 where
   pub refusal : a .refusal ≡ p .refusal
   pub first : a .first ≡ p .first

@@ -1,4 +1,4 @@
--- What a host sees: the bytes that it lends, the lines that it joins, and what an answer tells it.
+-- What a host sees: the bytes that it lends, the lines that it joins, and the answers.
 use Prim.Native.Nat.{ℕ, zero, suc, _*_, _≤_, _<_}
 use mathlib.Core.Path.{_≡_}
 use mathlib.Core.List.{List, [], _++_}
@@ -24,13 +24,13 @@ pub record Exactly (file index : List ℕ) (a : Answer) : Type 0 where
   pub only-if : a .refusal ≡ 0 → Accepts file index
   pub if′ : Accepts file index → a .refusal ≡ 0
 
--- a call that fills a table tells no refusal, and as many rows as the file has records
+-- a call that fills a table answers no refusal, and as many rows as the file has records
 pub record Filled (file : List ℕ) (a : Answer) : Type 0 where
   pub refusal : a .refusal ≡ 0
   pub count : a .count ≡ recordCount file
 
--- a read gives just the bases that are asked for: no refusal, how many they are, they at the front of the output, and the rest of it as it
--- was lent
+-- a read gives just the bases that are asked for: no refusal, their count, the bases at the front of the output, and the rest of it as it was
+-- lent
 pub record JustThose (file : List ℕ) (row : ℕ) (start end : Bound) (out : List ℕ) (a : Answer) (out′ : List ℕ) : Type 0 where
   pub refusal : a .refusal ≡ 0
   pub count : a .count ≡ askedCount file row start end

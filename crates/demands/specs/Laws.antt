@@ -1,4 +1,4 @@
--- Laws for AtTheEdge.antt: what an answer with no refusal tells, the table that a call leaves, and the lines that are written from it.
+-- Laws for AtTheEdge.antt: what an answer without a refusal means, the table that a call leaves, and the lines that are written from it.
 use Prim.Native.Nat.{ℕ, zero, suc, _+_, _*_, _≤_, _<_}
 use mathlib.Core.Path.{_≡_, refl, ap, sym, _∙_}
 use mathlib.Core.List.{List, [], _∷_, _++_}
@@ -60,12 +60,12 @@ unfolding filledAnswer
 filled-count n stop.Ended = refl
 filled-count n (stop.Refused x) = refl
 
--- a call that fills a table tells what it found, and leaves it there
+-- a call that fills a table answers what it found, and leaves it there
 pub found-told : (a : Answer) (t t′ : List ℕ) (found : Found) → leaves a t′ ≡ filledTold found t → (a ≡ filledAnswer (length (found .rows)) (found .stop)) × (t′ ≡ withNumbers t (withRows (numbersIn t) 0 (found .rows)))
 unfolding filledTold
 found-told a t t′ found h = (ap (λ (x : Outcome Answer). x .answer) h, ap (λ (x : Outcome Answer). x .output) h)
 
--- if it tells no refusal, it came to the end
+-- if it answers no refusal, it came to the end
 pub found-ended : (a : Answer) (t t′ : List ℕ) (found : Found) → leaves a t′ ≡ filledTold found t → a .refusal ≡ 0 → found .stop ≡ stop.Ended
 found-ended a t t′ found h z = zero-ended (length (found .rows)) (found .stop) (rw (found-told a t t′ found h .0) at z)
 
@@ -107,7 +107,7 @@ joined-lines f (x ∷ xs) answers outputs k h =
     q : (j : ℕ) → suc k + j ≡ k + suc j
     q j = omega arith
 
--- a text that is put at the front of an output: it is there if no refusal is told, and it needs its own length
+-- a text that is put at the front of an output: it is there if the call is not refused, and it needs its own length
 module _ (a : Answer) (text out out′ : List ℕ) (told : leaves a out′ ≡ writtenTold (pours text out)) where
   pub front-is : a .refusal ≡ 0 → take (a .count) out′ ≡ text
   unfolding writtenTold writtenAnswer pours numbersOf

@@ -1,8 +1,8 @@
 -- Looking up once, and reading often (request K8), where a host meets it: at the entry points, over the bytes that it lends. A host that has a
--- name calls wakeluri_find, and then wakeluri_read_exact or wakeluri_read_raw of the row that is told as `count`, as often as it likes.
+-- name calls wakeluri_find, and then wakeluri_read_exact or wakeluri_read_raw of the row in `count`, as often as it likes.
 --
--- `split-equals-exact`, `split-equals-raw`: for lent bytes within the limit, the two calls tell and leave together what the one call by name told
--- and left (`exactNamed`, `rawNamed`, which are kept for this): 25 or 15 from the first, with the output as it was, and all else from the second.
+-- `split-equals-exact`, `split-equals-raw`: for lent bytes within the limit, the two calls together answer and leave what the one call by name
+-- did (`exactNamed`, `rawNamed`, which are kept for this): 25 or 15 from the first, with the output as it was, and all else from the second.
 use Prim.Native.Nat.{ℕ}
 use mathlib.Core.List.{List}
 use Rattle.region.specs.ByName.{exactNamed, rawNamed, Small}

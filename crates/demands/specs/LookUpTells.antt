@@ -1,4 +1,4 @@
--- What looking up and then reading tell at the entry points, as numbers.
+-- What looking up and then reading answer at the entry points, as numbers.
 use Prim.Native.Nat.{ℕ}
 use mathlib.Core.Path.{_≡_}
 use mathlib.Core.List.{List}
@@ -18,8 +18,8 @@ pub data SecondTells : ℕ → Type 0 where
   told-14 : SecondTells 14
   told-18 : SecondTells 18
 
--- what one call told and left is what two calls tell and leave; the second is made of the row that the first tells, and only if that tells no
--- refusal
+-- one call answered and left what two calls answer and leave; the second takes the row that the first answers, and is made only if the first is
+-- not refused
 pub record Split (one : Outcome Answer) (first : Answer) (Second : ℕ → Answer → List ℕ → Type 0) (out : List ℕ) : Type 0 where
   pub refused : (first .refusal ≡ 0 → ⊥) → FirstTells (first .refusal) × (one ≡ leaves first out)
   pub read : first .refusal ≡ 0 → (second : Answer) (out′ : List ℕ) → Second (first .count) second out′ → (one ≡ leaves second out′) × SecondTells (second .refusal)

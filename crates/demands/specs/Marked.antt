@@ -1,4 +1,4 @@
--- The marked examples M1 to M13 (docs/RULES.md, R46): one table, one proof. Each asks an entry point's own definition for what a host is told and
+-- The marked examples M1 to M13 (docs/RULES.md, R46): one table, one proof. Each asks an entry point's own definition for what a host gets and
 -- for the bytes that it finds afterwards.
 use Prim.Native.Nat.{ℕ, zero, suc, _*_}
 use Prim.Native.String.{String}

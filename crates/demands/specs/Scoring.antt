@@ -35,7 +35,7 @@ use Rattle.demands.specs.WritingLaws.{zero-wrote}
 
 -- ---- an answer of the scorer as numbers
 
--- what it tells without a refusal, it found
+-- an answer without a refusal has what it found
 pub record Scores (o : Outcome Scored) (a : ScoreAnswer) (room′ : List ℕ) : Type 0 where
   pub score : Score
   pub outcome : o ≡ leaves (scored.Score score) room′
@@ -58,7 +58,7 @@ zero-scores o a room′ h zero = go (o .answer) refl
         let q : a .refusal ≡ numbersOf f .refusal = ap (λ (x : ScoreAnswer). x .refusal) (w .0 ∙ ap scoreAnswer e) in
         absurd (omega (arith, never-zero f))
 
--- what it tells with one leaves the room
+-- an answer with one leaves the room
 left-room : (s typed file names t : List ℕ) (u : ℕ) (room : List ℕ) (a : ScoreAnswer) (room′ : List ℕ) → leaves a room′ ≡ scoredTold (scorerOf s typed file names t u room)
     → (a .refusal ≡ 0 → ⊥) → room′ ≡ room
 unfolding scoreAnswer

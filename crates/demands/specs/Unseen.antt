@@ -1,6 +1,6 @@
 -- 34 where a host meets it (request K7): at wakeluri_read_window, over the bytes that are lent.
 --
--- `unseen-told`, `told-unseen`: it tells 34 and base position p exactly if base p is the first of the region that is in the file and not in the
+-- `unseen-told`, `told-unseen`: it answers 34 and base position p exactly if base p is the first of the region that is in the file and not in the
 -- window, and nothing else is refused (`FirstUnseen`); then the output is as it was.
 use Prim.Native.Nat.{ℕ}
 use mathlib.Core.Path.{_≡_, refl, ap, sym, _∙_}
@@ -47,7 +47,7 @@ row-other t u r q h = go (ltb (rowCount t) u) (ltb r u) h
     go false true k = sound-other r (rowAt t r) q k
     go false false k = let z : _≡_ {A = ℕ} 0 1 = cc in omega arith
 
--- 34 and its base position tell the refusal
+-- 34 and its base position are the whole refusal
 by-34 : (f : Refusal) (p : ℕ) → numbersOf f .refusal ≡ 34 → numbersOf f .first ≡ p → f ≡ NotInWindow p
 unfolding caseOf
 by-34 f p h k = case-by-number f ∙ rw (h, k)
@@ -57,7 +57,7 @@ unfolding writtenAnswer
 answer-34 (written.Bytes n) p h k = absurd (omega arith)
 answer-34 (written.Refused f) p h k = ap written.Refused (by-34 f p h k)
 
--- what is told of it
+-- the answer
 pub record Tells34 (a : Answer) (p : ℕ) (out out′ : List ℕ) : Type 0 where
   pub refusal : a .refusal ≡ 34
   pub base : a .first ≡ p

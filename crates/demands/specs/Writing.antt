@@ -1,12 +1,12 @@
 -- A written record (request K3) where a host meets it: at the entry points. If wakeluri_write_record answers 0 and what it wrote, the first
 -- `count` bytes of the output, is within the limit, then of these bytes:
 --
--- `written-defines`: wakeluri_definition_line, of the definition line at their front, tells the places of the name and of the description.
+-- `written-defines`: wakeluri_definition_line, of the definition line at their front, answers the places of the name and of the description.
 --
 -- `written-sequence`: wakeluri_read_sequence, from behind that line, with room for them, gives just the bases, and leaves the end.
 --
--- `written-row`, `written-end`: if there are bases, wakeluri_index_record of offset 0 tells one row, that of their count and the width, and that
--- the record ends where the bytes do; asked there, it tells the end.
+-- `written-row`, `written-end`: if there are bases, wakeluri_index_record of offset 0 answers one row, that of their count and the width, and that
+-- the record ends where the bytes do; asked there, it answers the end.
 use Prim.Native.Nat.{ℕ, _≤_, _<_}
 use mathlib.Core.Path.{_≡_, refl, ap, sym, _∙_}
 use mathlib.Core.List.{List, _++_}

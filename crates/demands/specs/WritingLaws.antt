@@ -1,4 +1,4 @@
--- A law for Writing.antt: what a call tells without a refusal, it wrote.
+-- A law for Writing.antt: an answer without a refusal says what the call wrote.
 use Prim.Native.Nat.{ℕ}
 use mathlib.Core.Path.{_≡_, refl, ap, sym, _∙_}
 use mathlib.Core.List.{List}

@@ -80,7 +80,7 @@ module _ (newest : ℕ) (s : List ℕ) where
   unfolding ended
   not-ended h at n = rw (ne-eqb (h .wanted) 5 n)
 
-  -- where this is the first fault, the reader refuses with it
+  -- if this is the first fault, the reader refuses with it
   pub refused-if : (x : Refusal) → FirstFault newest s x → readAs newest s ≡ read.Refused x
   unfolding readAs overLimit
   refused-if _ (long m) = rw (lt-ltb limit (length s) m)

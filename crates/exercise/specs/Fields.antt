@@ -110,7 +110,7 @@ written-reads newest name start end edition n s e k =
     ∙ (field-passes newest _ (length name + 25) 4 0 1 (edition ∷ []) [] (omega arith) refl _ (edition-read newest (length name + 25) (length name) start end edition k)
     ∙ all-read newest _ (length name) start end edition)
 
--- and the name that it tells is the name
+-- and the name that is read is the name
 pub written-name : (name : List ℕ) (start end edition : ℕ) → take (length name) (drop 3 (textOf name start end edition)) ≡ name
 unfolding textOf
 written-name name start end edition = take-append-seam name (numberField 2 start ++ (numberField 3 end ++ editionBytes edition))

@@ -1,5 +1,5 @@
--- What each refusal of an exercise means, over its fields by their places and without the reader's walk: fields are judged from the front,
--- and the first fault decides (R49 of docs/RULES.md). That the reader refuses exactly so is in Faults.antt.
+-- What each refusal of an exercise means, by the places of its fields and without the reader's walk. Fields are judged from the front, and the
+-- first fault decides (R49 of docs/RULES.md). Faults.antt shows that the reader refuses exactly so.
 use Prim.Native.Nat.{ℕ, zero, suc, _+_, _*_, _≤_, _<_}
 use mathlib.Core.Path.{_≡_}
 use mathlib.Core.Bool.{true, false}
@@ -64,7 +64,7 @@ pub record Good (newest : ℕ) (s : List ℕ) (r : ℕ) : Type 0 where
   pub size : RightSize (tagOf s r) (sizeOf s r)
   pub known : tagOf s r ≡ 4 → knownTo newest (getD (valueOf s r) 0 0) ≡ true
 
--- ---- a field is wrong, told with its own offset
+-- ---- a field is wrong; its offset comes with the refusal
 
 pub data FieldFault (newest : ℕ) (s : List ℕ) (r : ℕ) : Refusal → Type 0 where
   -- 32: a tag from 128 on, whatever follows it

@@ -55,7 +55,7 @@ editionField newest h at n s =
     (bad at))
     (bad at)
 
--- by its tag; another than the four is passed over
+-- by its tag; a tag other than the four is passed over
 unfoldable pub valued : ℕ → Kept → ℕ → ℕ → ℕ → List ℕ → Judged
 valued newest h at tag n s =
     cond (eqb tag 1) (nameField h at n)

@@ -1,7 +1,7 @@
-// An exercise: a name, the first and last base asked, and the edition of its rules, as tagged fields. A field is a tag, a length of two
-// bytes, high byte first, and so many bytes. Tags 1 to 4 stand once each, in rising order; another below 128 is passed over wherever it
-// stands. Refused in reading: 1, then from the front 32, an unknown tag from 128 on; 31, a malformed field or one that is missing; 33, an
-// unknown edition. In writing: 1; 31, a name over 65,535 bytes; 33; 14, no room.
+// An exercise: a name, the first and last base asked for, and the edition of its rules, as tagged fields. A field is a tag, a length of two
+// bytes, high byte first, and so many bytes. Each of the tags 1 to 4 stands once, in rising order; any other tag below 128 is passed over.
+// Reading refuses 1; then, from the front, 32 for an unknown tag from 128 on, 31 for a malformed or missing field, and 33 for an unknown
+// edition. Writing refuses 1; 31 for a name over 65,535 bytes; 33; and 14 for no room.
 use output::Written;
 use refusal::Refusal;
 ghost use mathlib.Core.Path.{_≡_};

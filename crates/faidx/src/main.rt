@@ -1,6 +1,6 @@
 // faidx [FILE ..]: writes the index of FASTA, of at most 65,536 bytes and 1,024 records, to standard output: a line for each record,
 // and for a refusal one line, as `refused 6 0 4`, behind those of the records before it. Longer input gives only `refused 1 0 0`.
-// It reads standard input, or each file named, of which `-` is standard input.
+// It reads standard input, or each file named; `-` is standard input.
 use fitting::Rule;
 use libc::STDIN_FILENO;
 use libc::STDOUT_FILENO;
@@ -81,7 +81,7 @@ fn list_named(i: usize) {
     let mut path = io::buffer();
     let length = os::arg(i, &mut path);
     if length == 1 {
-        if path[0] == 45 {
+        if path[0] == b'-' {
             list(STDIN_FILENO);
             return;
         }

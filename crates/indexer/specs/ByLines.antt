@@ -1,5 +1,5 @@
--- The indexer as a machine over lines. With each line comes whether its sequence ends behind it: the next byte is '>', or the file ends. Over
--- the lines of a whole file it finds what indexing the file finds: `by-lines`. So fed with a file in any pieces it finds the same: `by-pieces`.
+-- The indexer as a machine over lines. With each line it learns whether the sequence ends behind it: the next byte is '>', or the file ends.
+-- Over the lines of a whole file it finds what indexing the file finds: `by-lines`. So it finds the same in any pieces: `by-pieces`.
 use Prim.Native.Nat.{ℕ, zero, suc, _+_}
 use mathlib.Core.Path.{_≡_, refl, ap, sym, _∙_}
 use mathlib.Core.List.{List, [], _∷_, _++_, append-assoc, append-nil}
@@ -40,7 +40,7 @@ pub record Opened : Type 0 where
   pub width : ℕ
   pub said : Definition
 
--- what is awaited: a definition at an offset; the first sequence line; a further one, with the first, the bases so far and the offset; nothing
+-- what it awaits: a definition at an offset; the first sequence line; a further one, with the first, the bases so far and the offset; nothing
 pub data Phase : Type 0 where
   wants-definition : ℕ → Phase
   wants-first : Opened → Phase
@@ -112,7 +112,7 @@ stopOf (halted s) = s
 abbrev pub found : State → Found
 found st = record { rows = st .rows; stop = stopOf (st .phase) }
 
--- ---- what a sequence's end is
+-- ---- where a sequence ends
 
 none-seq : (ls : List (List ℕ)) → none (seqOf ls) ≡ true → seqOf ls ≡ []
 none-seq ls h = go (seqOf ls) h
@@ -172,7 +172,7 @@ module _ (all : ℕ) where
   halted-stays s f rs [] = rw (append-nil rs)
   halted-stays s f rs (l ∷ ls) = halted-stays s f rs ls
 
-  -- what a phase will find in some lines
+  -- what a phase finds in some lines
   Claim : List (List ℕ) → Phase → Type 0
   Claim ls (wants-definition at) = (f : ℕ) (rs : List Record) → found (run (state (wants-definition at) f rs) ls) ≡ plus rs (heldIn f all (fileOf (groups ls) at))
   Claim ls (wants-first d) = (f : ℕ) (rs : List Record) → none (seqOf ls) ≡ false

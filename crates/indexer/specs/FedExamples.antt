@@ -1,5 +1,5 @@
--- The fed indexer on small files, cut between CR and LF, in a name, behind an LF and byte by byte, each with the rows that it has before the
--- end call and those of the end: one table, one proof.
+-- The fed indexer on small files, cut between CR and LF, in a name, behind an LF and byte by byte. Each has the rows before the end call, and
+-- those after it: one table, one proof.
 use Prim.Native.Nat.{ℕ}
 use Prim.Native.String.{String}
 use mathlib.Core.Path.{_≡_, refl}

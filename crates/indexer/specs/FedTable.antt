@@ -1,5 +1,5 @@
--- The fed indexer's calls over one table: each call says what its piece alone does, from what the last one kept; together they leave what one
--- whole-file call leaves.
+-- The fed indexer's calls over one table. Each call knows its own piece and what the last call kept; together they leave what one whole-file
+-- call leaves.
 use Prim.Native.Nat.{ℕ, _+_, _-_}
 use mathlib.Core.Path.{_≡_, refl, ap, sym, _∙_}
 use mathlib.Core.List.{List, [], _∷_, _++_, append-nil}
@@ -16,7 +16,7 @@ use Rattle.indexer.specs.File.{fileAt}
 use Rattle.indexer.specs.ByLines.{Phase, wants-definition, State, state, stopOf, start, found}
 use Rattle.indexer.specs.LineSums.{Sum, sumOf, sums, behind, pieces-found, pieces-behind, end-behind}
 
--- what is kept between two calls: what is awaited, the sum of the line that waits, and how many rows are written
+-- what is kept between two calls: what it awaits, the sum of the line that waits, and how many rows are written
 pub record Kept : Type 0 where
   pub phase : Phase
   pub held : Sum
@@ -37,7 +37,7 @@ module _ (all : ℕ) where
     pub rows : g .rows ≡ f .rows + length new
     pub table : after ≡ withRows before (f .rows) new
 
-  -- and what the end call tells and leaves
+  -- and what the end call answers and leaves
   pub record Closed (f : Kept) (before after : List ℕ) (told : Filled) : Type 0 where
     pub new : List Record
     pub is : finishSum (sums all) (fedWith f []) .rows ≡ new
@@ -80,7 +80,7 @@ module _ (all : ℕ) where
   calls-joined (none {f = f} {t = t}) = record { new = []; is = unfold feedSums in refl; rows = sym (add-zero (f .rows)); table = sym (rows-none t (f .rows)) }
   calls-joined (more {f = f} {g = g} {h = h} {p = p} {ps = ps} {t = t} {u = u} {v = v} e c) = one-more f g h p ps t u v e (calls-joined c)
 
-  -- R57 of docs/RULES.md: the calls and the end call leave and tell what the whole-file call does
+  -- R57 of docs/RULES.md: the calls and the end call answer and leave what the whole-file call does
   pub calls-filled : (ps : List (List ℕ)) (t u v : List ℕ) (g : Kept) (told : Filled) → Calls begun ps t u g → Closed g u v told → FilledAs (heldIn all all (fileAt (joined ps) 0)) t v told
   calls-filled ps t u v g told c e =
       rw (sym (pieces-found all ps) ∙ w)

@@ -6,7 +6,7 @@ use Rattle.table.specs.Fill.{Found}
 use Rattle.indexer.specs.Rule.{groupsBy, fileBy, callBy}
 use Rattle.indexer.specs.Index.{ported}
 
--- the rows of some groups, the first of which begins at an offset
+-- the rows of some groups; the first begins at an offset
 abbrev pub fileOf : List Group → ℕ → Found
 fileOf = groupsBy ported
 

@@ -42,12 +42,12 @@ pub fits-not : (last : Bool) (l first : Line) → last ≡ false → false ≡ f
 unfolding fitsLast
 fits-not last l first h = rw h
 
--- where there is no line at all, the end is good
+-- if there is no line at all, the end is good
 fits-none : (first : Line) → fitsLast true (firstLine []) first ≡ true
 unfolding fitsLast
 fits-none first = rw (leb·zero (first .width), leb·zero (first .bases))
 
--- ---- one turn: the first of some lines, by its fate
+-- ---- one turn: the first of some lines, by how it is judged
 
 rest-shift : (n at : ℕ) (l : List ℕ) (ls : List (List ℕ)) (v : Verdict)
     → restAs (n + length (basesOf l)) (at + length l) ls v ≡ restAs n at (l ∷ ls) v
@@ -136,7 +136,7 @@ module _ (s : List ℕ) (at : ℕ) (first : Line) (h : at ≤ length s) where
   pub like-room : (k : ℕ) → k ≡ alike first (seqAt s at) → first .bases ≤ first .width → (at + k * first .width ≤ length s) × (k * first .bases ≤ k * first .width)
   like-room k hk b = (rw hk (alike-within s first at h), mul-le-mul-left k b)
 
-  -- the line behind them is not the first's width where it has its bases and may not be the last
+  -- the line behind them has another width than the first, if it has the first's bases and may not be the last
   pub width-differs : (k i : ℕ) (x : Line) (t f : Bool) → k ≡ alike first (seqAt s at) → i ≡ at + k * first .width → x ≡ firstLine (seqAt s i) → t ≡ none (seqAt s (i + x .width)) → f ≡ fitsLast t x first
       → 0 < first .bases → f ≡ false → x .bases ≡ first .bases → x .width ≡ first .width → ⊥
   width-differs k i x t f hk hi hx ht hf z e b w =

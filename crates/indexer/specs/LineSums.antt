@@ -1,5 +1,5 @@
--- What the indexer keeps of a line that waits for more bytes: seven numbers. They say all that judging the line asks, and are made from those
--- of an open line and further bytes; so a file fed in pieces needs no memory of the bytes of a line.
+-- What the indexer keeps of a line that waits for more bytes: seven numbers. They are enough to judge the line, and follow from those of an
+-- open line and further bytes; so a file fed in pieces needs no memory of a line's bytes.
 use Prim.Native.Nat.{ℕ, zero, suc, _+_, _-_, _≤_, _<_}
 use mathlib.Core.Path.{_≡_, refl, ap, sym, _∙_}
 use mathlib.Core.List.{List, [], _∷_, _++_, append-assoc}
@@ -28,8 +28,8 @@ use Rattle.indexer.specs.ByLines.{Phase, wants-definition, wants-first, 
 
 -- ---- the sum of a line
 
--- width and bases, whether its LF has come, whether it begins with '>', how many bytes behind the first are the name's, the place behind them and
--- the whitespace that follows, and how many bytes there are up to the last that is no whitespace
+-- width and bases; whether its LF has come; whether it begins with '>'; how many bytes behind the first are the name's; the place behind them and
+-- the whitespace that follows; and how many bytes there are up to the last that is no whitespace
 pub record Sum : Type 0 where
   pub line : Line
   pub whole : Bool
@@ -42,7 +42,7 @@ pub record Sum : Type 0 where
 abbrev pub nameIn : List ℕ → ℕ
 nameIn l = run (spaced false) (drop 1 l)
 
--- how many bytes are a name's and the whitespace's behind it; or, where the name has ended, the whitespace's alone
+-- how many bytes a name and the whitespace behind it have; or the whitespace alone, if the name has ended
 unfoldable pub skip : Bool → List ℕ → ℕ
 skip named [] = 0
 skip true (b ∷ s) = suc (skip (not (isSpace b)) s)
@@ -374,7 +374,7 @@ module _ (all : ℕ) where
         grows = sum-grows;
       }
 
-  -- R57 of docs/RULES.md, over definitions: a file that comes in any pieces, and then ends, gives the rows and the stop of the whole file
+  -- R57 of docs/RULES.md, over definitions: a file that comes in any pieces, and then ends, gives the rows of the whole file, and why there are no more
   pub pieces-found : (ps : List (List ℕ)) → found (finishSum sums (feedSums sums (record { state = start all; held = sumOf [] }) ps)) ≡ heldIn all all (fileAt (joined ps) 0)
   pieces-found ps = ap found (sums-whole sums (stepLine all) sums-law (start all) ps) ∙ by-lines all (joined ps)
 

@@ -32,8 +32,8 @@ pub record SequenceRule : Type 0 where
   -- the row of a record, by where its definition begins, the bytes of that line, what it says, and the sequence lines
   pub row : ℕ → ℕ → Definition → List (List ℕ) → Record
 
--- the row of a record whose definition begins at an offset, by what that says, the length, the position, the line bases and the line width: name
--- and description are spans of the file
+-- the row of a record whose definition begins at an offset, by what the definition says, the length, the position, the line bases and the line
+-- width. Name and description are spans of the file
 abbrev pub rowFor : ℕ → Definition → ℕ → ℕ → ℕ → ℕ → Record
 rowFor at d n p b w =
     record {
@@ -49,7 +49,7 @@ rowFor at d n p b w =
 
 -- ---- one record
 
--- an answer, with the place behind a record, or the place where it was
+-- an answer, with the place behind the record, or the place where it was
 abbrev pub judgedBy : SequenceRule → ℕ → ℕ → Definition → List (List ℕ) → Verdict → Step
 judgedBy rule at n d ls good = record { answer = indexed.Row (rule .row at n d ls); next = record { at = at + n + sumWidths ls } }
 judgedBy rule at n d ls (bad x) = record { answer = indexed.Refused x; next = record { at = at } }
@@ -86,7 +86,7 @@ stepped x f = onwards (x .answer) (f (x .next .at))
 abbrev pub groupBy : SequenceRule → ℕ → Group → Step
 groupBy rule at g = definedBy rule at (length (g .def)) (g .seq) (definitionSays (g .def))
 
--- the rows of some groups, the first of which begins at an offset
+-- the rows of some groups; the first begins at an offset
 unfoldable pub groupsBy : SequenceRule → List Group → ℕ → Found
 groupsBy rule [] at = nothing Ended
 groupsBy rule (g ∷ gs) at = stepped (groupBy rule at g) (groupsBy rule gs)

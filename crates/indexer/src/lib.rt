@@ -1,6 +1,6 @@
-// The ported indexer: the row of one record of a FASTA file. A record is a definition line and the lines of its sequence, which all have
-// the first line's bases and width, but for the last, which may have less. Refuses a file over the size limit (1), a bad definition
-// line (2 to 4), no bases in the first line (5), and a line of other bases (6) or width (7). The loop over a file is in `fitting`.
+// The ported indexer: the row of one record of a FASTA file. A record is a definition line and the lines of its sequence. These all have
+// the first line's bases and width, except the last, which may have less. Refuses a file over the size limit (1), a bad definition line
+// (2 to 4), no bases in the first line (5), and a line of other bases (6) or width (7). The loop over a file is in `fitting`.
 ghost use mathlib.Core.Path.{_≡_};
 ghost use Prim.Native.Nat.{_+_, _-_, _≤_, _<_};
 ghost use lib.ListN.{length};
@@ -13,7 +13,7 @@ use record::Offset;
 use record::Record;
 use refusal::Refusal;
 
-// A place in a file, from which the record that begins there is indexed.
+// A place in a file: the record that begins there is indexed.
 pub struct Indexer {
     pub at: usize,
 }
@@ -25,7 +25,7 @@ pub enum Indexed {
     Refused(Refusal),
 }
 
-// The answer of a step, and the place it leaves: behind the record, or where it was.
+// The answer of a step, and where it stops: behind the record, or where it was.
 pub struct Step {
     pub answer: Indexed,
     pub next: Indexer,
@@ -49,7 +49,7 @@ pub fn fits(last: bool, l: Line, first: Line) -> bool
     false
 }
 
-// The lines from `at` on, which come after a record's first: those like the first are passed, and the one behind them decides.
+// The lines from `at` on, which come after a record's first. It passes those like the first, and the one behind them decides.
 fn index_rest(s: &[u8], at: usize, first: Line) -> Rest
     requires { ⌜ (at ≤ length (now s)) × (0 < first .bases) × (first .bases ≤ first .width) × (first .width ≤ at) ⌝ }
     ensures { λ r. ⌜ r ≡ restSays first (first .bases) at (seqAt (now (s .entry)) at) ⌝ }

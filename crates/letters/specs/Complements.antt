@@ -1,5 +1,5 @@
--- The complement letter's set is the set of the complements of its letter's bases, and one set lies inside another exactly where their
--- complements do; for every byte at once.
+-- The set of a complement letter has the complements of the letter's bases; and one set lies inside another exactly if their complements
+-- do. For every byte at once.
 use Prim.Native.Nat.{ℕ}
 use mathlib.Core.Path.{_≡_, refl}
 use mathlib.Core.Bool.{Bool, true, false, cond, not}
@@ -12,7 +12,7 @@ pub complement-set : (b : ℕ) → setOf (partner b) ≡ complements (setOf b)
 unfolding partner setOf inside complements
 complement-set b = eqb→eq _ _ (of-all (λ b y t. eqb (setOf y) (complements t)) tt b tt)
 
--- are two tests the same
+-- do two tests give the same
 abbrev same : Bool → Bool → Bool
 same true y = y
 same false y = not y
@@ -23,7 +23,7 @@ so-same true false t = absurd t
 so-same false true t = absurd t
 so-same false false t = refl
 
--- a byte's set lies inside a letter's exactly where their complements' sets do
+-- a byte's set lies inside a letter's exactly if their complements' sets do
 abbrev kept : ℕ → ℕ → ℕ → ℕ → ℕ → Bool
 kept y t p z q = same (inside (setOf y) (setOf z)) (inside t q)
 

@@ -1,5 +1,5 @@
--- The letters that bases are written with (docs/RULES.md, R39 and R51): of each its partner in the complement, and the set of the bases A, C,
--- G, T that it stands for, as the IUPAC nucleotide codes have them. U counts as T. Lower case likewise.
+-- The letters that bases are written with (docs/RULES.md, R39 and R51): each has a partner in the complement, and stands for a set of the
+-- bases A, C, G, T, as in the IUPAC nucleotide codes. U counts as T. Lower case likewise.
 use Prim.Native.Nat.{ℕ, _+_}
 use Prim.Native.Char.{Char, code}
 use Prim.Native.String.{String, [] as empty, _∷_ as _◂_}
@@ -51,15 +51,15 @@ lower l = record { byte = l .byte + 32; gives = l .gives + 32; set = l .set }
 abbrev pub letters : List Letter
 letters = upper ++ map lower upper
 
--- what some letters have for a byte; 0 where it is none of them
+-- what some letters have for a byte; 0 if it is none of them
 abbrev pub looked : (Letter → ℕ) → List Letter → ℕ → ℕ
 looked f [] b = 0
 looked f (l ∷ ls) b = cond (eqb b (l .byte)) (f l) (looked f ls b)
 
--- the complement of a byte; 0 where it has none
+-- the complement of a byte; 0 if it has none
 unfoldable pub partner : ℕ → ℕ
 partner b = looked (λ (l : Letter). l .gives) letters b
 
--- the set of a byte; 0 where it has no code
+-- the set of a byte; 0 if it has no code
 unfoldable pub setOf : ℕ → ℕ
 setOf b = looked (λ (l : Letter). l .set) letters b

@@ -1,4 +1,4 @@
--- Tables of 256 entries, one for each byte: that one holds what a rule gives, from one computed test.
+-- Tables of 256 entries, one for each byte. One computed test shows that a table holds what a rule gives.
 use Prim.Native.Nat.{ℕ, zero, suc, _+_, _<_}
 use mathlib.Core.Path.{_≡_}
 use mathlib.Core.Bool.{Bool, true, false, cond}
@@ -9,7 +9,7 @@ use lib.Dec.{T, eqb, eqb→eq}
 use lib.ListN.{length, getD}
 use Rattle.letters.specs.Laws.{both}
 
--- a table of what f gives: each byte's is at its place
+-- a table of what f gives: the entry of a byte is at its place
 unfoldable pub IsTable : (ℕ → ℕ) → List ℕ → Type 0
 IsTable f t = (b : ℕ) → b < 256 → getD t b 0 ≡ f b
 
@@ -29,7 +29,7 @@ entries f (x ∷ xs) i t zero h = rw (add-zero i) (eqb→eq x (f i) (both (eqb x
 entries f (x ∷ xs) i t (suc k) h =
     rw (add-suc i k, ← suc-add i k) (entries f xs (suc i) (both (eqb x (f i)) (right f (suc i) xs) t .1) k (omega arith))
 
--- what one computed test finds at all entries of a list holds of each; so 256 of them that are right are a table
+-- if one computed test holds at all entries of a list, it holds at each; so 256 right entries are a table
 pub is-table : (f : ℕ → ℕ) (t : List ℕ) → length t ≡ 256 → T (right f 0 t) → IsTable f t
 unfolding IsTable
 is-table f t n ok b h = rw (zero-add b) at (entries f t 0 ok b (omega arith))

@@ -1,10 +1,10 @@
 // The letters that bases are written with: the partner of each in the complement, and the set of bases that it stands for.
 //
-// A set has four bits: A is 1, C is 2, G is 4, T is 8; U counts as T. The tables have an entry for each byte, at the place that the
-// byte numbers, and 0 where the byte is no letter. A row has 16 bytes: the upper case letters are in the rows of '@' and 'P', the lower
-// case letters in those 32 further.
+// A set has four bits: A is 1, C is 2, G is 4, T is 8; U counts as T. The entry of byte b is at place b of a table, and is 0 if the byte
+// is no letter. A line below has 16 entries: the upper case letters are in the lines of '@' and 'P', the lower case letters in those two
+// lines further on.
 //
-// A table is handed out as a value: a loop looks into a copy that is made before it, since a constant would be made anew at each look.
+// A function gives a table as a value, so that a loop can read a copy made before it: a constant would be built anew at each read.
 ghost use Rattle.letters.specs.Letters.{partner, setOf};
 ghost use Rattle.letters.specs.Table.{IsTable};
 

@@ -14,7 +14,7 @@ use Rattle.region.specs.Region.{badBounds, startOf, endOf, basesTo}
 use Rattle.checker.specs.Accepts.{recordAt}
 use Rattle.mission.specs.TableOf.{recordCount, baseCount}
 
--- the last base position that is asked for: the record's last where the end is absent
+-- the last base position that is asked for: the record's last if the end is absent
 abbrev pub lastOf : List ℕ → ℕ → Bound → ℕ
 lastOf f r e = endOf (baseCount f r) e
 
@@ -38,6 +38,6 @@ pub record Asked (f : List ℕ) (r : ℕ) (a e : Bound) (out : List ℕ) : Type 
   pub end : lastOf f r e ≤ baseCount f r
   pub room : askedCount f r a e ≤ length out
 
--- just those bases: how many they are, and they at the front of the output, what was behind them as it was
+-- just those bases: their count, and the bases at the front of the output; the bytes behind them stay
 abbrev pub givesAsked : List ℕ → ℕ → Bound → Bound → List ℕ → Outcome Written
 givesAsked f r a e out = leaves (Bytes (askedCount f r a e)) (askedBases f r a e ++ drop (askedCount f r a e) out)

@@ -1,6 +1,6 @@
--- What the indexers tell of a definition line that does not read, by either rule: the offset at which reading failed, which is the start of that
--- record's definition line plus the place in it. The record is the one behind the rows that are held. `bad-told`: where its definition line does
--- not read, the answer is its refusal. `told-bad`: an answer 2, 3 or 4 means that. `bad-record-told` says it of the record at an offset.
+-- What the indexers answer for a definition line that does not read, by either rule: the offset where reading failed, which is the start of that
+-- record's definition line plus the place in it. The record is the one behind the rows that the table has. `bad-told`: if its definition line
+-- does not read, the answer is its refusal. `told-bad`: an answer 2, 3 or 4 means that. `bad-record-told` says it of the record at an offset.
 use Prim.Native.Nat.{ℕ, zero, suc, _+_, _≤_, _<_}
 use mathlib.Core.Path.{_≡_, refl, sym, ap, _∙_}
 use mathlib.Core.List.{List, [], _∷_}
@@ -46,7 +46,7 @@ pub record BadAt (f : List ℕ) (r : ℕ) (e : Fault) : Type 0 where
   pub here : r < length (groups (lines f))
   pub bad : definitionSays (recordAt (groups (lines f)) r .def) ≡ Bad e
 
--- a refusal tells so of record r: its number, the start of that definition line plus the place in it, and 0
+-- a refusal says so of record r: its number, the start of that definition line plus the place in it, and 0
 pub record TellsBad (f : List ℕ) (r : ℕ) (x : Refusal) : Type 0 where
   pub fault : Fault
   pub first : BadAt f r fault

@@ -1,5 +1,5 @@
--- The description in a row that an indexer made, by either rule, is the one that reading the record's definition line gives, at its place in the
--- file: `rows-described`. Its span is 0 and 0 where the line has none, or an empty one.
+-- A row that an indexer made, by either rule, has the description that reading the record's definition line gives, at its place in the file:
+-- `rows-described`. Its span is 0 and 0 if the line has no description, or an empty one.
 use Prim.Native.Nat.{ℕ, zero, suc, _+_, _≤_, _<_}
 use mathlib.Core.Path.{_≡_, refl, ap, sym, _∙_}
 use mathlib.Core.List.{List}

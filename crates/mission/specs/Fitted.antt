@@ -4,9 +4,9 @@
 -- `fits-accepted`: the index lines of a file that it takes to its end are accepted by the checker, if they too are within the limit; of the
 -- call, `call-fits-accepted`.
 -- `fits-complete`: if any index is accepted for a file, it takes the file to its end, with a row for each record; of the call, with room
--- for them, `call-complete`. So where it refuses a record, no index of that file can ever be accepted: `refused-never`.
--- `fits-agrees`: where the ported indexer gives a row for a record, it gives the same; so on a file that the ported one takes to its end
--- both give the same rows: `files-agree`, and of the calls `calls-agree`.
+-- for them, `call-complete`. So if it refuses a record, no index of that file can ever be accepted: `refused-never`.
+-- `fits-agrees`: if the ported indexer gives a row for a record, it gives the same; so on a file that the ported one takes to its end both
+-- give the same rows: `files-agree`, and of the calls `calls-agree`.
 use Prim.Native.Nat.{ℕ, suc, _≤_}
 use mathlib.Core.Path.{_≡_, refl}
 use mathlib.Core.List.{List}
@@ -46,7 +46,7 @@ module _ (f : List ℕ) where
       let t = taken complete f n h in
       rw (t .whole) (accepted-if f (indexText f (rowsBy Complete f 0 .rows)) (fits-accepted (t .fits) (t .ended) (rw (t .whole) at m)))
 
-  -- ---- what any index is accepted for, it takes
+  -- ---- it takes every file for which any index is accepted
 
   pub fits-complete : (i : List ℕ) → Accepts f i → rowsBy Complete f 0 .stop ≡ Ended
   unfolding fileBy
@@ -69,7 +69,7 @@ module _ (f : List ℕ) where
       let z : _≡_ {A = ℕ} 0 1 = cc in
       omega arith
 
-  -- ---- what the ported indexer takes, it takes as that does
+  -- ---- what the ported indexer takes, it takes in the same way
 
   pub fits-agrees : (at : ℕ) (x : Record) → stepBy Strict f at .answer ≡ indexed.Row x → stepBy Complete f at ≡ stepBy Strict f at
   fits-agrees = same-record f

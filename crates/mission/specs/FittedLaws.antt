@@ -117,7 +117,7 @@ same-answer at n d ls j b =
     rw (s .fits, j, s .numbers)
 
 module _ (f : List ℕ) where
-  -- where the ported indexer gives a row for the record at an offset, the complete one gives the same row, and the same next place
+  -- if the ported indexer gives a row for the record at an offset, the complete one gives the same row, and the same next place
   pub same-record : (at : ℕ) (x : Record) → recordBy ported f at .answer ≡ indexed.Row x → recordBy complete f at ≡ recordBy ported f at
   unfolding recordBy sequenceBy
   same-record at x h = go (lines (drop at f)) refl h

@@ -196,8 +196,7 @@ group-said rule at g behind = go (definitionSays (g .def)) refl
     go (Named d) h = judged d h (rule .judge (at + length (g .def)) (g .seq)) refl
     go (Bad x) h = its-refusal _
 
--- rows along groups, the first of which begins at an offset, and why there are no more: P holds of where a group's sequence begins, the
--- group and its row
+-- rows along groups that begin at an offset, and why there are no more: P holds of each group, its row, and where its sequence begins
 pub data Along (P : ℕ → Group → Record → Type 0) : ℕ → List Group → List Record → Stop → Type 0 where
   at-end : {at : ℕ} → Along P at [] [] stop.Ended
   refused : {at : ℕ} {gs : List Group} {x : Refusal} → Along P at gs [] (stop.Refused x)
@@ -332,7 +331,7 @@ index-whole t n h k = rw (le-ltb _ _ h) (held-all n n (indexAt t 1 0) k)
 
 -- ---- writing the line of a row
 
--- a name without whitespace has no tab and no LF, so it and some numbers are written, where there is room
+-- a name without whitespace has no tab and no LF, so it and some numbers are written, if there is room
 pub text-fronted : (name ns out : List ℕ) → Lacks isSpace name → textWritten name ns out ≡ pours (textOf name ns) out
 unfolding isSpace textWritten
 text-fronted name ns out h =

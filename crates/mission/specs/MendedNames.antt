@@ -35,7 +35,7 @@ use Rattle.mission.specs.IndexedLaws.{Along, along-file, along-at, along
 use Rattle.mission.specs.Leading.{noRow, rowIn}
 use Rattle.mission.specs.TableOf.{Fits}
 
--- a name whose bytes the replaced one is not among
+-- a name that the replaced byte does not lie in
 pub name-apart : (f : List ℕ) (x : Record) (o b : ℕ) → (o < x .«name_start») ⊎ (x .«name_start» + x .«name_length» ≤ o) → nameIn (set f o b) x ≡ nameIn f x
 unfolding nameIn
 name-apart f x o b (inl h) = ap (take (x .«name_length»)) (drop-set-lt (x .«name_start») f o b h)
@@ -92,7 +92,7 @@ module _ (f : List ℕ) (k j o b : ℕ) (base : BaseAt f k j o) (plain : Plain b
 
 -- ---- looked up
 
--- two files of one length, in which the names of a table's rows have the same bytes
+-- two files of one length; the names of a table's rows have the same bytes in both
 module _ (f g t : List ℕ) (n : ℕ) (name : List ℕ) (l : length g ≡ length f) (same : (r : ℕ) (x : Record) → namedAt t n r (length f) ≡ held.Row x → nameIn g x ≡ nameIn f x) where
   rows-from : (k r : ℕ) → rowFrom g t n name k r ≡ rowFrom f t n name k r
   unfolding rowFrom named

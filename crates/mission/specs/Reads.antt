@@ -1,5 +1,5 @@
 -- Demand 3: on an accepted pair, an exact read by row of bases inside a record, with room for them, gives just those bases: as many bytes as
--- there are bases, they at the front of the output, and nothing else of the output changes.
+-- there are bases, at the front of the output; nothing else of the output changes.
 --
 -- `Asked` says that the bounds, which may be absent, are inside record r of the file, and that there is room. `givesAsked` says the answer
 -- and the output. The table is what a call left: the whole-index call's of an accepted index (`accepted-reads`, `checked-reads`), or an

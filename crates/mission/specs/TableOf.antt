@@ -1,4 +1,4 @@
--- Rows about a file's records, and a table of them, said of the file alone: row r has the count of bases of record r, and the place of each.
+-- Rows about a file's records, and a table of them, in terms of the file alone: row r has record r's count of bases, and the place of each.
 use Prim.Native.Nat.{ℕ, _^_, _≤_, _<_}
 use mathlib.Core.Path.{_≡_}
 use mathlib.Core.List.{List}

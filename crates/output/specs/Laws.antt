@@ -1,4 +1,4 @@
--- Laws of outcomes: bytes that were written are known.
+-- Laws of outcomes: an answer says which bytes were written.
 use Prim.Native.Nat.{ℕ, _≤_, _<_}
 use mathlib.Core.Path.{_≡_, refl, sym, ap, _∙_}
 use mathlib.Core.List.{List, _++_}
@@ -14,7 +14,7 @@ use Rattle.output.specs.declared.Written.{Written}
 use Rattle.output.specs.declared.Written.the-variants.{Bytes, Refused}
 use Rattle.output.specs.Outcome.{Outcome, leaves, refuses, gives, pours}
 
--- by how much room there is
+-- by whether there is room
 module _ (bs out : List ℕ) where
   pub pours-short : length out < length bs → refuses (NoRoom (length bs)) out ≡ pours bs out
   unfolding pours

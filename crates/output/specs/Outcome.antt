@@ -22,10 +22,10 @@ leaves a out = record { answer = a; output = out }
 abbrev pub refuses : Refusal → List ℕ → Outcome Written
 refuses f out = leaves (Refused f) out
 
--- some bytes at the front of the output, what was behind them as it was
+-- some bytes at the front of the output; the bytes behind them stay
 abbrev pub gives : List ℕ → List ℕ → Outcome Written
 gives bs out = leaves (Bytes (length bs)) (bs ++ drop (length bs) out)
 
--- the same where there may be too little room: 14, with how many bytes they are
+-- the same, or 14 if there is too little room, with how many bytes they are
 unfoldable pub pours : List ℕ → List ℕ → Outcome Written
 pours bs out = cond (ltb (length out) (length bs)) (refuses (NoRoom (length bs)) out) (gives bs out)

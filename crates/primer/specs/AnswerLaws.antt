@@ -1,4 +1,4 @@
--- Laws for PlaceTheorems.antt: an answer, taken apart into the tests that lead to it.
+-- Laws for PlaceTheorems.antt: which tests an answer follows from.
 use Prim.Native.Nat.{ℕ, suc, _≤_, _<_}
 use mathlib.Core.Path.{_≡_, refl, sym, ap, _∙_}
 use mathlib.Core.Bool.{Bool, true, false, cond, true≢false}
@@ -35,7 +35,7 @@ Taken ps = Within ps × (Sized ps × CodedTo ps (length ps))
 
 -- ---- how a primer is judged
 
--- the letters alone are refused for nothing but a letter
+-- judging the letters refuses only for a letter
 letters-only : (r : Refusal) → ((k : ℕ) → PrimerLetter k ≡ r → ⊥) → (at : ℕ) (qs : List ℕ) → lettersJudged at qs ≡ judge.Refused r → ⊥
 unfolding lettersJudged
 letters-only r x at [] e = let z : _≡_ {A = ℕ} 0 1 = cc in omega arith
@@ -85,7 +85,7 @@ module _ (ps : List ℕ) where
   so-letter : (k : ℕ) → Sized ps → FirstUncoded ps k → judge.Refused (PrimerLetter k) ≡ judged ps
   so-letter k z f = sym (first-letter ps k f) ∙ sized-letters z
 
-  -- a primer is never judged by its size
+  -- judging a primer never gives the size limit's refusal
   not-by-size : judged ps ≡ judge.Refused TooLong → ⊥
   unfolding judged
   not-by-size e = go (eqb (length ps) 0) (ltb 31 (length ps)) e

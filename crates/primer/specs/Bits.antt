@@ -35,12 +35,12 @@ and-number f g (suc m) (suc n) h =
     and-block 1 (number (λ j. f (suc j)) n) (number (λ j. g (suc j)) m) (bit (f zero)) (bit (g zero)) (bit-lt (f zero)) (bit-lt (g zero))
     ∙ ap₂ (λ (x y : ℕ). x * 2 + y) (and-number (λ j. f (suc j)) (λ j. g (suc j)) m n (le-of-suc-le-suc h)) (bit-and (f zero) (g zero))
 
--- the step: twice the number and one more, held to a mask
+-- the step: twice the number and one more, under a mask
 pub step-number : (f g : ℕ → Bool) (m : ℕ) → bitAnd (number f m * 2 + 1) (number g m) ≡ number (λ j. shifted f j && g j) m
 unfolding number
 step-number f g m = and-number (shifted f) g m (suc m) (omega arith)
 
--- the highest bit is set exactly where the last test holds
+-- the highest bit is set exactly if the last test holds
 pub top-set : (f : ℕ → Bool) (k : ℕ) → f k ≡ true → 2 ^ k ≤ number f (suc k)
 unfolding number
 top-set f zero e = rw e (omega arith)

@@ -1,5 +1,5 @@
--- The shift-and search. After i bytes of a text bit j of the state tells whether the primer's first j + 1 letters fit the last j + 1
--- of these bytes; a mask tells for a byte which of the primer's letters it fits.
+-- The shift-and search. After i bytes of a text bit j of the state says whether the primer's first j + 1 letters fit the last j + 1 of
+-- these bytes. The mask of a byte says which of the primer's letters it fits.
 use Prim.Native.Nat.{ℕ, zero, suc, _+_, _-_, _*_, _^_, _≤_, _<_}
 use mathlib.Core.Path.{_≡_, refl, sym, ap, _∙_}
 use mathlib.Core.Bool.{Bool, true, false, cond, _&&_, true≢false}
@@ -24,7 +24,7 @@ unfoldable pub live : List ℕ → List ℕ → ℕ → ℕ → Bool
 live ps s zero j = false
 live ps s (suc i) j = shifted (live ps s i) j && fits (getD ps j 0) (getD s i 0)
 
--- the mask of a byte: bit j is set where it fits letter j
+-- the mask of a byte: bit j is set if it fits letter j
 unfoldable pub maskOf : List ℕ → ℕ → ℕ
 maskOf [] b = 0
 maskOf (p ∷ ps) b = maskOf ps b * 2 + bit (fits p b)
@@ -92,7 +92,7 @@ state-lt ps s i = number-lt (live ps s i) (length ps)
 pub state-small : (ps s : List ℕ) (i : ℕ) → length ps ≤ 31 → stateOf ps s i < 2 ^ 31
 state-small ps s i h = lt-of-lt-of-le (state-lt ps s i) (pow-mono h)
 
--- ---- what the highest bit tells
+-- ---- what the highest bit says
 
 snoc : (qs : List ℕ) (q : ℕ) (t : List ℕ) → length qs < length t → matches (qs ++ (q ∷ [])) t ≡ (matches qs t && fits q (getD t (length qs) 0))
 unfolding matches
@@ -163,7 +163,7 @@ module _ (ps s : List ℕ) where
       sym (none-short ps a (drop a s) (simp length-drop (omega arith))) ∙ inv
 
   module _ (k i : ℕ) (e : length ps ≡ suc k) (h : i < length s) (inv : Passed i) where
-    -- the highest bit tells of the open place
+    -- the highest bit decides the open place
     whole : k ≤ i → live ps s (suc i) k ≡ matches ps (drop (suc i - length ps) s)
     whole l =
         let q : suc i - length ps ≡ i - k = omega arith in

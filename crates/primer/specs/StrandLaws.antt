@@ -24,7 +24,7 @@ pub reversed-is : (s t : List ℕ) → reverseComplementOf s ≡ given t → rev
 unfolding reverseComplementOf
 reversed-is s t e = inside (reverse (faults 0 s)) (reverse (map partner s)) t e .1
 
--- a byte fits a letter exactly where their complements do
+-- a byte fits a letter exactly if their complements do
 fits-partners : (p b : ℕ) → fits (partner p) (partner b) ≡ fits p b
 unfolding fits
 fits-partners p b = complement-inside b p

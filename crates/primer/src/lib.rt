@@ -1,12 +1,12 @@
 // Primers: how many plain sequences one stands for, and where a text has one.
 //
-// A primer has 1 to 31 letters, each of which stands for a set of bases. A text byte fits a primer letter if its set lies inside the
+// A primer has 1 to 31 letters. Each stands for a set of bases. A text byte fits a primer letter if its set lies inside the
 // letter's; a byte without a code fits none. Calls are refused, in this order, for lent bytes over the size limit (1), a primer of
 // another length (36), and a primer letter without a code (37, with the first such place).
 //
-// The search is shift and and: for each text byte one step, however long the primer is. After each byte, bit j of the state tells
-// whether the last j + 1 bytes fit the primer's first j + 1 letters. The primer AN in the text TAG: T leaves 00, A leaves 01 (A fits
-// the first letter), G leaves 10 (AG fits both). The last letter's bit is set: the primer ends here, and began at place 1.
+// The search is shift-and: one step for each text byte, however long the primer is. After each byte, bit j of the state says whether the
+// last j + 1 bytes fit the primer's first j + 1 letters. The primer AN in the text TAG: T leaves 00, A leaves 01 (A fits the first
+// letter), G leaves 10 (AG fits both). The last letter's bit is set: the primer ends here, and began at place 1.
 use refusal::Refusal;
 ghost use mathlib.Core.Path.{_≡_};
 ghost use Prim.Native.Nat.{ℕ, _+_, _-_, _^_, _≤_, _<_};
@@ -26,7 +26,7 @@ pub enum Found {
     Nothing,
 }
 
-// Is a primer one: it has 1 to 31 letters, and each has a code.
+// Is a primer valid: it has 1 to 31 letters, and each has a code.
 pub enum Judged {
     Fit,
     Refused(Refusal),
@@ -210,7 +210,7 @@ fn find_from(
     Found::Nothing
 }
 
-// The search by blocks: a block in which the primer may end is searched byte by byte.
+// The search by blocks: if the primer may end in a block, that block is searched byte by byte.
 fn find(primer: &[u8], text: &[u8], masks: &[u32; 256], last: u32) -> Found
     requires { ⌜ Reading (now primer) (now text) (now masks) 0 0 × Passed (now primer) (now text) 0 × (last ≡ 2 ^ (length (now primer) - 1)) ⌝ }
     ensures { λ r. ⌜ r ≡ firstOf (now (primer .entry)) (now (text .entry)) ⌝ }

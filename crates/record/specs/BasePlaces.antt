@@ -1,4 +1,4 @@
--- The offset of a base, by its number: in the first line or behind it. So an offset of the list tells which byte of which line it is.
+-- The offset of a base, by its number: in the first line or behind it. So an offset of the list says which byte of which line it is.
 use Prim.Native.Nat.{ℕ, _+_, _-_, _≤_, _<_}
 use mathlib.Core.Path.{_≡_, refl, ap, _∙_}
 use mathlib.Core.List.{List, [], _∷_, _++_}

@@ -1,4 +1,4 @@
--- Equal lines lead to the addressing rule. This is a fact over lines, whatever file they are of: index, check and reads cite it.
+-- The bases of equal lines lie where the addressing rule says. This is a fact about lines, whatever the file: index, check and reads cite it.
 use Prim.Native.Nat.{ℕ, zero, suc, _+_, _-_, _≤_, _<_}
 use mathlib.Core.Path.{_≡_, refl, ap, sym, _∙_}
 use mathlib.Core.List.{List, [], _∷_, _++_}
@@ -21,7 +21,7 @@ pub data EvenLines (b w : ℕ) : List (List ℕ) → Type 0 where
 
 -- ---- as many offsets as bases
 
--- n offsets in a row, of which number i is i further on
+-- n offsets in a row: number i is i further on
 pub length-upFrom : (o n : ℕ) → length (upFrom o n) ≡ n
 unfolding upFrom
 length-upFrom o zero = refl
@@ -79,7 +79,7 @@ even-place b w z p (l ∷ ls) (more k e r) i h =
     behind-place p b w i (basesAt (p + length l) ls) (length (basesOf l)) z k (rw (length-append, length-upFrom) at h)
     (λ j m. even-place b w z (p + length l) ls r j m ∙ ap (λ (n : ℕ). placeOf (p + n) b w j) e)
 
--- the same of all of them
+-- the same for all of them
 pub even-places : (b w : ℕ) → 0 < b → (p : ℕ) (ls : List (List ℕ)) → EvenLines b w ls → basesAt p ls ≡ placesFrom p b w 0 (sumBases ls)
 even-places b w z p ls e =
     ext-getD 0 (basesAt p ls) (placesFrom p b w 0 (sumBases ls)) (length-basesAt p ls ∙ sym (length-places p b w 0 (sumBases ls)))

@@ -1,4 +1,4 @@
--- Laws of the addressing rule. Callers go by these and unfold nothing.
+-- Laws of the addressing rule. Callers cite these and unfold nothing.
 use Prim.Native.Nat.{ℕ, zero, suc, _+_, _-_, _*_, _/_, _%_, _^_, _≤_, _<_}
 use mathlib.Core.Path.{_≡_, refl, ap, sym, _∙_}
 use mathlib.Core.Logic.{_≢_, _⊎_, inl, inr}
@@ -92,7 +92,7 @@ module _ (p b w : ℕ) where
 
 -- ---- addresses
 
--- a product against a largest number m, by the quotient that it is compared with
+-- is a product over a largest number m, by a quotient
 pub mul-within : (m q w : ℕ) → 0 < w → q ≤ m / w → q * w ≤ m
 mul-within m q w z h = le-div-iff-mul-le {k = w} {x = q} {y = m} z .0 h
 
@@ -133,7 +133,7 @@ pub record Addressed (x : Record) (p : Position) (o : Offset) : Type 0 where
   pub here : o .0 ≡ placeIn x (p .0 - 1)
 
 module _ (x : Record) (p : Position) where
-  -- where a number is 0, no offset
+  -- if a number is 0, there is no offset
   pub address-no-position : p .0 ≤ 0 → Nowhere ≡ addressOf x p
   unfolding addressOf hasPlace
   address-no-position h = rw (le-ltb _ _ h)
@@ -146,7 +146,7 @@ module _ (x : Record) (p : Position) where
   unfolding addressOf hasPlace
   address-no-width h = simp (le-ltb _ _ h, and-false)
 
-  -- elsewhere the rule's, if it is below 2 ^ 64
+  -- else it is the rule's, if that is below 2 ^ 64
   module _ (a : 0 < p .0) (b : 0 < x .«line_bases») (w : 0 < x .«line_width») where
     pub address-place : addressOf x p ≡ offsetOf (placeIn x (p .0 - 1))
     unfolding addressOf hasPlace
@@ -158,7 +158,7 @@ module _ (x : Record) (p : Position) where
     pub address-over : 2 ^ 64 ≤ placeIn x (p .0 - 1) → addressOf x p ≡ Nowhere
     address-over h = address-place ∙ sym (offset-over _ h)
 
-    -- there, a base has no offset only because it is over 64 bits
+    -- then a base has no offset only because it is over 64 bits
     pub address-none : addressOf x p ≡ Nowhere → 2 ^ 64 ≤ placeIn x (p .0 - 1)
     address-none e = offset-none _ (sym address-place ∙ e)
 

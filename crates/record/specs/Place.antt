@@ -12,7 +12,7 @@ use Rattle.record.specs.declared.Address.the-variants.{At, Nowhere}
 unfoldable pub placeOf : ℕ → ℕ → ℕ → ℕ → ℕ
 placeOf p b w i = p + i / b * w + i % b
 
--- where n bases lie, the first of which is number i + 1
+-- where n bases lie, from number i + 1 on
 unfoldable pub placesFrom : ℕ → ℕ → ℕ → ℕ → ℕ → List ℕ
 placesFrom p b w i zero = []
 placesFrom p b w i (suc n) = placeOf p b w i ∷ placesFrom p b w (suc i) n
@@ -25,7 +25,7 @@ placeIn x i = placeOf (x .position .0) (x .«line_bases») (x .«line_width») i
 unfoldable pub offsetOf : ℕ → Address
 offsetOf n = cond (ltb n (2 ^ 64)) (At (record { 0 = n })) Nowhere
 
--- does the rule hold for a base: positions begin at 1, and line bases and line width are not 0
+-- does the rule apply to a base: positions begin at 1, and line bases and line width are not 0
 unfoldable pub hasPlace : Record → Position → Bool
 hasPlace x p = ltb 0 (p .0) && (ltb 0 (x .«line_bases») && ltb 0 (x .«line_width»))
 

@@ -1,5 +1,5 @@
-// A record of an index, and the addressing rule: where each of its bases lies in the file. Nothing else turns a base position into a byte
-// offset. An offset over 64 bits is no refusal: it is `Nowhere`.
+// A record of an index, and the addressing rule: where each of its bases lies in the file. No other code turns a base position into a byte
+// offset. An offset over 64 bits is not refused: it is `Nowhere`.
 ghost use mathlib.Core.Path.{_≡_};
 ghost use Prim.Native.Nat.{_+_, _*_, _<_};
 ghost use Rattle.record.specs.Place.{offsetOf, addressOf};
@@ -11,7 +11,7 @@ pub struct Position(pub u64);
 // A byte offset, from 0.
 pub struct Offset(pub u64);
 
-// A record: its name's span, the four numbers of its index line, and its description's span, which is 0 and 0 where there is none.
+// A record: its name's span, the four numbers of its index line, and its description's span, which is 0 and 0 if there is none.
 pub struct Record {
     pub name_start: u64,
     pub name_length: u64,
@@ -32,7 +32,7 @@ pub enum Address {
 // The largest offset.
 const LARGEST: u64 = 18446744073709551615;
 
-// Where a description begins; 0 where it has no bytes.
+// Where a description begins; 0 if it has no bytes.
 fn described_at(start: u64, length: u64) -> u64
     ensures { λ r. ⌜ r ≡ describedAt start length ⌝ }
 {
@@ -42,7 +42,7 @@ fn described_at(start: u64, length: u64) -> u64
     start
 }
 
-// The offset of column `column` in line `line` of a sequence, if it fits. No sum and no product is made before it is compared.
+// The offset of column `column` in line `line` of a sequence, if it fits. Each sum and product is compared with the limit before it is made.
 fn fitting(position: u64, line: u64, width: u64, column: u64) -> Address
     requires { ⌜ 0 < width ⌝ }
     ensures { λ r. ⌜ r ≡ offsetOf (position + line * width + column) ⌝ }
@@ -98,7 +98,7 @@ impl Record {
         }
     }
 
-    // The same record, with its description's span; it is 0 and 0 where it has no bytes.
+    // The same record, with its description's span, which is 0 and 0 if it has no bytes.
     pub fn described(self, start: u64, length: u64) -> Self
         ensures { λ r. ⌜ r ≡ record { «name_start» = self .«name_start»; «name_length» = self .«name_length»; length = self .length; position = self .position; «line_bases» = self .«line_bases»; «line_width» = self .«line_width»; «description_start» = describedAt start length; «description_length» = length } ⌝ }
     {

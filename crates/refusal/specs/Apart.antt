@@ -1,4 +1,4 @@
--- What a host sees of a refusal is enough to know it: no refusal's number is 0, which an accepted call has, and no two refusals look the same.
+-- A host sees enough of a refusal to know which it is: no refusal's number is 0, which means that the call was accepted, and no two refusals look the same.
 use Prim.Native.Nat.{ℕ, _≤_}
 use mathlib.Core.Path.{_≡_, refl, sym, ap, _∙_}
 use mathlib.Core.List.{List, [], _∷_}
@@ -9,7 +9,7 @@ use Rattle.refusal.specs.declared.Numbers.{Numbers}
 use Rattle.refusal.specs.declared.Refusal.{Refusal}
 use Rattle.refusal.specs.declared.Refusal.the-variants as is
 
--- the table read backwards: the case of a number, with its two numbers. A number that is no refusal's has the first case
+-- the table read backwards: the case of a number, with its two numbers. Any other number gives the first case
 abbrev none : ℕ → ℕ → Refusal
 none a b = is.TooLong
 
@@ -116,7 +116,7 @@ told (is.NoIndexFits a b) = (omega arith, refl)
 pub never-zero : (x : Refusal) → 1 ≤ numbersOf x .refusal
 never-zero x = told x .0
 
--- the number tells the case, and with the two numbers the refusal
+-- the number gives the case, and with the two numbers the refusal
 pub case-by-number : (x : Refusal) → x ≡ caseOf (numbersOf x .refusal) (numbersOf x .first) (numbersOf x .second)
 case-by-number x = told x .1
 

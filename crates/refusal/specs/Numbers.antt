@@ -1,4 +1,4 @@
--- The table of refusals (docs/RULES.md, R2): the number of each case and its two numbers, 0 where none is named; and the size limit.
+-- The table of refusals (docs/RULES.md, R2): the number of each case and its two numbers, 0 if none is named; and the size limit.
 use Prim.Native.Nat.{ℕ}
 use mathlib.Core.Bool.{Bool}
 use lib.Dec.{ltb}

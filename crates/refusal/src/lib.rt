@@ -1,10 +1,10 @@
 // Why a call is refused: a case for each refusal (docs/RULES.md, R2), in words. Every promise of the project speaks of these cases.
-// `numbers` gives what a host sees of one: its number, and its two numbers, 0 where the refusal has none.
+// `numbers` gives what a host sees of one: its number, and its two numbers, 0 if the refusal has none.
 ghost use mathlib.Core.Path.{_≡_};
 ghost use Rattle.refusal.specs.Numbers.{numbersOf, overLimit};
 
-// Lines and records count from 1; rows, places and offsets from 0. The two numbers of a definition line that does not read are the offset
-// at which reading it failed, and 0; the checker's are its record, and that offset.
+// Lines and records count from 1; rows, places and offsets from 0. A definition line that does not read has as its two numbers the offset
+// where reading failed, and 0; in the checker they are the record, and that offset.
 pub enum Refusal {
     TooLong,
     EmptyDefinition { first: u64, second: u64 },

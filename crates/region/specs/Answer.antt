@@ -1,4 +1,4 @@
--- What the exact read answers, by numbers alone: for a file of so many bytes and so much room. It reads no byte.
+-- What the exact read answers, by numbers alone, for a file of so many bytes and so much room. No byte matters.
 use Prim.Native.Nat.{ℕ, _≤_}
 use mathlib.Core.Path.{_≡_, refl, ap, sym, _∙_}
 use mathlib.Core.List.{List, [], _∷_, _++_, map}
@@ -74,7 +74,7 @@ answer-same s h a e out = go (overLimit (length s)) (boundedRow a e h)
     go false (held.Refused f) = refl
     go false (held.Row x) = answer-region (length s) (byteAt s) x (startOf a) (endOf (x .length) e) out
 
--- ---- a read that gave bytes gives the same to every output that has room for them
+-- ---- a read that gave bytes gives the same bytes to every output that has room for them
 
 -- what is known of it
 pub record Gave (s : List ℕ) (h : Held) (a e : Bound) (out : List ℕ) (k : ℕ) : Type 0 where

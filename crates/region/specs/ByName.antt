@@ -1,4 +1,4 @@
--- The one call by name, as it was before looking up and reading became two calls; and what it means that two calls answer as one did.
+-- The one call by name, as it was before looking up and reading became two calls; and what it means that two calls answer as the one did.
 use Prim.Native.Nat.{ℕ}
 use mathlib.Core.Path.{_≡_}
 use mathlib.Core.List.{List}
@@ -33,8 +33,8 @@ exactNamed s names t u name a e out = readFound (rowFor (length s) names t u nam
 unfoldable pub rawNamed : List ℕ → List ℕ → List ℕ → ℕ → List ℕ → Bound → Bound → List ℕ → Outcome Written
 rawNamed s names t u name a e out = readFound (rowFor (length s) names t u name) (λ r. rawRead s t u r a e out) out
 
--- one call's outcome is what two calls come to: a refusal of the first is its answer, and leaves the output as it was; else it is that of the
--- second, for the row that the first gives. Each has its own refusals
+-- one call has the outcome of two: a refusal of the first is its answer, and leaves the output as it was; else it has the second's outcome,
+-- for the row that the first gives. Each has its own refusals
 pub record Split (one : Outcome Written) (first : Found) (second : ℕ → Outcome Written) (out : List ℕ) : Type 0 where
   pub refused : (f : Refusal) → first ≡ found.Refused f → OfLookUp f × (one ≡ refuses f out)
   pub read : (r : ℕ) → first ≡ found.Row r → (one ≡ second r) × ReadRefuses (second r)

@@ -16,7 +16,7 @@ use Rattle.region.specs.Exact.{offsetsOf, inFile}
 use Rattle.region.specs.Part.{LieIn}
 use Rattle.region.specs.Inside.{length-offsets, inside-le, inside-each, Turn, Addressable, turn, turn-stops, turn-goes, bases-start, bases-end}
 
--- the byte of a part of a file at an offset of the file, where the part begins at offset f
+-- the byte of a part of a file, at an offset of the file; the part begins at offset f
 abbrev pub byteFrom : ℕ → List ℕ → ℕ → ℕ
 byteFrom f s o = byteAt s (o - f)
 
@@ -56,7 +56,7 @@ module _ (f : ℕ) (s : List ℕ) where
       q : n ≤ length (drop (o - f) s)
       q = simp length-drop (omega arith)
 
--- what a turn of a copy of n bases knows, where k are done: how it will end
+-- what a turn of a copy of n bases knows once k are done: how it will end
 pub record Copying (f : ℕ) (s : List ℕ) (x : Record) (a n : ℕ) (before : List ℕ) (k : ℕ) (out : List ℕ) : Type 0 where
   pub done : k ≤ n
   pub same : length out ≡ length before
@@ -209,7 +209,7 @@ module _ (f : ℕ) (s : List ℕ) (x : Record) (a n : ℕ) (before : List ℕ) (
 
 -- ---- bases of one line
 
--- n bases of one line, where a file has so many bytes from the first of them on
+-- n bases of one line, if a file has so many bytes from the first of them on
 module _ (bytes : ℕ) (x : Record) (a n : ℕ) (r : Addressable x a n) (one : n ≤ x .«line_bases» - (a - 1) % x .«line_bases») (rest : ℕ) (e : rest ≡ bytes - placeIn x (a - 1)) where
   one-turn : Turn x a n 0 n
   one-turn = turn x a n 0 n (r .some-bases) (r .from-one) (r .some) (rw (add-zero a) (omega arith))

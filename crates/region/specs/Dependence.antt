@@ -1,5 +1,5 @@
--- What the exact read depends on, for whoever builds on it: it gives bytes exactly if the region is readable, they are those at
--- the offsets of its bases, and no other byte matters; nor do a record's numbers, but by its length and where its bases lie.
+-- What the exact read depends on, for those who build on it. It gives bytes exactly if the region is readable; they are those at the
+-- offsets of its bases, and no other byte matters. Of a record's numbers only its length and the places of its bases matter.
 use Prim.Native.Nat.{ℕ, suc, _+_, _-_, _≤_, _<_}
 use mathlib.Core.Path.{_≡_, refl, ap, sym, _∙_}
 use mathlib.Core.Logic.{_⊎_, inl, inr, ⊎-elim}
@@ -73,7 +73,7 @@ pub record InRegion (x : Record) (a e : Bound) (p : ℕ) : Type 0 where
   pub to : p ≤ endOf (x .length) e
   pub within : p ≤ x .length
 
--- a region of a record can be read from a file of so many bytes, where so many are free in the output
+-- a region of a record can be read from a file of so many bytes into an output of so many
 pub record Readable (bytes : ℕ) (x : Record) (a e : Bound) (free : ℕ) : Type 0 where
   pub bounds : badBounds a e ≡ false
   pub start : startOf a ≤ x .length
@@ -93,7 +93,7 @@ module _ (bytes : ℕ) (byte : ℕ → ℕ) (x : Record) (a e : Bound) (out : Li
   unfolding exactOf exactIn boundedRow
   exact-region b = rw b
 
-  -- a readable region is read: the bytes at the offsets of its bases stand at the front of the output, what was behind them stays
+  -- a readable region is read: the bytes at the offsets of its bases stand at the front of the output, and the bytes behind them stay
   pub exact-reads : Readable bytes x a e (length out) → exactOf bytes byte (held.Row x) a e out ≡ leaves (Bytes (regionCount x a e)) (map byte (regionOffsets x a e) ++ drop (regionCount x a e) out)
   exact-reads r =
       exact-region (r .bounds)
@@ -185,7 +185,7 @@ module _ (bytes : ℕ) (h : Held) (a e : Bound) (out : List ℕ) where
         some : Reading bytes h a e out → exactOf bytes f h a e out .answer ≡ exactOf bytes g h a e out .answer
         some r = rw (r .holds, exact-reads bytes f (r .row) a e out (r .readable), exact-reads bytes g (r .row) a e out (r .readable))
 
-    -- and the output only on those at the offsets of the region's bases, which are in the file
+    -- and the output depends only on those at the offsets of the region's bases, which are in the file
     pub exact-same : ((x : Record) → h ≡ held.Row x → (p : ℕ) → InRegion x a e p → placeIn x (p - 1) < bytes → f (placeIn x (p - 1)) ≡ g (placeIn x (p - 1)))
         → exactOf bytes f h a e out ≡ exactOf bytes g h a e out
     exact-same s = ⊎-elim (λ r. r .always f ∙ sym (r .always g)) some (exact-either bytes h a e out)

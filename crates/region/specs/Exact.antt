@@ -18,7 +18,7 @@ use Rattle.output.specs.declared.Written.{Written}
 use Rattle.output.specs.Outcome.{Outcome, refuses, gives}
 use Rattle.region.specs.Region.{boundedRow, startOf, endOf, basesTo}
 
--- the offsets of n bases of a record, the first of which is base a
+-- the offsets of n bases of a record, from base a on
 abbrev pub offsetsOf : Record → ℕ → ℕ → List ℕ
 offsetsOf x a n = placesFrom (x .position .0) (x .«line_bases») (x .«line_width») (a - 1) n
 
@@ -31,7 +31,7 @@ inFile bytes (o ∷ os) = cond (ltb o bytes) (suc (inFile bytes os)) 0
 unfoldable pub pastLength : ℕ → ℕ → ℕ → Bool
 pastLength bases a e = ltb bases a || ltb bases e
 
--- the bytes at some offsets: 18 with the first base that is not in the file, where base a has the first of the offsets
+-- the bytes at some offsets, the first of which is base a's: 18 with the first base that is not in the file
 unfoldable pub bytesAt : ℕ → (ℕ → ℕ) → ℕ → List ℕ → List ℕ → Outcome Written
 bytesAt bytes byte a os out =
     cond (ltb (inFile bytes os) (length os)) (refuses (NotInFile (a + inFile bytes os)) out) (gives (map byte os) out)

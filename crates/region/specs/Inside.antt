@@ -1,5 +1,5 @@
--- How many of a region's bases lie in the file, line by line: in a line the offsets follow each other. Where the offsets never go
--- back, the last of them decides.
+-- How many of a region's bases lie in the file, line by line: in a line the offsets follow each other. If the offsets never go back, the
+-- last of them decides.
 use Prim.Native.Nat.{ℕ, zero, suc, _+_, _-_, _%_, _^_, _≤_, _<_, min}
 use mathlib.Core.Path.{_≡_, refl, ap, sym, _∙_}
 use mathlib.Core.List.{List, [], _∷_, _++_}
@@ -29,7 +29,7 @@ module _ (bytes : ℕ) where
       go true h = omega arith
       go false h = omega arith
 
-  -- if one of the front ones is outside, those behind it are not asked
+  -- if one of the front ones is outside, those behind it do not matter
   pub inside-front : (os ps : List ℕ) → inFile bytes os < length os → inFile bytes (os ++ ps) ≡ inFile bytes os
   unfolding inFile
   inside-front [] ps h = absurd (omega arith)
@@ -104,7 +104,7 @@ places-run p b w (suc (suc k)) i (suc n) h m =
     r : n - suc k ≡ suc n - suc (suc k)
     r = omega arith
 
--- what a turn knows of n bases from base a on, where k are done: the next run of them are in one line
+-- what a turn knows of n bases from base a on, once k are done: the next run of them are in one line
 pub record Turn (x : Record) (a n k run : ℕ) : Type 0 where
   pub some : 0 < run
   pub most : k + run ≤ n
@@ -139,7 +139,7 @@ module _ (x : Record) (a n k run : ℕ) where
   pub turn-less : Turn x a n k run → n - (k + run) < n - k
   turn-less t = omega (arith, t .some, t .most)
 
-  -- where the file has so many bytes from the turn's first base on
+  -- if the file has so many bytes from the turn's first base on
   module _ (t : Turn x a n k run) (bytes rest : ℕ) (e : rest ≡ bytes - placeIn x (a + k - 1)) where
     inside-line : inFile bytes (upFrom (placeIn x (a + k - 1)) run) ≡ min run rest
     inside-line = rw e (inside-run bytes (placeIn x (a + k - 1)) run)

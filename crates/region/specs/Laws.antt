@@ -1,4 +1,4 @@
--- Laws of the reads: what the bounds say, and what each test says of the outcome. The code goes by these.
+-- Laws of the reads: what the bounds say, and what each test says of the outcome. The code's proofs cite these.
 use Prim.Native.Nat.{ℕ, _+_, _≤_, _<_}
 use mathlib.Core.Path.{_≡_, refl, ap, _∙_}
 use mathlib.Core.List.{List, _++_, map}

@@ -1,4 +1,4 @@
--- A part of a file, and which bases of a region lie in it: all of them, or so many up to the first that does not.
+-- A part of a file, and which bases of a region lie in it: all of them, or how many up to the first that does not.
 use Prim.Native.Nat.{ℕ, suc, _+_, _-_, _≤_, _<_, min, max}
 use mathlib.Core.List.{List, [], _∷_}
 use mathlib.Core.Bool.{Bool, cond, _&&_}

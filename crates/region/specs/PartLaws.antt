@@ -1,5 +1,5 @@
--- Laws of parts. The lines of a region begin ever further on, and end ever further on, also where they overlap: so the base that lies lowest
--- is the first of the region or the first of its second line, and the one that lies highest is the last or the last of the line before.
+-- Laws of parts. Each line of a region begins and ends further on than the line before, even if lines overlap. So the lowest base is the first
+-- of the region or the first of its second line, and the highest is the last of the region or the last of the line before.
 use Prim.Native.Nat.{ℕ, zero, suc, _+_, _-_, _*_, _/_, _%_, _≤_, _<_, min, max}
 use mathlib.Core.Path.{_≡_, refl, ap, sym, _∙_}
 use mathlib.Core.List.{List, [], _∷_}
@@ -111,7 +111,7 @@ unfolding inFile inPart isIn
 part-file bytes [] = refl
 part-file bytes (o ∷ os) = rw (le-leb 0 o (omega arith), part-file bytes os)
 
--- of fewer bases as many are in it, if they are so many
+-- of the first of some bases as many lie in it as of all, if that many are among them
 pub part-fewer : (f t p b w i m n : ℕ) → m ≤ n → inPart f t (placesFrom p b w i m) ≡ min m (inPart f t (placesFrom p b w i n))
 unfolding inPart placesFrom
 part-fewer f t p b w i zero n h = omega arith
@@ -159,21 +159,21 @@ module _ (x : Record) (a n : ℕ) (z : 0 < a) where
     pub not-all : (p : ℕ) → a ≤ p → p < a + n → isIn f t (placeIn x (p - 1)) ≡ false → false ≡ leb n (inPart f t (offsetsOf x a n))
     not-all p l m h = sym (lt-leb _ _ (lie-not p l m h))
 
--- so many, that it is all
+-- as many as there are: all
 pub count-all : (f t : ℕ) (x : Record) (a n : ℕ) → leb n (inPart f t (offsetsOf x a n)) ≡ true → n ≡ inPart f t (offsetsOf x a n)
 count-all f t x a n h = omega (arith, leb-true n (inPart f t (offsetsOf x a n)) h, part-le f t (offsetsOf x a n), length-offsets x a n)
 
--- half of a distance, where it is not one step
+-- half of a distance of more than one step
 pub half : (d : ℕ) → 1 < d → (0 < d / 2) × (d / 2 < d)
 half d h = let two : 0 < 2 = omega arith in omega (arith, div-add-mod' d 2, mod-lt d two)
 
 -- ---- the lowest and the highest
 
--- the first base of the second line of n bases from base a on; a where they are in one line
+-- the first base of the second line of n bases from base a on; a if they are in one line
 unfoldable pub secondLine : Record → ℕ → ℕ → ℕ
 secondLine x a n = let run = min n (x .«line_bases» - (a - 1) % x .«line_bases») in cond (ltb run n) (a + run) a
 
--- the last base of the line before that of base l, of n bases up to it; l where they are in one line
+-- the last base of the line before that of base l, of n bases up to it; l if they are in one line
 unfoldable pub lineBefore : Record → ℕ → ℕ → ℕ
 lineBefore x l n = let run = min n ((l - 1) % x .«line_bases» + 1) in cond (ltb run n) (l - run) l
 

@@ -19,7 +19,7 @@ use Rattle.output.specs.declared.Written.{Written}
 use Rattle.output.specs.Outcome.{Outcome, refuses, pours}
 use Rattle.region.specs.Region.{boundedRow, startOf, basesTo}
 
--- the scan from an offset, which is that of base a, up to the end; without a limit where the end is absent
+-- the scan from the offset of base a up to the end; without a limit if the end is absent
 unfoldable pub scanTo : List ℕ → ℕ → ℕ → Bound → Scan
 scanTo s at a (Given e) = scanAt s (basesTo a (e .0)) at
 scanTo s at a Absent = scanAll s at

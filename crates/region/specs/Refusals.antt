@@ -1,5 +1,5 @@
--- Which refusals looking up gives, and which a read of a row that was found, once 1 is out of the way. Looking up judges every row up to the one
--- that it gives, so the read has no bad row to tell.
+-- Which refusals a look-up gives, and which a read of the row that was found, apart from 1. A look-up judges every row up to the one that it
+-- gives, so the read never meets a bad row.
 use Prim.Native.Nat.{ℕ, zero, suc, _+_}
 use mathlib.Core.Path.{_≡_, refl}
 use mathlib.Core.List.{List, map}

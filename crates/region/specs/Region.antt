@@ -27,12 +27,12 @@ badBounds a e = isZero a || (isZero e || crossed a e)
 unfoldable pub boundedRow : Bound → Bound → Held → Held
 boundedRow a e h = cond (badBounds a e) (held.Refused BadBounds) h
 
--- the first base position of a region: 1 where the start is absent
+-- the first base position of a region: 1 if the start is absent
 unfoldable pub startOf : Bound → ℕ
 startOf (Given p) = p .0
 startOf Absent = 1
 
--- the last base position of a region of a record of so many bases: its last where the end is absent
+-- the last base position of a region of a record of so many bases: the record's last if the end is absent
 unfoldable pub endOf : ℕ → Bound → ℕ
 endOf bases (Given p) = p .0
 endOf bases Absent = bases

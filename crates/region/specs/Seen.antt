@@ -1,4 +1,4 @@
--- What the promises of the window read (Windowed.antt) speak of: the offsets that a region needs, windows that have them, and the first base that is
+-- The words of the window read's promises (Windowed.antt): the offsets that a region needs, windows that have them, and the first base that is
 -- not in a window.
 use Prim.Native.Nat.{ℕ, _+_, _-_, _≤_, _<_}
 use mathlib.Core.Path.{_≡_}
@@ -33,7 +33,7 @@ pub record Within (bytes : ℕ) (w : List ℕ) (f : ℕ) : Type 0 where
   pub small : overLimit (length w) ≡ false
   pub ends : f + length w ≤ bytes
 
--- two windows agree at the needed offsets: each is in both or in none, and where it is they have the same byte
+-- two windows agree at the needed offsets: each offset is in both windows, with the same byte, or in none
 pub record Agree (bytes : ℕ) (h : Held) (a e : Bound) (f : ℕ) (w : List ℕ) (f′ : ℕ) (w′ : List ℕ) : Type 0 where
   pub in-both : (o : ℕ) → Needs bytes h a e o → isIn f (f + length w) o ≡ isIn f′ (f′ + length w′) o
   pub same : (o : ℕ) → Needs bytes h a e o → f ≤ o → o < f + length w → byteFrom f w o ≡ byteFrom f′ w′ o

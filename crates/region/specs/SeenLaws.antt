@@ -1,4 +1,4 @@
--- Laws for Windowed.antt and NeededPart.antt: the window read by the exact read, which is refused whatever the bytes are, or gives them.
+-- Laws for Windowed.antt and NeededPart.antt: the window read beside the exact read, which is refused whatever the bytes are, or gives them.
 use Prim.Native.Nat.{ℕ, _+_, _-_, _≤_, _<_}
 use mathlib.Core.Path.{_≡_, refl, ap, sym, _∙_}
 use mathlib.Core.Logic.{⊎-elim}

@@ -1,5 +1,5 @@
--- Looking up and reading are two calls (request K8). Before, one call did both: `exactNamed` and `rawNamed` say what it answered. They stand here
--- alone, as what the two calls are held against.
+-- Looking up and reading are two calls (request K8). Before, one call did both: `exactNamed` and `rawNamed` say what it answered. They are here
+-- only so that the two calls can be compared with them.
 --
 -- `split-equals-exact`, `split-equals-raw`: for lent bytes within the limit, `index::find` (`rowRead`) and then the read of the row that it gives
 -- (`exactRead`, `rawRead`) answer together as the one call did: 25 or 15 from the first, all else from the second.

@@ -1,5 +1,5 @@
--- Reading from a window (docs/RULES.md): the exact read's outcome for a file of the stated length, and 34 where a byte that it needs is not in
--- the window; and the part of a file that a region needs.
+-- Reading from a window (docs/RULES.md): the exact read's outcome for a file of the stated length, or 34 if a byte that it needs is not in the
+-- window; and the part of a file that a region needs.
 use Prim.Native.Nat.{ℕ, _+_}
 use mathlib.Core.List.{List, map}
 use mathlib.Core.Bool.{cond}
@@ -35,8 +35,8 @@ after (Refused f) o p = o
 unfoldable pub unlessRefused : Outcome Written → Outcome Written → Outcome Written
 unlessRefused o p = after (o .answer) o p
 
--- the bytes at some offsets, of a window w that begins at offset f: 34 with the first base that is not in it, where base a has the first of
--- the offsets
+-- the bytes at some offsets, the first of which is base a's, of a window w that begins at offset f: 34 with the first base that is not in
+-- it
 unfoldable pub seenAt : ℕ → List ℕ → ℕ → List ℕ → List ℕ → Outcome Written
 seenAt f w a os out =
     cond (ltb (inPart f (f + length w) os) (length os)) (refuses (NotInWindow (a + inPart f (f + length w) os)) out) (gives (map (byteFrom f w) os) out)
@@ -67,7 +67,7 @@ windowRead bytes w f t u r a e out = windowHeld bytes w f (heldAt t u r) a e out
 
 -- ---- what a region needs
 
--- as a region from base a on is judged: the part from the smallest of its bases' offsets to the largest, or the refusal
+-- a judgement of a region from base a on gives the part from the smallest of its bases' offsets to the largest, or the refusal
 unfoldable pub neededBy : Record → ℕ → Judged → Needed
 neededBy x a (judged.Refused g) = needed.Refused g
 neededBy x a (judged.Bases at run n) = needed.Bytes (partOf (offsetsOf x a n))

@@ -1,4 +1,4 @@
--- Laws of the window read, by which the code goes.
+-- Laws of the window read. The code's proofs cite these.
 use Prim.Native.Nat.{ℕ, _+_, _-_, _%_, _^_, _≤_, _<_, min}
 use mathlib.Core.Path.{_≡_, refl, sym}
 use mathlib.Core.List.{List, _++_, map}
@@ -80,7 +80,7 @@ module _ (f : ℕ) (w : List ℕ) (x : Record) (a n k : ℕ) (e : k ≡ inPart f
 
 -- ---- a region
 
--- what is refused for the whole file is refused; else the window is judged
+-- a region that is refused for the whole file is refused; else the window is judged
 module _ (bytes f : ℕ) (w : List ℕ) (x : Record) (a e : ℕ) (out : List ℕ) where
   pub window-refused : (g : Refusal) → regionJudged bytes x a e (length out) ≡ judged.Refused g → leaves (Refused g) out ≡ windowRegion bytes f w x a e out
   unfolding windowRegion unlessRefused

@@ -1,11 +1,11 @@
 -- What the window read promises (request K7).
 --
--- `window-whole`: where the window is a part of a file, and has every byte that the region needs, the window read leaves what the exact read
--- of the whole file leaves.
+-- `window-whole`: if the window is a part of a file, and has every byte that the region needs, the window read leaves what the exact read of
+-- the whole file leaves.
 --
 -- `window-alone`: two windows that agree at the offsets that the region needs leave the same. No other byte matters.
 --
--- `unseen-if`, `unseen-only-if`: 34 is given exactly if nothing else is refused and a needed offset is not in the window, and its number is
+-- `unseen-if`, `unseen-only-if`: the answer is 34 exactly if nothing else is refused and a needed offset is not in the window; its number is
 -- the smallest base position of such an offset, whichever way offsets go. The row is one of a table, so that 34 is not its own refusal.
 use Prim.Native.Nat.{ℕ, _+_, _≤_, _<_}
 use mathlib.Core.Path.{_≡_, refl, ap, sym, _∙_}

@@ -1,5 +1,5 @@
-// What the exact read answers, and nothing read: a region is judged for a file of so many bytes and so much room. It is for whoever
-// has to know that several reads are good before the first byte is written.
+// What the exact read would answer: judges a region for a file of so many bytes and so much room, and reads nothing. It is for callers that
+// have to know that several reads are good before they write the first byte.
 use crate::Bound;
 use crate::exact;
 use crate::exact::Judged;

@@ -1,5 +1,5 @@
-// The exact read of a record: the bytes at the offsets of a region's bases. A region is judged first, by numbers alone, and then
-// copied. Room is judged before places, so no walk is longer than the output. Where offsets never go back one place is judged, and a
+// The exact read of a record: the bytes at the offsets of a region's bases. It judges a region first, by numbers alone, and then copies
+// it. It judges room before places, so no walk is longer than the output. If offsets never go back it judges only the last place, and the
 // copy goes from line to line without the rule.
 use crate::Bound;
 use crate::Part;
@@ -68,7 +68,7 @@ fn whole(bytes: usize) -> Part
     }
 }
 
-// How many of `n` bases from base `a` on lie in a file of so many bytes, up to the first that does not: by the last base, where that is
+// How many of `n` bases from base `a` on lie in a file of so many bytes, up to the first that does not: by the last base, if that is
 // enough.
 fn count_inside(bytes: usize, x: Record, a: Position, n: usize) -> usize
     requires { ⌜ Addressable x (a .0) n ⌝ }
@@ -81,7 +81,7 @@ fn count_inside(bytes: usize, x: Record, a: Position, n: usize) -> usize
     inside::count_in(whole(bytes), x, a, n)
 }
 
-// The offset of the next line, where the bases of a line end at offset `end`.
+// The offset of the next line, if the bases of this one end at offset `end`.
 fn next_line(x: Record, end: usize) -> usize
     requires { ⌜ (x .«line_bases» ≤ end + x .«line_width») × (end + x .«line_width» < 2 ^ 64 + x .«line_bases») ⌝ }
     ensures { λ r. ⌜ r + x .«line_bases» ≡ end + x .«line_width» ⌝ }
@@ -92,8 +92,8 @@ fn next_line(x: Record, end: usize) -> usize
     end + (x.line_width - x.line_bases) as usize
 }
 
-// Copies `n` bases to the front of the output, which all lie in the bytes of a file that are at hand: the first at place `at` of them, and
-// `run` of them are in its line. Each line but the first begins where the one before says.
+// Copies `n` bases to the front of the output. All lie in the bytes of the file that are at hand: the first at place `at`, and `run` of them
+// are in its line. The start of each further line follows from the line before.
 pub(crate) fn copy_bases(file: &[u8], x: Record, at: usize, run: usize, n: usize, out: &mut [u8])
     requires { ⌜ Begins (now file) x n at run ⌝ }
     requires { ⌜ n ≤ length (now out) ⌝ }
@@ -129,7 +129,7 @@ fn judge_line(bytes: usize, x: Record, first: Position, n: usize) -> Judged
     }
 }
 
-// Judges `n` bases from base `first` on, in any number of lines, of which the first has `run`.
+// Judges `n` bases from base `first` on, in any number of lines; the first line has `run` of them.
 fn judge_lines(bytes: usize, x: Record, first: Position, run: usize, n: usize) -> Judged
     requires { ⌜ Addressable x (first .0) n ⌝ }
     requires { ⌜ run ≡ min n (x .«line_bases» - (first .0 - 1) % x .«line_bases») ⌝ }

@@ -1,8 +1,8 @@
 // Bases in a part of a file, by numbers alone: whether all of some bases lie in it, how many do up to the first that does not, and the
-// smallest part that they all lie in. The lines of a region begin ever further on, and end ever further on, also where they overlap. So the
-// base that lies lowest is the first of the region or the first of its second line, and the one that lies highest is the last of the region
-// or the last of the line before: with these four, all are in a part. An example, of line bases 4 and line width 2 from position 0: bases 2
-// to 9 lie at 1 2 3, 2 3 4 5, 4. The four are bases 2, 5, 9 and 8, at 1, 2, 4 and 5.
+// smallest part that has them all. Each line of a region begins and ends further on than the line before, even if lines overlap. So the
+// lowest base is the first of the region or the first of its second line, and the highest is the last of the region or the last of the line
+// before: if these four lie in a part, all do. Example: line bases 4, line width 2, position 0. Bases 2 to 9 lie at 1 2 3, 2 3 4 5, 4. The
+// four are bases 2, 5, 9 and 8, at 1, 2, 4 and 5.
 use crate::Part;
 use record::Address;
 use record::Offset;
@@ -69,7 +69,7 @@ fn is_in(part: Part, x: Record, p: Position) -> bool
     o.0 < part.to.0
 }
 
-// The first base of the second line of `n` bases from base `a` on; `a` where they are in one line.
+// The first base of the second line of `n` bases from base `a` on; `a` if they are in one line.
 fn second_line(x: Record, a: Position, n: usize) -> Position
     requires { ⌜ Addressable x (a .0) n ⌝ }
     ensures { λ r. ⌜ r ≡ record { 0 = secondLine x (a .0) n } ⌝ }
@@ -81,7 +81,7 @@ fn second_line(x: Record, a: Position, n: usize) -> Position
     a
 }
 
-// The last base of the line before that of base `last`, of `n` bases up to it; `last` where they are in one line.
+// The last base of the line before that of base `last`, of `n` bases up to it; `last` if they are in one line.
 fn line_before(x: Record, last: Position, n: usize) -> Position
     requires { ⌜ (0 < x .«line_bases») × (0 < n) × (n ≤ last .0) ⌝ }
     ensures { λ r. ⌜ r ≡ record { 0 = lineBefore x (last .0) n } ⌝ }
@@ -119,8 +119,8 @@ fn all_in(part: Part, x: Record, a: Position, n: usize) -> bool
     is_in(part, x, line_before(x, last, n))
 }
 
-// How many of `n` bases from base `a` on lie in a part, up to the first that does not, by halving: the first `low` of them do, and of the
-// first `high` one does not.
+// How many of `n` bases from base `a` on lie in a part, up to the first that does not, by halving: the first `low` of them all do, and the
+// first `high` do not all.
 fn count_to(part: Part, x: Record, a: Position, n: usize) -> usize
     requires { ⌜ Addressable x (a .0) n ⌝ }
     requires { ⌜ inPart (part .from .0) (part .to .0) (offsetsOf x (a .0) n) < n ⌝ }

@@ -2,14 +2,14 @@
 // The exact read gives the bytes at the offsets of the region's bases. In this order it refuses: 1, a file that is too long; 16, a
 // given bound that is 0, or a start past the end; 25, a bad row; 17, a bound past the record's length; 14, an output that is too
 // short; 18, a base that is not in the file, the first of them.
-// The raw read scans from where the first base lies, and does not look at the record's length: it may run into the next record,
-// and give bytes of its definition line. It refuses 1, 16, 25, 18 where the first base's offset is over 64 bits, and 14.
-// The window read is the exact read where only some bytes of a file are at hand: it takes the file's length, and the offset where they
+// The raw read scans from where the first base lies, and ignores the record's length: it may run into the next record, and give bytes of
+// its definition line. It refuses 1, 16, 25, 18 if the first base's offset is over 64 bits, and 14.
+// The window read is the exact read when only some bytes of a file are at hand: it takes the file's length, and the offset where they
 // begin. It refuses 1, also for a stated length; 35, a window that passes the stated length; then as the exact read for a file of that
-// length; and 34, a base that is in the file and not in the window, the first of them. `needed_bytes` tells which bytes a region needs: the
-// smallest part of the file that has them, or the refusal that the exact read would give.
-// All are by row. Whoever has a name looks its row up first, once for all regions of it, with `index::find`: specs/Split.antt has what the
-// two calls say together.
+// length; and 34, the first base that is in the file and not in the window. `needed_bytes` answers which bytes a region needs: the smallest
+// part of the file that has them, or the refusal that the exact read would give.
+// All take a row. A caller with a name looks up its row first with `index::find`, once for all regions of it; specs/Split.antt says what the
+// two calls answer together.
 // A refusal leaves the output as it was. The bytes behind an answer stay too.
 pub mod answer;
 mod bounds;
@@ -75,7 +75,7 @@ pub fn read_exact(file: &[u8], row: InUse, start: Bound, end: Bound, out: &mut [
 }
 
 // The raw read: scans from where the first base of a region of a row lies, for as many bases as the bounds say, or without limit. It
-// does not look at the record's length, and may go on into the next record.
+// ignores the record's length, and may go on into the next record.
 pub fn read_raw(file: &[u8], row: InUse, start: Bound, end: Bound, out: &mut [u8]) -> Written
     ensures { λ r. ⌜ leaves r (now (out .exit)) ≡ rawHeld (now (file .entry)) (heldOf row) start end (now (out .entry)) ⌝ }
 {
@@ -89,7 +89,7 @@ pub fn read_raw(file: &[u8], row: InUse, start: Bound, end: Bound, out: &mut [u8
     }
 }
 
-// The window read: the exact read of a file of so many bytes, of which those in the window are at hand, which begins at an offset.
+// The window read: the exact read of a file of so many bytes, when only those in a window are at hand, which begins at offset `from`.
 pub fn read_window(
     bytes: usize,
     window: &[u8],

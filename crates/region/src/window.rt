@@ -1,6 +1,6 @@
 // Reading from a window: some bytes of a file, and the offset where they begin. A region is judged for the whole file first, as the exact
-// read judges it; then each of its bases must lie in the window; then it is copied, by the exact read's walk. What a region needs is judged
-// in the same way, and told as a part of the file.
+// read judges it; then each of its bases must lie in the window; then the exact read's walk copies it. What a region needs is judged in the
+// same way, and answered as a part of the file.
 use crate::Bound;
 use crate::Needed;
 use crate::Part;
@@ -47,7 +47,7 @@ fn seen(window: usize, from: usize) -> Part
     }
 }
 
-// Reads `n` bases from base `first` on, which are judged: the first lies at offset `at`, and `run` of them are in its line.
+// Reads `n` judged bases from base `first` on: the first lies at offset `at`, and `run` of them are in its line.
 fn read_seen(
     window: &[u8],
     from: usize,

@@ -1,5 +1,5 @@
-// Whether an answer is the one that the original gave: its numbers are held against those that the list tells, of which the first
-// three are the refusal and its numbers. A number behind those that an answer has agrees with any.
+// Whether an answer is the one that the original gave: compares its numbers with those in the list. The first three are the refusal and its
+// numbers. If the list has fewer numbers than the answer, the others agree with any.
 use crate::list::number_at;
 use std::num::wrapping_add_usize;
 use wakeluri::answer::Answer;
@@ -23,7 +23,7 @@ fn two(told: &[u8], at: usize, a: u64, b: u64) -> bool {
     false
 }
 
-// The refusal, which is always told, and its numbers.
+// The refusal, which is always there, and its numbers.
 fn refusal(told: &[u8], n: u64, first: u64, second: u64) -> bool {
     if told.len() == 0 {
         return false;
@@ -107,7 +107,7 @@ pub fn index_line(told: &[u8], a: RowAnswer) -> bool {
     false
 }
 
-// What is left of what was lent; nothing told agrees with any.
+// What is left of what was lent; if the list has nothing, it agrees with any.
 pub fn left(told: &[u8], room: &[u8]) -> bool {
     if told.len() == 0 {
         return true;

@@ -1,4 +1,4 @@
-// Asks a record's question at the entry point of its family, and tells whether the answer is the original's. A family is the number
+// Asks a record's question at the entry point of its family, and answers whether that gives the original's answer. A family is the number
 // of its place in the list.
 use crate::agree;
 use crate::list;

@@ -1,6 +1,6 @@
 // replay: asks this library the questions of a fixed list, the file `answers` of its folder data/, and holds each answer against the
 // original's (noodles-fasta 0.68.0), which stands beside it. For each family it writes a line, as `idx 1500 answers, 0 differ`, where
-// one differs with the number of the first, from 0; and then the same of all. data/README.md tells how the list was made.
+// one differs with the number of the first, from 0; and then the same of all. data/README.md says how the list was made.
 mod agree;
 mod ask;
 mod list;
@@ -95,7 +95,7 @@ fn name(family: usize, names: &[u8]) -> &[u8] {
     list::part(names, 0, 0)
 }
 
-// Reads a record of so many bytes, and tells whether its question has the original's answer.
+// Reads a record of so many bytes, and answers whether its question has the original's answer.
 fn replay_one(fd: i32, family: usize, record: &mut [u8], room: &mut [u8]) -> bool {
     io::read_full(fd, record);
     ask::alike(family, record, room)

@@ -1,5 +1,5 @@
--- The user's case, computed: a hundred bases asked, fifty typed, 49 of them right. It is 490, never 980; and where only fifty bases are left there is
--- no key and no score.
+-- The user's case, computed: a hundred bases asked, fifty typed, 49 of them right. The score is 490, never 980; and if only fifty bases are left
+-- there is no key and no score.
 use Prim.Native.Nat.{ℕ, zero, suc}
 use mathlib.Core.Path.{_≡_, refl}
 use mathlib.Core.List.{List, [], _∷_, _++_}

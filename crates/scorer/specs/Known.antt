@@ -1,5 +1,5 @@
--- What is known of a score that the scorer gives: the exercise that was read, the row that was found, the key that was fetched, all of it, and the
--- rule that what was typed was counted by. And of a refusal: the room is as it was.
+-- What is known of a score that the scorer gives: the exercise that was read, the row that was found, the whole key that was fetched, and the rule
+-- that counted what was typed. And of a refusal: the room is as it was.
 use Prim.Native.Nat.{ℕ, _+_, _-_, _≤_, _<_}
 use mathlib.Core.Path.{_≡_, refl, sym, ap, _∙_}
 use mathlib.Core.List.{List, _++_, map}
@@ -161,7 +161,7 @@ module _ (x : Exercise) (typed file : List ℕ) (h : Held) (room : List ℕ) whe
   pub refused-read : (f : Refusal) → exactHeld file h (first x) (last x) room ≡ refuses f room → rowScored x typed file h room ≡ refusesScore f room
   refused-read f e = by-read _ e ∙ counted-refused f
 
-  -- and there is no other refusal, where what was typed is within the limit and the edition is known
+  -- and there is no other refusal, if what was typed is within the limit and the edition is known
   module _ (l : overLimit (length typed) ≡ false) (known : (eqb (x .edition) 1 ≡ true) ⊎ (eqb (x .edition) 2 ≡ true)) (f : Refusal) (after : List ℕ)
       (q : rowScored x typed file h room ≡ leaves (scored.Refused f) after) where
     pub read-refused : exactHeld file h (first x) (last x) room ≡ refuses f room
@@ -189,7 +189,7 @@ pub record Known (s typed file names t : List ℕ) (u : ℕ) (room : List ℕ) (
   pub fetched : KeyKnown exercise typed file (heldAt t u row) room c after
 
 module _ (s typed file names t : List ℕ) (u : ℕ) (room : List ℕ) where
-  -- what the call comes to
+  -- the call's outcome
   pub data Either : Type 0 where
     too-long : anyOver s typed file names ≡ true → scorerOf s typed file names t u room ≡ refusesScore TooLong room → Either
     unread : (f : Refusal) → anyOver s typed file names ≡ false → readAs 2 s ≡ read.Refused f → scorerOf s typed file names t u room ≡ refusesScore f room → Either

@@ -1,4 +1,4 @@
--- Laws of the scorer: what each step says of the outcome. The code goes by these.
+-- Laws of the scorer: what each step says of the outcome. The code's proofs cite these.
 use Prim.Native.Nat.{ℕ, _+_, _-_, _≤_, _<_}
 use mathlib.Core.Path.{_≡_, refl, sym, ap, _∙_}
 use mathlib.Core.List.{List, _++_, map}

@@ -1,8 +1,8 @@
 -- The refusals of the scorer: which it gives, in their order, each exactly in its case.
 --
 -- `refused-only-if`, `refused-if`: the scorer refuses with f exactly if `Refuses` says so: 1 if one of the lent inputs is too long; else the first
--- fault of the exercise's fields (31, 32, 33); else what the look-up of its name is (25, 15); else what the exact read of its bounds is (16, 17, 14, 18). In
--- each case the room is as it was (`unchanged` in Known.antt).
+-- fault of the exercise's fields (31, 32, 33); else the refusal of looking up its name (25, 15); else that of the exact read of its bounds (16, 17,
+-- 14, 18). In each case the room is as it was (`unchanged` in Known.antt).
 use Prim.Native.Nat.{ℕ}
 use mathlib.Core.Path.{_≡_, refl, sym, ap, _∙_}
 use mathlib.Core.List.{List}

@@ -1,6 +1,6 @@
 -- What is promised of a score that the scorer gives, for everything that may be lent.
 --
--- `asked`: right, wrong and missing together are end - start + 1, always: what the exercise asks, never what was typed or is left.
+-- `asked`: right, wrong and missing together are always end - start + 1, which the exercise asks for, never what was typed or is left.
 -- `denominator`: the score is the quotient of 1000 times right by what was asked and the surplus; it is at most 1000 (`most`), and 1000 exactly if all
 -- is right and nothing is surplus (`full-only-if`, `full-if`). Leaving out the last typed base never raises it (`left-out`).
 -- `counted`: each count is how many places satisfy its rule. `fetched`: the key is what the exact read gives of the row that has the name, and stands at
@@ -118,7 +118,7 @@ gives-same a b room q n =
     sym (take-at a (drop (length a) room) (length a) refl)
     ∙ (ap (take (length a)) (ap (λ (o : Outcome Written). o .output) q) ∙ take-at b (drop (length b) room) (length a) (sym n))
 
--- where no more was typed than asked, leaving out the last typed base never raises the score
+-- if no more was typed than asked, leaving out the last typed base never raises the score
 pub left-out : (s typed : List ℕ) (b : ℕ) (file names t : List ℕ) (u : ℕ) (room : List ℕ) (x : Exercise) → readAs 2 s ≡ read.Read x → length typed < askedBy x
     → (c d : Score) (after after′ : List ℕ) → scorerOf s typed file names t u room ≡ leaves (scored.Score c) after
     → scorerOf s (typed ++ (b ∷ [])) file names t u room ≡ leaves (scored.Score d) after′ → (c .right ≤ d .right) × (c .score ≤ d .score)

@@ -1,6 +1,6 @@
-// The scorer: from the bytes of an exercise and what was typed to a score. The exercise names a sequence and its bounds; the name is looked up,
-// the key is fetched by the exact read into a lent room, and what was typed is counted against it, by the rule of the exercise's edition. What is
-// asked is always all from the start to the end: a key that is not there in full is refused, and never a shorter one taken.
+// The scorer: from the bytes of an exercise and what was typed to a score. The exercise names a sequence and its bounds. The scorer looks up the
+// name, fetches the key by the exact read into a lent room, and counts what was typed against it, by the rule of the exercise's edition. An
+// exercise always asks for all bases from its start to its end: if the key is not there in full, the call is refused; it never takes a shorter key.
 // Refused, in this order: 1, one of the lent inputs is too long; 31, 32, 33, the exercise; 25, 15, the name; 16, 17, 14, 18, the read. After a
 // score the key stands at the front of the room, and what is behind it stays; a refusal leaves the room as it was.
 use exercise::Exercise;
@@ -66,7 +66,7 @@ fn asked_row(exercise: &[u8], names: &[u8], table: &[u8], in_use: usize) -> Aske
     }
 }
 
-// The key of an exercise is read from a row into the room, and what was typed is counted against it.
+// Reads the key of an exercise from a row into the room, and counts what was typed against it.
 fn score_row(x: Exercise, typed: &[u8], file: &[u8], row: InUse, room: &mut [u8]) -> Scored
     ensures { λ r. ⌜ leaves r (now (room .exit)) ≡ rowScored x (now (typed .entry)) (now (file .entry)) (heldOf row) (now (room .entry)) ⌝ }
 {

@@ -1,5 +1,5 @@
--- R13 of docs/RULES.md: the line rule and the scanning rule agree from the start of a sequence where its lines hold no '>' and no CR but
--- the one at a line's end; with a limit, and without one.
+-- R13 of docs/RULES.md: the line rule and the scanning rule agree from the start of a sequence, with a limit and without one, if its lines
+-- hold no '>' and no CR except the one at a line's end.
 use Prim.Native.Nat.{ℕ, _+_}
 use mathlib.Core.Path.{_≡_}
 use mathlib.Core.List.{List}
@@ -16,7 +16,7 @@ pub limit-agrees : (s : List ℕ) (limit at : ℕ) → Clean (seqAt s at) → By
 unfolding scanAt seqAt
 limit-agrees s limit at clean = agree (lines (drop at s)) limit at (lined (drop at s)) clean
 
--- and a scan without a limit gives all, and leaves the end of the sequence
+-- and a scan without a limit gives all, and stops at the end of the sequence
 pub rules-agree : (s : List ℕ) (at : ℕ) → Clean (seqAt s at) → scanAll s at ≡ record { bases = allBases (seqAt s at); place = at + sumWidths (seqAt s at) }
 unfolding scanAll
 rules-agree s at clean = let z = limit-agrees s (length s + 1) at clean .short (omega (arith, bases-within s at)) in scan-is _ _ _ (z .0) (z .1)

@@ -96,7 +96,7 @@ module _ (l : List ℕ) (clean : CleanLine l) (line : has 10 (chop 10 l) ≡ fal
       go (inl z) = (ap begins (z .0), ap basesOf (z .0) ∙ sym (z .1))
       go (inr z) = rw (z .0) (z .1, refl)
 
-  -- and where it has bases there are none
+  -- and if it has bases there are none
   based : 0 < length (basesOf l) → skipped l ≡ 0
   based h = go (front l clean line)
     where

@@ -9,7 +9,7 @@ use Rattle.lines.specs.Lines.{basesOf, allBases, sumBases, sumWidths}
 use Rattle.lines.specs.Mending.{BaseOf}
 use Rattle.sequence.specs.Scan.{Scan}
 
--- does a byte stand among some bytes
+-- is a byte among some bytes
 unfoldable pub has : ℕ → List ℕ → Bool
 has b [] = false
 has b (x ∷ l) = cond (eqb x b) true (has b l)
@@ -24,8 +24,8 @@ unfoldable pub Clean : List (List ℕ) → Type 0
 Clean [] = Unit
 Clean (l ∷ ls) = CleanLine l × Clean ls
 
--- what a scan for so many bases gives of some lines that begin at an offset, by the line rule: the first so many bases of all. It leaves
--- its place behind the last of them, where it was if none is wanted; if there are fewer, it gives all and leaves the end of the lines
+-- what a scan for so many bases gives of some lines that begin at an offset, by the line rule: the first so many bases of all. It stops
+-- behind the last of them, or where it was if none is wanted. If there are fewer, it gives all and stops at the end of the lines
 pub record ByLines (c : Scan) (ls : List (List ℕ)) (limit at : ℕ) : Type 0 where
   pub bases : c .bases ≡ take limit (allBases ls)
   pub unmoved : limit ≡ 0 → c .place ≡ at

@@ -1,4 +1,4 @@
--- Laws of the scanning rule: what a place in the bytes says of a scan from there.
+-- Laws of the scanning rule: how the bytes at a place decide a scan from there.
 use Prim.Native.Nat.{ℕ, zero, suc, _+_, _-_, _≤_, _<_}
 use mathlib.Core.Path.{_≡_, refl, ap, sym, _∙_}
 use mathlib.Core.List.{List, [], _∷_, _++_, append-nil, append-assoc}
@@ -260,7 +260,7 @@ module _ (s : List ℕ) (at : ℕ) where
       go true e = omega (arith, bases-le (seqAt s (skipTo s at)), first-within s (skipTo s at) (leb-true (skipTo s at) (length s) e))
       go false e = absurd (omega (arith, ap (λ (ls : List (List ℕ)). firstLine ls .bases) (seqAt-end s (skipTo s at) (omega (arith, leb-false (skipTo s at) (length s) e)))))
 
--- what a turn of a scan for so many bases knows, where n are taken, of the piece that it finds from i on
+-- what a turn of a scan for so many bases knows of the piece that it finds from i on, once n are taken
 pub record Turn (s : List ℕ) (limit n i : ℕ) (p : Span) : Type 0 where
   pub most : n + p .length ≤ limit
   pub within : p .start + p .length ≤ length s
@@ -330,7 +330,7 @@ filled-step n out src k c h q =
     rw (length-append (take k src) (c .bases), length-take-le k src q, ← add-assoc n k (length (c .bases)), ← append-assoc (take n out) (take k src) (c .bases))
     (rw (take-paste out n src k (omega arith) q, ← drop-drop (length (c .bases)) (n + k) (paste out n src k), drop-paste out n src k (omega arith) q, drop-drop (length (c .bases)) (n + k) out))
 
--- a turn, with its piece copied: the rest written behind it leaves what the rest before it would
+-- a turn with its piece copied: writing the rest behind the piece leaves the same output
 pub turn-fills : (s : List ℕ) (limit n i : ℕ) (p : Span) (out copied : List ℕ) → Turn s limit n i p → n + length (scanAt s (limit - n) i .bases) ≤ length out → copied ≡ paste out n (drop (p .start) s) (p .length)
     → (length copied ≡ length out) × (filled (n + p .length) copied (scanAt s (limit - (n + p .length)) (p .start + p .length)) ≡ filled n out (scanAt s (limit - n) i))
 turn-fills s limit n i p out copied t h e = rw (e, t .scan) (length-paste out n src (p .length) (omega arith) room, sym (filled-step n out src (p .length) _ (omega arith) room))

@@ -14,11 +14,11 @@ use Rattle.sequence.specs.declared.RunRead.{RunRead}
 use Rattle.sequence.specs.declared.RunRead.the-variants as runs
 use Rattle.sequence.specs.Scan.{Scan, runAt, scanAt, scanAll}
 
--- the bases at the front of the output, what was behind them as it was
+-- the bases at the front of the output; the bytes behind them stay
 unfoldable pub written : Scan → List ℕ → Outcome SequenceRead
 written c out = leaves (Bases (length (c .bases)) (record { at = c .place })) (c .bases ++ drop (length (c .bases)) out)
 
--- the bases written, where they have room; else how many they are, and the output as it was
+-- the bases, if there is room; else how many they are, and the output as it was
 unfoldable pub poured : Scan → List ℕ → Outcome SequenceRead
 poured c out = cond (leb (length (c .bases)) (length out)) (written c out) (leaves (Refused (NoRoom (length (c .bases)))) out)
 

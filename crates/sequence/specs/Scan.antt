@@ -29,7 +29,7 @@ runAt s at = record { start = skipTo s at; length = firstLine (seqAt s (skipTo s
 
 -- ---- a scan
 
--- the bases that a scan gives, and the place that it leaves
+-- the bases that a scan gives, and the place where it stops
 pub record Scan : Type 0 where
   pub bases : List ℕ
   pub place : ℕ
@@ -46,7 +46,7 @@ joined bs c = record { bases = bs ++ c .bases; place = c .place }
 abbrev pub bare : List ℕ → List ℕ
 bare l = drop (skipped l) l
 
--- the bases that stand at a place, if there are as many as are wanted only so many of them; else all, and what follows
+-- the bases at a place: only as many as are wanted, if there are so many; else all of them, and what follows
 abbrev pub upTo : ℕ → ℕ → List ℕ → Scan → Scan
 upTo limit at bs rest = cond (leb limit (length bs)) (record { bases = take limit bs; place = at + limit }) (joined bs rest)
 

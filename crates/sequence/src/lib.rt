@@ -15,8 +15,8 @@ ghost use Rattle.output.specs.Outcome.{leaves};
 ghost use Rattle.sequence.specs.Read.{written, scanInto, readLimit, readWhole, readRun};
 ghost use Rattle.sequence.specs.Laws.{pieceAt};
 
-// How many bases were read, and the place that is left: just behind the last of them where as many were given as were wanted, and
-// else at the '>' or the end that the scan came to.
+// How many bases were read, and the place where the scan stopped: just behind the last base if it gave as many as were wanted, and else
+// at a '>' or the end.
 pub enum SequenceRead {
     Bases { count: usize, next: Cursor },
     Refused(Refusal),
@@ -95,7 +95,7 @@ fn count_bases(s: &[u8], at: usize, limit: usize) -> usize
     n
 }
 
-// Have the bases of a scan for `limit` of them room in so many bytes.
+// Do the bases of a scan for `limit` of them fit in so many bytes.
 fn has_room(s: &[u8], at: usize, limit: usize, room: usize) -> bool
     ensures { λ r. ⌜ r ≡ leb (length (scanAt (now (s .entry)) limit at .bases)) room ⌝ }
 {
@@ -105,7 +105,7 @@ fn has_room(s: &[u8], at: usize, limit: usize, room: usize) -> bool
     count_bases(s, at, limit) <= room
 }
 
-// Copies the bases of a scan for `limit` of them to the front of the output, where they have room.
+// Copies the bases of a scan for `limit` of them to the front of the output, which has room for them.
 fn copy_bases(s: &[u8], at: usize, limit: usize, out: &mut [u8]) -> SequenceRead
     requires { ⌜ length (scanAt (now s) limit at .bases) ≤ length (now out) ⌝ }
     ensures { λ r. ⌜ leaves r (now (out .exit)) ≡ written (scanAt (now (s .entry)) limit at) (now (out .entry)) ⌝ }
@@ -132,7 +132,7 @@ fn copy_bases(s: &[u8], at: usize, limit: usize, out: &mut [u8]) -> SequenceRead
     }
 }
 
-// Scans for at most `limit` bases from `at`, into the front of the output; what is behind them stays. The file's size is not judged.
+// Scans for at most `limit` bases from `at`, into the front of the output; the bytes behind them stay. The file's size is not judged.
 pub fn scan_into(s: &[u8], at: usize, limit: usize, out: &mut [u8]) -> SequenceRead
     ensures { λ r. ⌜ leaves r (now (out .exit)) ≡ scanInto (now (s .entry)) limit at (now (out .entry)) ⌝ }
 {
@@ -145,8 +145,8 @@ pub fn scan_into(s: &[u8], at: usize, limit: usize, out: &mut [u8]) -> SequenceR
     copy_bases(s, at, limit, out)
 }
 
-// Reads at most `limit` bases from a place. A limit of 0 moves nothing, and a place past the end stays as it is. The file is gone
-// through once, or twice where the output has fewer than `limit` bytes.
+// Reads at most `limit` bases from a place. A limit of 0 moves nothing, and a place past the end stays as it is. It walks the file once,
+// or twice if the output has fewer than `limit` bytes.
 pub fn read_sequence_limit(s: &[u8], at: Cursor, limit: usize, out: &mut [u8]) -> SequenceRead
     ensures { λ r. ⌜ leaves r (now (out .exit)) ≡ readLimit (now (s .entry)) limit at (now (out .entry)) ⌝ }
 {

@@ -1,5 +1,5 @@
-// A view that keeps the lent bytes and its place, after the original's `sequence::Reader`: a step is the scanning rule from its
-// place. It refuses nothing; `first_run` is for callers that have bytes and a place.
+// A view that keeps the lent bytes and a place, as the original's `sequence::Reader` does. A step applies the scanning rule from that
+// place. It refuses nothing. `first_run` is for callers that have bytes and a place.
 use lines::Span;
 ghost use mathlib.Core.Path.{_≡_};
 ghost use Rattle.sequence.specs.Scan.{runAt};

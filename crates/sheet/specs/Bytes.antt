@@ -15,7 +15,7 @@ use Rattle.region.specs.declared.Bound.{Bound}
 use Rattle.region.specs.declared.Bound.the-variants.{Given, Absent}
 use Rattle.sheet.specs.declared.Region.{Region}
 
--- a bound is absent where its flag is 0, and given otherwise, whatever its number
+-- a bound is absent if its flag is 0, and given otherwise, whatever its number
 unfoldable pub boundBy : ℕ → ℕ → Bound
 boundBy flag p = cond (eqb flag 0) Absent (Given (record { 0 = p }))
 

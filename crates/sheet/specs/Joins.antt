@@ -1,4 +1,4 @@
--- What a sheet is, said by the single reads: their answers joined in order, or the refusal of the first that is refused.
+-- A sheet in terms of single reads: their answers joined in order, or the refusal of the first that is refused.
 use Prim.Native.Nat.{ℕ, zero, suc, _+_, _-_, _≤_, _<_}
 use mathlib.Core.Path.{_≡_, refl, ap, sym, _∙_}
 use mathlib.Core.List.{List, [], _∷_, _++_, append-assoc}
@@ -68,7 +68,7 @@ module _ (s t : List ℕ) (u : ℕ) (rs : List Region) (out starts : List ℕ) w
 
   -- ---- without a refusal
 
-  -- k bytes: the single reads' answers joined in order, and the running sums of their lengths; what was behind them is as it was
+  -- k bytes: the single reads' answers joined in order, and the running sums of their lengths; the rest stays as it was
   pub record Joins (k : ℕ) (after begins : List ℕ) : Type 0 where
     pub reads : (i : ℕ) → i < length rs → single (getD rs i noRegion) .answer ≡ Bytes (length (getD parts i []))
     pub total : k ≡ length (joined parts)
@@ -177,7 +177,7 @@ module _ (s t : List ℕ) (u : ℕ) (rs : List Region) (out starts : List ℕ) w
     unfolding sheetRead
     judged = rw (a, le-ltb most (length rs) b, le-ltb (length starts) (length rs) c)
 
-    -- tells what the first refused single read gives with all the room, and its place
+    -- answers what the first refused single read gives with all the room, and its place
     pub sheet-first : (i : ℕ) → i < length rs → Good single rs noRegion i → (f : Refusal) → single (getD rs i noRegion) .answer ≡ Refused f → sheetRead s t u rs out starts ≡ refusesAt i f out starts
     unfolding sheetOf
     sheet-first i h g f q = judged ∙ first-refused single noRegion out starts (poured parts out starts) rs 0 i g h f q ∙ ap (λ (n : ℕ). refusesAt n f out starts) (zero-add i)

@@ -1,4 +1,4 @@
--- Laws of pieces and of the first refused region. Callers go by these and unfold nothing.
+-- Laws of pieces and of the first refused region. Callers cite these and unfold nothing.
 use Prim.Native.Nat.{ℕ, zero, suc, _+_, _-_, _≤_, _<_, min}
 use mathlib.Core.Path.{_≡_, refl, ap, sym, _∙_}
 use mathlib.Core.List.{List, [], _∷_, _++_, append-assoc, append-nil}
@@ -83,13 +83,13 @@ starts-from (p ∷ ps) k rest (suc i) h = starts-from ps (k + length p) rest i (
 pub starts-at : (ps : List (List ℕ)) (rest : List ℕ) (i : ℕ) → i < length ps → getD (startsFrom 0 ps ++ rest) i 0 ≡ length (joined (take i ps))
 starts-at ps rest i h = starts-from ps 0 rest i h ∙ zero-add (length (joined (take i ps)))
 
--- ---- numbers that 64 bits tell
+-- ---- numbers capped at 64 bits
 
 pub capped-add : (a b : ℕ) → capped (capped a + b) ≡ capped (a + b)
 unfolding capped
 capped-add a b = omega arith
 
--- where there is less room than 64 bits tell, the capped number says as well as the number whether there is enough
+-- if the room is less than the largest 64-bit number, the capped number says as well as the number itself whether there is enough
 pub capped-more : (n room : ℕ) → room < 18446744073709551615 → room < capped n → room < n
 unfolding capped
 capped-more n room s h = omega arith

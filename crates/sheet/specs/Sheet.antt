@@ -55,19 +55,19 @@ startsFrom k (p ∷ ps) = k ∷ startsFrom (k + length p) ps
 
 -- ---- the sheet
 
--- a number as 64 bits can tell it
+-- a number, capped at the largest that 64 bits hold
 unfoldable pub capped : ℕ → ℕ
 capped n = min n 18446744073709551615
 
--- the pieces at the front of the output, and their starts at the front of theirs, what was behind them as it was; 14, with the total,
--- if there is too little room
+-- the pieces at the front of the output, and their starts at the front of the list; the rest of both stays. 14, with the total, if there is
+-- too little room
 unfoldable pub poured : List (List ℕ) → List ℕ → List ℕ → SheetOutcome SheetRead
 poured ps out starts =
     cond (ltb (length out) (length (joined ps)))
     (refusesAt (length ps) (NoRoom (capped (length (joined ps)))) out starts)
     (leavesBoth (sheet.Bytes (length (joined ps))) (joined ps ++ drop (length (joined ps)) out) (startsFrom 0 ps ++ drop (length ps) starts))
 
--- the refusal of the first refused region, of which the first has place i; where none is refused, what is said then
+-- the refusal of the first refused region, counting places from i; if none is refused, what is given for that
 abbrev pub refusedOr : Written → ℕ → List ℕ → List ℕ → SheetOutcome SheetRead → SheetOutcome SheetRead
 refusedOr (Bytes n) i out starts fine = fine
 refusedOr (Refused f) i out starts fine = refusesAt i f out starts
@@ -76,7 +76,7 @@ unfoldable pub unlessRefused : (Region → Outcome Written) → ℕ → List Reg
 unlessRefused read i [] out starts fine = fine
 unlessRefused read i (r ∷ rs) out starts fine = refusedOr (read r .answer) i out starts (unlessRefused read (suc i) rs out starts fine)
 
--- regions that are read each in one way
+-- regions, each read in the same way
 unfoldable pub sheetOf : (Region → Outcome Written) → List Region → List ℕ → List ℕ → SheetOutcome SheetRead
 sheetOf read rs out starts = unlessRefused read 0 rs out starts (poured (pieces read rs) out starts)
 

@@ -1,5 +1,5 @@
--- How a sheet goes on, turn by turn, and why what it leaves in the end is the sheet's: a turn for each region to judge it, then one for each
--- to write it.
+-- How a sheet goes on, turn by turn, and why it leaves in the end what the definition says: a turn for each region to judge it, then one for
+-- each to write it.
 use Prim.Native.Nat.{ℕ, zero, suc, _+_, _-_, _^_, _≤_, _<_, min}
 use mathlib.Core.Path.{_≡_, refl, ap, sym, _∙_}
 use mathlib.Core.List.{List, [], _∷_, _++_, append-assoc, append-nil}
@@ -92,7 +92,7 @@ turnedAt (pass.Writing at) s h r g out starts = writes s h r g at out starts
 unfoldable pub turned : List ℕ → Held → Region → Going → List ℕ → List ℕ → Stage
 turned s h r g out starts = turnedAt (g .pass) s h r g out starts
 
--- what is answered in the end
+-- the answer in the end
 abbrev toldAt : Pass → ℕ → SheetRead
 toldAt (pass.Judging total) place = sheet.Bytes 0
 toldAt (pass.Writing at) place = sheet.Bytes at

@@ -1,4 +1,4 @@
-// A sheet whose regions, and the table that they are of, are lent as bytes, as a host has them. A region is five numbers, eight bytes to
+// A sheet whose regions and table are lent as bytes, as a host has them. A region is five numbers, eight bytes to
 // a number, low byte first: its row, whether there is a start (0: no), the start, whether there is an end (0: no), the end. What is left
 // of a last part of a region is ignored.
 use crate::Region;
@@ -72,7 +72,7 @@ fn row_at(table: &[u8], in_use: usize, row: usize) -> InUse
     InUse::Row(row, record_at(table, row))
 }
 
-// A bound as a host gives it: absent where its flag is 0.
+// A bound as a host gives it: absent if its flag is 0.
 fn bound(flag: u64, p: u64) -> Bound
     ensures { λ r. ⌜ r ≡ boundBy flag p ⌝ }
 {

@@ -1,5 +1,5 @@
-// How a sheet goes on: one turn for each region to judge it, and when all are judged one for each to write it. So every region is judged
-// before a byte is written.
+// How a sheet goes on: one turn for each region to judge it, and then one turn for each to write it. So every region is judged before a byte
+// is written.
 use crate::MOST;
 use crate::Region;
 use crate::SheetRead;
@@ -32,7 +32,7 @@ pub(crate) struct Going {
 // The most that 64 bits hold.
 const GREATEST: u64 = 18446744073709551615;
 
-// The sum of two numbers, or the greatest number where it is larger.
+// The sum of two numbers, or the greatest number if the sum is larger.
 fn add(a: u64, b: u64) -> u64
     ensures { λ r. ⌜ r ≡ capped (a + b) ⌝ }
 {
@@ -171,7 +171,7 @@ pub(crate) fn turn(
     }
 }
 
-// What a sheet answers that has no turn left.
+// The answer of a sheet that has no turn left.
 pub(crate) fn told(g: Going) -> SheetRead
     ensures { λ r. ⌜ r ≡ toldOf g ⌝ }
 {

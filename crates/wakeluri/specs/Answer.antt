@@ -1,4 +1,4 @@
--- Each call's answer as a host is told it: the refusal's number and its two numbers, 0 where there is none, and what was found. What
+-- Each call's answer as a host gets it: the refusal's number and its two numbers, 0 if there is none, and what was found. What
 -- was not found is 0.
 use Prim.Native.Nat.{ℕ, _+_}
 use mathlib.Core.Bool.{Bool, cond, not}
@@ -37,15 +37,15 @@ use Rattle.wakeluri.specs.declared.answer.RowAnswer.{RowAnswer}
 
 -- ---- what a host gives
 
--- what has a flag is absent where it is 0, and given otherwise
+-- what has a flag is absent if it is 0, and given otherwise
 unfoldable pub givenBy : ℕ → Bool
 givenBy flag = not (eqb flag 0)
 
--- a bound is absent where its flag is 0, and given otherwise, whatever its number
+-- a bound is absent if its flag is 0, and given otherwise, whatever its number
 unfoldable pub boundOf : ℕ → ℕ → Bound
 boundOf flag p = cond (eqb flag 0) Absent (Given (record { 0 = p }))
 
--- ---- what a host is told
+-- ---- what a host gets
 
 -- no refusal; no bytes; no record
 abbrev pub fine : Numbers
@@ -109,12 +109,12 @@ unfoldable pub foundAnswer : Found → Answer
 foundAnswer (found.Row r) = answerOf fine r 0
 foundAnswer (found.Refused f) = answerOf (numbersOf f) 0 0
 
--- how many bases were read, and the place that is left
+-- how many bases were read, and the place where the read stopped
 unfoldable pub sequenceAnswer : SequenceRead → Answer
 sequenceAnswer (sequence.Bases n c) = answerOf fine n (c .at)
 sequenceAnswer (sequence.Refused f) = answerOf (numbersOf f) 0 0
 
--- how many rows are held, after a refusal too
+-- how many rows the table has now, after a refusal too
 unfoldable pub filledAnswer : ℕ → Stop → Answer
 filledAnswer rows stop.Ended = answerOf fine rows 0
 filledAnswer rows (stop.Refused f) = answerOf (numbersOf f) rows 0

@@ -1,4 +1,4 @@
--- Answers about exercises and scores as a host is told them.
+-- Answers about exercises and scores as a host gets them.
 use Prim.Native.Nat.{ℕ}
 use mathlib.Core.Path.{_≡_}
 use mathlib.Core.List.{List}
@@ -61,7 +61,7 @@ scoreAnswer (scored.Refused f) = scoreTold (numbersOf f) noScore
 unfoldable pub scoredTold : Outcome Scored → Outcome ScoreAnswer
 scoredTold o = leaves (scoreAnswer (o .answer)) (o .output)
 
--- what is told of a call, by what it answers and leaves
+-- the numbers of a call, by what it answers and leaves
 pub scored-told : (a : ScoreAnswer) (room : List ℕ) (r : Scored) (o : Outcome Scored) → leaves r room ≡ o → a ≡ scoreAnswer r → leaves a room ≡ scoredTold o
 unfolding scoredTold
 scored-told a room r o e q = rw (← e, q)

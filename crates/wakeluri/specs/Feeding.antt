@@ -1,4 +1,4 @@
--- A feeder as a host holds it between two calls: a struct of numbers. Any numbers are a feeder (`feederBy`), and those of a feeder are that
+-- A feeder as a host keeps it between two calls: a struct of numbers. Any numbers make a feeder (`feederBy`), and those of a feeder make that
 -- feeder again (`feeder-back`).
 use Prim.Native.Nat.{ℕ, _<_}
 use mathlib.Core.Path.{_≡_, refl, ap, sym, _∙_}
@@ -120,7 +120,7 @@ feedIn f Ended = flatOf f fine 3 0 noOpened (linesTold Blank)
 unfoldable pub feedTold : Feeder → Feed
 feedTold f = feedIn f (f .phase)
 
--- what a call tells, and leaves in the table's bytes
+-- what a call answers, and leaves in the table's bytes
 unfoldable pub callTold : With → List ℕ → Outcome Feed
 callTold w t = leaves (feedTold (w .feeder)) (withNumbers t (w .table))
 

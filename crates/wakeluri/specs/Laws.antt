@@ -1,4 +1,4 @@
--- Laws of the answers: what a host is told of a call, by what the call answers and leaves.
+-- Laws of the answers: what a host gets of a call, by what the call answers and leaves.
 use Prim.Native.Nat.{ℕ, _+_, _^_, _<_}
 use mathlib.Core.Path.{_≡_, refl, ap, sym, _∙_}
 use mathlib.Core.List.{List}
@@ -44,7 +44,7 @@ module _ (a : Answer) (out : List ℕ) where
 
 -- ---- a run
 
--- a run that is told is the one at the place
+-- the run in the answer is the one at the place
 run-told : (s : List ℕ) (c : Cursor) (x : Span) → readRun s c ≡ run.Run x → x ≡ runAt s (c .at)
 unfolding readRun
 run-told s c x e = go (overLimit (length s)) e
@@ -53,7 +53,7 @@ run-told s c x e = go (overLimit (length s)) e
     go true q = let z : _≡_ {A = ℕ} 0 1 = cc in absurd (omega arith)
     go false q = cc
 
--- it begins at an offset, and ends inside the file where it has bases
+-- it begins at an offset, and ends inside the file if it has bases
 pub run-fits : (s : List ℕ) (c : Cursor) (r : RunRead) (x : Span) → r ≡ readRun s c → r ≡ run.Run x → length s < 2 ^ 64 → x .start < 2 ^ 64 → x .start + x .length < 2 ^ 64
 unfolding runAt
 run-fits s c r x e q h m = go (leb (x .start) (length s)) refl

@@ -1,4 +1,4 @@
--- A plain line, as a host meets it: what wakeluri_index_line tells is put in a row of a table of bytes, and wakeluri_write_index_line writes
+-- A plain line, as a host meets it: it puts the answer of wakeluri_index_line in a row of a table of bytes, and wakeluri_write_index_line writes
 -- that row with the same bytes.
 use Prim.Native.Nat.{ℕ, _≤_, _<_}
 use mathlib.Core.Path.{_≡_, _∙_}
@@ -14,7 +14,7 @@ use Rattle.wakeluri.specs.Told.{writtenTold}
 use Rattle.wakeluri.specs.Told.{toldRow}
 use Rattle.wakeluri.specs.PlainAgainLaws.{told-plain}
 
--- the bytes of a table of which n rows are in use, with the told numbers in row r; there is room for the line
+-- the bytes of a table with n rows in use, with the answered numbers in row r; there is room for the line
 pub plain-again : (line table : List ℕ) (n r : ℕ) (out : List ℕ) → entryAnswer (readLine line) .plain ≡ 1
     → n ≤ rowCount (numbersIn table) → r < n → rowAt (numbersIn table) r ≡ toldRow (entryAnswer (readLine line)) → length line ≤ length out
     → writtenTold (writtenAs line (numbersIn table) n r out) ≡ leaves (answerOf fine (length line) 0) (line ++ drop (length line) out)

@@ -1,4 +1,4 @@
--- A law for PlainAgain.antt: a line that is told plain reads, and its entry is plain.
+-- A law for PlainAgain.antt: a line that is answered as plain reads, and its entry is plain.
 use Prim.Native.Nat.{ℕ}
 use mathlib.Core.Path.{_≡_, refl}
 use mathlib.Core.List.{List}
@@ -11,7 +11,7 @@ use Rattle.index_line.specs.declared.LineRead.the-variants as read
 use Rattle.wakeluri.specs.Answer.{flagOf, entryAnswer}
 use Rattle.wakeluri.specs.Told.{toldRow}
 
--- what is told plain is a line that reads, and is plain
+-- if the answer says plain, the line reads and is plain
 pub record ToldPlain (l : List ℕ) : Type 0 where
   pub entry : Entry
   pub reads : readLine l ≡ read.Row entry

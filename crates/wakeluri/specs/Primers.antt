@@ -1,4 +1,4 @@
--- Answers about primers as a host is told them.
+-- Answers about primers as a host gets them.
 use Rattle.refusal.specs.Numbers.{numbersOf}
 use Rattle.primer.specs.declared.Counted.{Counted}
 use Rattle.primer.specs.declared.Counted.the-variants as counted

@@ -1,4 +1,4 @@
--- What a host is told of FASTQ: rows of seven numbers, index lines of six columns, and reads of bases and of qualities.
+-- What a host gets of FASTQ: rows of seven numbers, index lines of six columns, and reads of bases and of qualities.
 use Prim.Native.Nat.{ℕ}
 use mathlib.Core.Path.{_≡_}
 use mathlib.Core.List.{List}
@@ -33,7 +33,7 @@ use Rattle.wakeluri.specs.Answer.{fine, noRecord, flagOf, filledAnswer}
 unfoldable pub partGiven : ℕ → Part
 partGiven which = cond (eqb which 0) Bases Qualities
 
--- ---- what a host is told
+-- ---- what a host gets
 
 -- no row
 abbrev pub noRow : QualityRow

@@ -1,4 +1,4 @@
--- What a host learns of a sheet by what it is told, over the bytes that it lends: the single reads joined in order, or nothing.
+-- What a host learns of a sheet by its answer, over the bytes that it lends: the single reads joined in order, or nothing.
 use Prim.Native.Nat.{ℕ, _≤_}
 use mathlib.Core.Path.{_≡_, refl, ap, _∙_}
 use mathlib.Core.List.{List}

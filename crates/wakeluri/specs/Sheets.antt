@@ -1,4 +1,4 @@
--- What a host is told of a sheet, and what it leaves in the output and the list of starts.
+-- What a host gets of a sheet, and what it leaves in the output and the list of starts.
 use Prim.Native.Nat.{ℕ}
 use mathlib.Core.Path.{_≡_, ap, _∙_}
 use mathlib.Core.List.{List}

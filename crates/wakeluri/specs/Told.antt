@@ -1,4 +1,4 @@
--- What a call tells a host, and what it leaves in the bytes that are lent to it: an output, or a table.
+-- What a call answers a host, and what it leaves in the bytes that are lent to it: an output, or a table.
 use Prim.Native.Nat.{ℕ}
 use mathlib.Core.List.{List}
 use mathlib.Core.Bool.{cond}
@@ -34,7 +34,7 @@ filledTold f t = leaves (filledAnswer (length (f .rows)) (f .stop)) (withNumbers
 unfoldable pub lineTold : List ℕ → ℕ → SpanAnswer
 lineTold s at = cond (overLimit (length s)) (spanOf (numbersOf TooLong) 0 noSpan 0) (lineAnswer (readLine s (record { at = at })))
 
--- the numbers of a row, as they are told
+-- the numbers of a row, as a host gets them
 abbrev pub toldRow : RowAnswer → Record
 toldRow a = record {
   «name_start» = a .«name_start»;

@@ -1,4 +1,4 @@
--- The part of a file that a region needs, as a host is told it.
+-- The part of a file that a region needs, as a host gets it.
 use Rattle.refusal.specs.declared.Numbers.{Numbers}
 use Rattle.refusal.specs.Numbers.{numbersOf}
 use Rattle.region.specs.declared.Part.{Part}

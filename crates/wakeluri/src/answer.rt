@@ -1,4 +1,4 @@
-// Answers as a host is told them, and each call's answer as one of them.
+// Answers as a host gets them, and each call's answer as one of them.
 use checker::Verdict;
 use definition::DefinitionRead;
 use index::Found;
@@ -15,7 +15,7 @@ use table::Stop;
 ghost use mathlib.Core.Path.{_≡_};
 ghost use Rattle.wakeluri.specs.Answer.{fine, noSpan, noRecord, flagOf, answerOf, definitionOf, spanOf, rowTold, writtenAnswer, foundAnswer, sequenceAnswer, filledAnswer, verdictAnswer, definitionAnswer, lineAnswer, entryAnswer, stepAnswer};
 
-// A refusal, 0 where there is none; a count (of bytes or of rows, or a row's number), and the place that a read leaves.
+// A refusal, 0 if there is none; a count (of bytes or of rows, or a row's number), and the place where a read stopped.
 #[repr(C)]
 pub struct Answer {
     pub refusal: u64,
@@ -25,7 +25,7 @@ pub struct Answer {
     pub next: u64,
 }
 
-// A name and a description by their places in a definition line; 0 and 0 where there is no description.
+// A name and a description by their places in a definition line; 0 and 0 if there is no description.
 #[repr(C)]
 pub struct DefinitionAnswer {
     pub refusal: u64,
@@ -37,7 +37,7 @@ pub struct DefinitionAnswer {
     pub description_length: u64,
 }
 
-// Some bytes of a file by their place, and the place behind them; `found` is 0 where there is no line.
+// Some bytes of a file by their place, and the place behind them; `found` is 0 if there is no line.
 #[repr(C)]
 pub struct SpanAnswer {
     pub refusal: u64,
@@ -186,7 +186,7 @@ pub(crate) fn found_answer(r: Found) -> Answer
     }
 }
 
-// How many bases were read, and the place that is left.
+// How many bases were read, and the place where the read stopped.
 pub(crate) fn sequence_answer(r: SequenceRead) -> Answer
     ensures { λ a. ⌜ a ≡ sequenceAnswer r ⌝ }
 {
@@ -196,7 +196,7 @@ pub(crate) fn sequence_answer(r: SequenceRead) -> Answer
     }
 }
 
-// How many rows are held.
+// How many rows the table has now.
 pub(crate) fn filled_answer(r: Filled) -> Answer
     ensures { λ a. ⌜ a ≡ filledAnswer (r .rows) (r .stop) ⌝ }
 {

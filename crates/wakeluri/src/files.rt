@@ -34,7 +34,7 @@ pub extern "C" fn wakeluri_index_file(file: &[u8], table: &mut [u8]) -> Answer
     answer::filled_answer(filled)
 }
 
-// The same by the complete rule: every file that any index leads through is taken.
+// The same by the complete rule, which takes every file that has a right index at all.
 #[no_mangle]
 pub extern "C" fn wakeluri_index_complete(file: &[u8], table: &mut [u8]) -> Answer
     ensures { λ a. ⌜ leaves a (now (table .exit)) ≡ filledTold (rowsIn Complete (now (file .entry)) (rowCount (numbersIn (now (table .entry))))) (now (table .entry)) ⌝ }

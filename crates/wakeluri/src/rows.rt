@@ -15,7 +15,7 @@ ghost use Rattle.wakeluri.specs.Answer.{boundOf, foundAnswer};
 ghost use Rattle.output.specs.Outcome.{leaves};
 ghost use Rattle.wakeluri.specs.Told.{writtenTold};
 
-// A bound as a host gives it: absent where its flag is 0.
+// A bound as a host gives it: absent if its flag is 0.
 pub(crate) fn bound(flag: u64, p: u64) -> Bound
     ensures { λ r. ⌜ r ≡ boundOf flag p ⌝ }
 {

@@ -14,7 +14,7 @@ fn is_given(flag: u64) -> bool
     flag != 0
 }
 
-// A record: its definition line, and its bases in lines of a width. There is no description where its flag is 0.
+// A record: its definition line, and its bases in lines of a width. There is no description if its flag is 0.
 #[no_mangle]
 pub extern "C" fn wakeluri_write_record(
     name: &[u8],

@@ -1,4 +1,4 @@
--- What the calls of the other crates answer for what the call of writing has written, where it is within the limit.
+-- What the calls of the other crates answer for a written record within the limit.
 use Prim.Native.Nat.{ℕ, _+_, _≤_, _<_}
 use mathlib.Core.Path.{_≡_, refl, ap, sym, _∙_}
 use mathlib.Core.List.{List, [], _∷_}

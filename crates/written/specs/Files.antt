@@ -45,7 +45,7 @@ unfoldable pub fileText : List Item → List ℕ
 fileText [] = []
 fileText (x ∷ xs) = textOf x ++ fileText xs
 
--- its rows, where it begins at an offset
+-- its rows, if it begins at an offset
 unfoldable pub rowsFrom : ℕ → List Item → List Record
 rowsFrom at [] = []
 rowsFrom at (x ∷ xs) = itemRow at x ∷ rowsFrom (at + length (textOf x)) xs
@@ -110,7 +110,7 @@ index-is (x ∷ xs) s at e =
 pub files-indexed : (xs : List Item) → Written xs → fileAt (fileText xs) 0 ≡ record { rows = rowsFrom 0 xs; stop = Ended }
 files-indexed xs z = file-rows xs z (fileText xs) 0 refl
 
--- the checker accepts it with its index, where both are within the limit
+-- the checker accepts it with its index, if both are within the limit
 pub written-checked : (xs : List Item) → Written xs → length (fileText xs) ≤ limit → length (indexFrom 0 xs) ≤ limit → checkOf (fileText xs) (indexFrom 0 xs) ≡ Accepted
 written-checked xs z m n =
     let f : List ℕ = fileText xs in

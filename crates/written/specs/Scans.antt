@@ -1,4 +1,4 @@
--- The scanning rule gives a written record's bases too, and leaves its end.
+-- The scanning rule gives a written record's bases too, and stops at its end.
 use Prim.Native.Nat.{ℕ, _+_}
 use mathlib.Core.Path.{_≡_, refl, ap, sym, _∙_}
 use mathlib.Core.List.{List, [], _∷_, _++_, append-nil}

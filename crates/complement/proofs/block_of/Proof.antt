@@ -1,4 +1,4 @@
--- `complement::block_of` meets its contract: before each turn the mark is 0 exactly where the first `i` bytes are of the kind.
+-- `complement::block_of` meets its contract: before each turn the mark is 0 exactly if the first `i` bytes are of the kind.
 -- Assumes nothing.
 use Prim.Native.Nat.{_≤_, _<_, _-_}
 use mathlib.Core.Path.{_≡_, refl}

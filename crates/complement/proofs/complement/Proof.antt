@@ -1,4 +1,4 @@
--- `complement::complement` meets its contract: it is what `complement_all` tells, this way.
+-- `complement::complement` meets its contract: it is what `complement_all` answers, this way.
 -- Assumes nothing.
 use borrow.Author.Needs.{needs}
 use Rattle.complement.specs.Kinds.{judgedOf}

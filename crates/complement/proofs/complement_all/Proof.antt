@@ -1,5 +1,5 @@
--- `complement::complement_all` meets its contract: the two first tests are those of `sized`, past both the bytes decide, and nothing is
--- written where one of them has no complement. Assumes nothing.
+-- `complement::complement_all` meets its contract: its first two tests are those of `sized`. Past both the bytes decide, and nothing is
+-- written if one of them has no complement. Assumes nothing.
 use mathlib.Core.Path.{_≡_, sym, _∙_}
 use borrow.Author.Needs.{needs}
 use borrow.Author.Tests.{lt-ltb, le-ltb}
@@ -27,7 +27,7 @@ returns-2 c =
     rw (c .no-room .ensures)
     (told-refused _ _ _ _ (rw (← c .before .before .before .over-limit .ensures, c .before .before .if1 .left, lt-ltb _ _ (c .before .if2 .taken))))
 
--- past both tests the sizes have nothing against them
+-- past both tests the sizes are fine
 fits : (c : tie.Else2) (o : Judged) → let a = c .before .before .before .before .before .args in sized (a .bases .now) (length (a .out .now)) o ≡ o
 unfolding sized
 fits c o = rw (← c .before .before .over-limit .ensures, c .before .if1 .left, le-ltb _ _ (c .if2 .left))

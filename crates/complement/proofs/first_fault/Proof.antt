@@ -1,5 +1,5 @@
--- `complement::first_fault` meets its contract: while no byte that it passed is bad, what the bytes from `i` on have against them is what
--- all have against them. Assumes nothing.
+-- `complement::first_fault` meets its contract: while no byte that it passed is bad, the first refusal of the bytes from `i` on is the first
+-- of all. Assumes nothing.
 use Prim.Native.Nat.{_≤_, _-_}
 use mathlib.Core.Path.{_≡_, ap}
 use borrow.Author.Needs.{needs}

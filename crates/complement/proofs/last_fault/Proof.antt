@@ -1,5 +1,5 @@
--- `complement::last_fault` meets its contract: while no byte that it passed is bad, what the bytes before `i` have against them is what
--- all have against them. Assumes nothing.
+-- `complement::last_fault` meets its contract: while no byte that it passed is bad, the last refusal of the bytes before `i` is the last
+-- of all. Assumes nothing.
 use Prim.Native.Nat.{_≤_}
 use mathlib.Core.Path.{_≡_}
 use borrow.Author.Needs.{needs}

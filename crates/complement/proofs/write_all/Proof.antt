@@ -1,4 +1,4 @@
--- `complement::write_all` meets its contract: bytes that are all of a kind have nothing against them, and all are written.
+-- `complement::write_all` meets its contract: no refusal stands against bytes that are all of a kind, and all are written.
 -- Assumes nothing.
 use borrow.Author.Needs.{needs}
 use lib.ListN.{length-map, length-reverse}

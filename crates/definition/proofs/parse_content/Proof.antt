@@ -46,7 +46,7 @@ within c =
 kept-end-requires : tie.Need-kept-end-requires
 kept-end-requires c κs = within c
 
--- what is told, by the places found
+-- the answer, by the places found
 named : (c : tie.After-kept-end) → (r : Span) → described (c .before .run-end2 .result) (c .kept-end .result - c .before .run-end2 .result) ≡ r
     → Named (record { name = record { start = 1; length = c .before .before .before .run-end .result - 1 }; description = r }) ≡ markedSays (c .before .before .before .before .before .before .before .before .args .mark) (c .before .before .before .before .before .before .before .before .args .content .now)
 named c r e =

@@ -1,4 +1,4 @@
--- `indexer::index_at` meets its contract: past the end there is no record, and else the definition line says how to go on.
+-- `indexer::index_at` meets its contract: past the end there is no record; before it the definition line decides how to go on.
 -- Assumes nothing.
 use borrow.Author.Needs.{needs}
 use Prim.Native.Nat.{_≤_, _<_, _-_}

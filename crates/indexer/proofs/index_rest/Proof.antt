@@ -1,4 +1,4 @@
--- `indexer::index_rest` meets its contract: the lines like the first are passed, and what the one behind them says is what all say.
+-- `indexer::index_rest` meets its contract: it passes the lines like the first, and the line behind them decides for all.
 -- Assumes nothing.
 use Prim.Native.Nat.{_≤_, _+_, _*_}
 use mathlib.Core.Path.{_≡_, refl, _∙_}

@@ -1,4 +1,4 @@
--- `primer::find`: before each block the state is that of the bytes passed, and no place that they tell of has the primer.
+-- `primer::find`: before each block the state is that of the bytes passed, and the primer has not ended among them.
 -- Assumes nothing.
 use Prim.Native.Nat.{_-_}
 use native.Mathlib.Omega.{arith}

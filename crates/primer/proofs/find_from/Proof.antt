@@ -1,4 +1,4 @@
--- `primer::find_from`: as in `find`, byte by byte; the highest bit tells that the primer ends here.
+-- `primer::find_from`: as in `find`, byte by byte; the highest bit says that the primer ends here.
 -- Assumes nothing.
 use Prim.Native.Nat.{_≤_, _<_, _+_, _-_, _^_}
 use mathlib.Core.Path.{_≡_}

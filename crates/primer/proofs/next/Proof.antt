@@ -1,4 +1,4 @@
--- `primer::next` meets its contract: it searches from the place on, and tells how much later that is.
+-- `primer::next` meets its contract: it searches from the place on, and adds that place to what it finds.
 -- Assumes nothing.
 use mathlib.Core.Path.{_≡_, sym, _∙_}
 use native.Mathlib.Omega.{arith}

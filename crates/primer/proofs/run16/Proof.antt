@@ -1,4 +1,4 @@
--- `primer::run16`: the bits of all states on the way are kept, so that one test tells whether any had the highest.
+-- `primer::run16`: it keeps the bits of all states on the way, so that one test shows whether any had the highest.
 -- Assumes nothing.
 use Prim.Native.Nat.{_≤_, _<_, _+_, _-_, _*_, _^_}
 use mathlib.Core.Path.{_≡_}

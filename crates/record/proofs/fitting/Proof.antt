@@ -1,5 +1,5 @@
--- `record::fitting` meets its contract: the product is compared by a quotient and each sum by a difference, so where a test fails
--- the offset is past 64 bits, and where all pass it is the sum that is made.
+-- `record::fitting` meets its contract: a quotient judges the product and a difference each sum. So if a test fails the offset is past
+-- 64 bits, and if all pass it is the sum that is made.
 -- Assumes nothing.
 use borrow.Author.Needs.{needs}
 use Prim.Native.Nat.{_*_, _≤_}

@@ -1,5 +1,5 @@
--- `region::needed_bytes` meets its contract: the stated length is judged first, then bounds and row, and of a row `needed_region` tells the
--- part.
+-- `region::needed_bytes` meets its contract: the stated length is judged first, then bounds and row, and `needed_region` gives the part of a
+-- row.
 -- Assumes nothing.
 use mathlib.Core.Path.{_≡_, sym, _∙_}
 use mathlib.Core.Bool.{false}

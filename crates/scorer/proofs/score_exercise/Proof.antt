@@ -1,4 +1,4 @@
--- `scorer::score_exercise` meets its contract: the size is judged first, then what is asked, and of a row `score_row` tells the score.
+-- `scorer::score_exercise` meets its contract: the size is judged first, then what is asked, and `score_row` gives the score for a row.
 -- Assumes nothing.
 use mathlib.Core.Path.{sym, _∙_}
 use Rattle.table.specs.Rows.{heldAt}

@@ -1,4 +1,4 @@
--- `scorer::score_row` meets its contract: what is read is the key, and it lies in the room.
+-- `scorer::score_row` meets its contract: the read gives the key, and it lies in the room.
 -- Assumes nothing.
 use Rattle.scorer.specs.Laws.{key-within, key-size, row-refused, row-counted}
 use borrow.Author.Needs.{needs}

@@ -1,5 +1,5 @@
 -- `sequence::copy_bases` meets its contract: what a scan from `i` for the rest writes behind `to` bytes of the output as it is now,
--- is what the whole scan writes into the output as it was.
+-- equals what the whole scan writes into the output as it was.
 -- Assumes nothing.
 use Prim.Native.Nat.{_+_, _-_, _≤_}
 use mathlib.Core.Path.{_≡_, ap, sym, _∙_}

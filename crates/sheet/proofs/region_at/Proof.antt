@@ -45,7 +45,7 @@ use Rattle.sheet.proofs.region_at as region
 use Rattle.sheet.proofs.region_at.Statement as stated
 use Rattle.sheet.proofs.region_at.Code as code
 
--- the struct's type, and the ways it is spelled, told and copied
+-- the struct's type, and how it is spelled, shown and copied
 abbrev R : RattleType
 R = T.the-row
 

@@ -1,4 +1,4 @@
--- `record::Record::described` meets its contract: only the description's span is another.
+-- `record::Record::described` meets its contract: only the description's span changes.
 -- Assumes nothing.
 use borrow.Author.Needs.{needs}
 use Rattle.record.proofs.Record.described.Statement.{statement}

@@ -1,5 +1,5 @@
--- `record::Record::offset_of` meets its contract: where a number is 0 the definition has no offset, and elsewhere `fitting` is asked
--- for the definition's own sum.
+-- `record::Record::offset_of` meets its contract: if a number is 0 the definition has no offset, and else `fitting` makes the
+-- definition's own sum.
 -- Assumes nothing.
 use borrow.Author.Needs.{needs}
 use mathlib.Core.Path.{sym, _∙_}

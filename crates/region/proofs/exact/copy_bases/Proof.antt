@@ -1,5 +1,5 @@
 -- `region::exact::copy_bases` meets its contract: line by line, the output with the bases that are still to be copied is the one
--- that was promised, and the next line begins where the rule says. The code does not hold the first base, so promise and invariant are
+-- that was promised, and the next line begins where the rule says. The code does not keep the first base, so promise and invariant are
 -- for every base with which a copy can begin there; there is one.
 -- Assumes nothing.
 use Prim.Native.Nat.{ℕ, _+_, _-_, _≤_}

@@ -1,4 +1,4 @@
--- `region::exact::count_inside` meets its contract: where offsets do not go back, and the last is in the file, all are; else
+-- `region::exact::count_inside` meets its contract: if offsets do not go back, and the last is in the file, all are; else
 -- they are counted in the part that is the whole file.
 -- Assumes nothing.
 use mathlib.Core.Path.{sym, _∙_, refl}

@@ -1,4 +1,4 @@
--- `region::inside::all_in` meets its contract: four bases are judged, and where they lie in the part all do.
+-- `region::inside::all_in` meets its contract: it judges four bases, and if they lie in the part all do.
 -- Assumes nothing.
 use Prim.Native.Nat.{_+_, _-_}
 use mathlib.Core.Path.{sym, refl, _∙_}

@@ -1,4 +1,4 @@
--- `region::inside::count_to` meets its contract: the count is between the two ends, and they come to stand side by side.
+-- `region::inside::count_to` meets its contract: the count lies between the two ends, and these close in on it.
 -- Assumes nothing.
 use Prim.Native.Nat.{ℕ, _+_, _-_, _/_, _≤_, _<_, min}
 use mathlib.Core.Path.{_≡_, sym, _∙_}
@@ -45,7 +45,7 @@ all-in-requires c κs =
 loop-less : tie.Need-loop-less Inv-loop μ-loop
 loop-less c = omega (arith, half _ (c .before .before .loop-test .taken))
 
--- of the bases up to the middle as many are in the part as of all, if there are so many
+-- of the bases up to the middle as many are in the part as of all bases, if that many are before it
 fewer : (part : Part) (x : Record) (a : Position) (m n : ℕ) → m ≤ n → all part x a m ≡ min m (all part x a n)
 fewer part x a m n h = part-fewer _ _ _ _ _ _ m n h
 

@@ -1,4 +1,4 @@
--- `sheet::bytes::read_sheet` meets its contract: where it stands is on the way to what the sheet leaves, at every turn.
+-- `sheet::bytes::read_sheet` meets its contract: at every turn the state is on the way to what the sheet leaves.
 -- Assumes nothing.
 use Prim.Native.Nat.{_<_}
 use mathlib.Core.Path.{_≡_, refl, _∙_}

@@ -1,4 +1,4 @@
--- `sheet::going::weigh` meets its contract: behind the last region the total is held against the room.
+-- `sheet::going::weigh` meets its contract: behind the last region it compares the total with the room.
 -- Assumes nothing.
 use mathlib.Core.Path.{_∙_}
 use borrow.Author.Needs.{needs}

@@ -1,4 +1,4 @@
--- `wakeluri::bases::wakeluri_reverse_complement` meets its contract: what the call answers is told, and what it leaves is left.
+-- `wakeluri::bases::wakeluri_reverse_complement` meets its contract: it gives the call's answer as numbers, and leaves the lent bytes as the call does.
 -- Assumes nothing.
 use Rattle.wakeluri.specs.Laws.{written-told}
 use borrow.Author.Needs.{needs}

@@ -1,4 +1,4 @@
--- `wakeluri::course::wakeluri_read_exercise` meets its contract: what the call answers is told.
+-- `wakeluri::course::wakeluri_read_exercise` meets its contract: it gives the call's answer as numbers.
 -- Assumes nothing.
 use mathlib.Core.Path.{ap, _∙_}
 use borrow.Author.Needs.{needs}

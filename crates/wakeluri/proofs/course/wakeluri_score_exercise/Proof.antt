@@ -1,4 +1,4 @@
--- `wakeluri::course::wakeluri_score_exercise` meets its contract: what the call answers is told, and what it leaves is left.
+-- `wakeluri::course::wakeluri_score_exercise` meets its contract: it gives the call's answer as numbers, and leaves the lent bytes as the call does.
 -- Assumes nothing.
 use borrow.Author.Needs.{needs}
 use Rattle.wakeluri.specs.Course.{scored-told}

@@ -1,7 +1,5 @@
 -- `wakeluri::feeding::feeder_by` meets its contract: case by case.
 -- Assumes nothing.
--- `wakeluri::feeding::feeder_by` meets its contract: case by case.
--- Assumes nothing.
 use borrow.Author.Needs.{needs}
 use Rattle.wakeluri.proofs.feeding.feeder_by.Statement.{statement}
 use Rattle.wakeluri.proofs.feeding.feeder_by.Tie as tie

@@ -1,7 +1,5 @@
 -- `wakeluri::feeding::phase_by` meets its contract: case by case.
 -- Assumes nothing.
--- `wakeluri::feeding::phase_by` meets its contract: case by case.
--- Assumes nothing.
 use Rattle.wakeluri.specs.Feeding.{phaseBy}
 use borrow.Author.Tests.{eq-eqb, ne-eqb}
 use borrow.Author.Needs.{needs}

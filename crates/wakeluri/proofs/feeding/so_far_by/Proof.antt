@@ -1,7 +1,5 @@
 -- `wakeluri::feeding::so_far_by` meets its contract: case by case.
 -- Assumes nothing.
--- `wakeluri::feeding::so_far_by` meets its contract: case by case.
--- Assumes nothing.
 use Rattle.wakeluri.specs.Feeding.{soFarBy}
 use borrow.Author.Tests.{eq-eqb, ne-eqb}
 use borrow.Author.Needs.{needs}

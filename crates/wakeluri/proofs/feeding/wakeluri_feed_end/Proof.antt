@@ -1,4 +1,4 @@
--- `wakeluri::feeding::wakeluri_feed_end` meets its contract: what the call leaves is told, to the byte.
+-- `wakeluri::feeding::wakeluri_feed_end` meets its contract: it gives what the call leaves as numbers, and the table to the byte.
 -- Assumes nothing.
 use Rattle.wakeluri.specs.Feeding.{call-told}
 use native.Mathlib.Omega.{arith}

@@ -1,4 +1,4 @@
--- `wakeluri::files::wakeluri_index_file` meets its contract: what the call by the original's rule answers is told, and what it leaves is left.
+-- `wakeluri::files::wakeluri_index_file` meets its contract: it gives the answer of the call by the original's rule as numbers, and leaves the table as that call does.
 -- Assumes nothing.
 use Rattle.wakeluri.specs.Laws.{filled-told}
 use borrow.Author.Needs.{needs}

@@ -1,4 +1,4 @@
--- `wakeluri::files::wakeluri_index_record` meets its contract: what the call answers is told.
+-- `wakeluri::files::wakeluri_index_record` meets its contract: it gives the call's answer as numbers.
 -- Assumes nothing.
 use mathlib.Core.Path.{ap, _∙_}
 use Rattle.wakeluri.specs.Answer.{stepAnswer}

@@ -1,4 +1,4 @@
--- `wakeluri::qualities::wakeluri_fastq_read` meets its contract: what the call answers is told, and what it leaves is left; a bound is absent
+-- `wakeluri::qualities::wakeluri_fastq_read` meets its contract: it gives the call's answer as numbers, and leaves the lent bytes as the call does; a bound is absent
 -- by its flag, and the part is chosen by its own.
 -- Assumes nothing.
 use Rattle.wakeluri.specs.Laws.{written-told}

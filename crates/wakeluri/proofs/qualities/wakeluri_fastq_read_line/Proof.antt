@@ -1,4 +1,4 @@
--- `wakeluri::qualities::wakeluri_fastq_read_line` meets its contract: what the call answers is told.
+-- `wakeluri::qualities::wakeluri_fastq_read_line` meets its contract: it gives the call's answer as numbers.
 -- Assumes nothing.
 use mathlib.Core.Path.{ap, _∙_}
 use Rattle.wakeluri.specs.Qualities.{fastqAnswer}

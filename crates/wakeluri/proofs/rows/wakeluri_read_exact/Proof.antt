@@ -1,4 +1,4 @@
--- `wakeluri::rows::wakeluri_read_exact` meets its contract: what the call answers is told, and what it leaves is left; a bound is absent by its flag.
+-- `wakeluri::rows::wakeluri_read_exact` meets its contract: it gives the call's answer as numbers, and leaves the lent bytes as the call does; a bound is absent by its flag.
 -- Assumes nothing.
 use Rattle.wakeluri.specs.Laws.{written-told}
 use Rattle.table.specs.Rows.{heldAt}

@@ -1,4 +1,4 @@
--- `wakeluri::scan::wakeluri_read_run` meets its contract: what the call answers is told; the place behind a run is inside the file, or where the run would begin.
+-- `wakeluri::scan::wakeluri_read_run` meets its contract: it gives the call's answer as numbers; the place behind a run is inside the file, or where the run would begin.
 -- Assumes nothing.
 use mathlib.Core.Path.{sym, _∙_}
 use native.Mathlib.Omega.{arith}

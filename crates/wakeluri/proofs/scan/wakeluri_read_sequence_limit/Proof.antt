@@ -1,4 +1,4 @@
--- `wakeluri::scan::wakeluri_read_sequence_limit` meets its contract: what the call answers is told, and what it leaves is left.
+-- `wakeluri::scan::wakeluri_read_sequence_limit` meets its contract: it gives the call's answer as numbers, and leaves the lent bytes as the call does.
 -- Assumes nothing.
 use Rattle.wakeluri.specs.Laws.{sequence-told}
 use borrow.Author.Needs.{needs}

@@ -1,4 +1,4 @@
--- `wakeluri::text::wakeluri_index_content` meets its contract: what the call answers is told.
+-- `wakeluri::text::wakeluri_index_content` meets its contract: it gives the call's answer as numbers.
 -- Assumes nothing.
 use mathlib.Core.Path.{ap, _∙_}
 use Rattle.wakeluri.specs.Answer.{entryAnswer}

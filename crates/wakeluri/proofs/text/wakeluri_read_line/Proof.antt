@@ -1,4 +1,4 @@
--- `wakeluri::text::wakeluri_read_line` meets its contract: the size limit decides first, and else what the call answers is told.
+-- `wakeluri::text::wakeluri_read_line` meets its contract: the size limit decides first, and else it gives the call's answer as numbers.
 -- Assumes nothing.
 use mathlib.Core.Path.{sym, ap, _∙_}
 use Rattle.wakeluri.specs.Answer.{lineAnswer}

@@ -1,4 +1,4 @@
--- `wakeluri::window::wakeluri_needed_bytes` meets its contract: what the call answers is told; a bound is absent by its flag.
+-- `wakeluri::window::wakeluri_needed_bytes` meets its contract: it gives the call's answer as numbers; a bound is absent by its flag.
 -- Assumes nothing.
 use mathlib.Core.Path.{ap, _∙_}
 use borrow.Author.Needs.{needs}

@@ -1,5 +1,5 @@
 -- `reader::Reader::moved` meets its contract: a walk of its MIR, by hand. A struct is made anew of the slice that the one passed holds, and another number.
--- The struct is Copy: what it owns is had twice, one copy is kept whole for the exit, and the other, with the facts of the number in the place of at's, is what the result owns.
+-- The struct is Copy, so what it owns can be used twice: one copy stays whole for the exit; the other, with the facts of the new number in place of at's, is what the result owns.
 -- Assumes nothing.
 use mathlib.Core.Path.{refl}
 use Prim.Native.Nat.{ℕ, _<_, _^_}

@@ -1,5 +1,5 @@
 -- `reader::Reader::run` meets its contract: a walk of its MIR, by hand. The struct is taken apart, and `next_run` is called on the slice and the number. All that the proof knows of `next_run` is that it meets its contract.
--- The struct is Copy: what it owns is had twice, one copy is kept whole for the exit, and of the other what src owns goes to the callee, beside the lifetime's token, which comes back.
+-- The struct is Copy, so what it owns can be used twice: one copy stays whole for the exit; from the other, what src owns goes to the callee, with the lifetime's token, which comes back.
 -- Assumes nothing.
 use mathlib.Core.Path.{_≡_, refl}
 use Prim.Native.Nat.{_<_, _^_}
@@ -117,7 +117,7 @@ module _ {M : Type 1} (𝓤 : URA M) (H : Heap 𝓤) (A : Atoms 𝓤) (W : Given
       move ! (1 ∷ []) $ drop ! $ nothing ! $ owned ! usize (Is usize) (uint-makes 𝓤 H A W w64) (d .at) _ (refl, fits) $ fjoin ! $ move ! (1 ∷ 0 ∷ []) $ fjoin ! $
       move ! (2 ∷ 0 ∷ []) $ use2 W (raw (NextRun 𝓤 H A mem run .pre to)) asked $ frame ! $ done !)
 
-  -- of the callee's `ensured`, the clause alone: it has no `&mut`, so what is said of last values is dropped
+  -- from the callee's `ensured` only the clause is needed: there is no `&mut`, so nothing is said of last values
   said : (r : Span) → ent 𝓤 (ensured 𝓤 H A next-run.ended (next-run.clauses 𝓤 H A mem run) (κ, tt) (d .src, (d .at, tt)) tt r) (fact 𝓤 (r ≡ found))
   said r = exE 𝓤 _ (λ ws. snd∗ 𝓤 (sem 𝓤 H A (lasts next-run.ended (κ, tt) (d .src, (d .at, tt)) ws)) (fact 𝓤 (r ≡ found)))
 
