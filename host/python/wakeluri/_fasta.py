@@ -24,7 +24,7 @@ _SHORT = 1 << 16
 #: A read looks whether the file has changed if the last look is so many nanoseconds old.
 _DUE = 10_000_000
 
-#: What the quickest call raises where it is not asked for numbers: the other way says why, or takes them.
+#: What the quickest call raises if it is not given numbers: the slower way says why, or takes them.
 _NO_NUMBERS = (TypeError, ctypes.ArgumentError)
 
 _row = struct.Struct("<8Q")
@@ -420,7 +420,7 @@ class Fasta:
         return line[start : start + told_of.description_length].decode("utf-8", "surrogateescape")
 
     def _description_by_number(self, row: int, name: str) -> str | None:
-        """That of a record without bases, of which an index may say anything: by its number, in rows that are made of the file once."""
+        """The same for a record without bases, whose index line may say anything: by its number, in rows that are made from the file once."""
         if self._described is None:
             self._described = self._filled(library.wakeluri_index_complete, self._file.address, self._file.length, self.path)
         if row >= len(self._described) // ROW_BYTES:

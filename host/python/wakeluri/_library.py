@@ -1,4 +1,4 @@
-"""The shared library: where it is, what its calls take, and whether it is the one that this package was written for."""
+"""The shared library: where it is, what its calls take, and whether it fits this package."""
 
 from __future__ import annotations
 
@@ -21,7 +21,7 @@ _size = ctypes.c_size_t
 
 
 class Answer(ctypes.Structure):
-    """A refusal, 0 where there is none, with its two numbers; a count, and the place that a read leaves."""
+    """A refusal, 0 if there is none, with its two numbers; a count, and the place where a read stopped."""
 
     _fields_ = [(name, _u64) for name in ("refusal", "first", "second", "count", "next")]
 
