@@ -158,7 +158,7 @@ pub(crate) fn columns<const W: usize>(content: &[u8], start: u64, line: u64) -> 
     let name = fields.next().expect("a first field");
     let mut numbers = [0; W];
     (numbers[0], numbers[1]) = (start, n(name.len()));
-    for field in 2..W {
+    for (field, place) in numbers.iter_mut().enumerate().skip(2) {
         let Some(text) = fields.next() else {
             return no(10, line, n(field));
         };
@@ -168,7 +168,7 @@ pub(crate) fn columns<const W: usize>(content: &[u8], start: u64, line: u64) -> 
         if matches!(field, 4 | 5) && value == 0 {
             return no(12, line, n(field));
         }
-        numbers[field] = value;
+        *place = value;
     }
     Ok(numbers)
 }
