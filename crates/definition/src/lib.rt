@@ -65,11 +65,13 @@ pub fn run_end(l: &[u8], at: usize, space: bool) -> usize
     i
 }
 
-// The end of the bytes from `at` on without the whitespace at their end.
-fn kept_end(l: &[u8], at: usize) -> usize
-    requires { ⌜ at ≤ length (now l) ⌝ }
+// The end of the bytes from `at` on without the whitespace at their end; `at` if there are none.
+pub fn kept_end(l: &[u8], at: usize) -> usize
     ensures { λ r. ⌜ r ≡ at + keep isSpace (drop at (now (l .entry))) ⌝ }
 {
+    if l.len() <= at {
+        return at;
+    }
     let mut i = l.len();
     while at < i {
         let last = i - 1;

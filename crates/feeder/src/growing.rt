@@ -9,25 +9,8 @@ ghost use Prim.Native.Nat.{_+_, _≤_, _<_, _^_};
 ghost use lib.ListN.{length, drop};
 ghost use lib.Dec.{eqb};
 ghost use Rattle.lines.specs.Lines.{chop, ends, begins};
-ghost use Rattle.definition.specs.Definition.{isSpace, spaced, run, keep};
 ghost use Rattle.indexer.specs.LineSums.{grow, sumSays, blank};
 ghost use Rattle.feeder.specs.Waiting.{unpack, noLine, growBy};
-
-// How many bytes there are up to the last that is no whitespace.
-fn kept_end(l: &[u8]) -> usize
-    ensures { λ r. ⌜ r ≡ keep isSpace (now (l .entry)) ⌝ }
-{
-    let mut i = l.len();
-    while 0 < i {
-        let last = i - 1;
-        if definition::is_space(l[last]) {
-            i = last;
-        } else {
-            return i;
-        }
-    }
-    i
-}
 
 // Do some bytes end in LF.
 fn ends_line(l: &[u8]) -> bool
@@ -121,7 +104,7 @@ fn grown_kept(t: Waiting, l: &[u8]) -> usize
     requires { ⌜ t .width + length (now l) < 2 ^ 63 ⌝ }
     ensures { λ r. ⌜ r ≡ grow (unpack t) (now (l .entry)) .kept ⌝ }
 {
-    let k = kept_end(l);
+    let k = definition::kept_end(l, 0);
     if k == 0 {
         return t.kept;
     }

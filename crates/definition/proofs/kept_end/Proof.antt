@@ -17,8 +17,14 @@ Inv-loop l at i₀ i = (at ≤ i) × (i ≤ length l) × (keep isSpace (part l a
 abbrev μ-loop : tie.MeasureT-loop
 μ-loop l at i₀ i = i - at
 
+-- there is no byte from `at` on
+returns : tie.Need-returns Inv-loop μ-loop
+returns c =
+    let a = c .before .before .args in
+    omega (arith, keep-end isSpace (a .l .now) (a .at) (length (a .l .now)) (omega (arith, c .if1 .taken)), keep-all isSpace (a .l .now) (a .at))
+
 loop-holds : tie.Need-loop-holds Inv-loop μ-loop
-loop-holds c = (search needs, search needs, keep-all isSpace (c .before .args .l .now) (c .before .args .at))
+loop-holds c = (omega (arith, c .if1 .left), search needs, keep-all isSpace (c .before .before .args .l .now) (c .before .before .args .at))
 
 sub-last : tie.Need-sub-last Inv-loop μ-loop
 sub-last c = search needs
@@ -35,23 +41,23 @@ loop-less c = search needs
 loop-again : tie.Need-loop-again Inv-loop μ-loop
 loop-again c =
     let l = c .before .before .before .before in
-    let a = l .before .before .args in
-    let h = keep-more isSpace (a .l .now) (a .at) (l .loop .i) (l .loop .i - 1) (omega arith) (omega arith) (omega arith) (sym (c .before .is-space .ensures) ∙ c .if1 .taken) in
+    let a = l .before .before .before .args in
+    let h = keep-more isSpace (a .l .now) (a .at) (l .loop .i) (l .loop .i - 1) (omega arith) (omega arith) (omega arith) (sym (c .before .is-space .ensures) ∙ c .if2 .taken) in
     (omega arith, omega arith, sym h ∙ l .loop .inv .2)
-
-returns : tie.Need-returns Inv-loop μ-loop
-returns c =
-    let l = c .before .before .before .before in
-    let a = l .before .before .args in
-    omega (
-      arith,
-      keep-stop isSpace (a .l .now) (a .at) (l .loop .i) (l .loop .i - 1) (omega arith) (omega arith) (omega arith) (sym (c .before .is-space .ensures) ∙ c .if1 .left),
-    )
 
 returns-2 : tie.Need-returns-2 Inv-loop μ-loop
 returns-2 c =
+    let l = c .before .before .before .before in
+    let a = l .before .before .before .args in
+    omega (
+      arith,
+      keep-stop isSpace (a .l .now) (a .at) (l .loop .i) (l .loop .i - 1) (omega arith) (omega arith) (omega arith) (sym (c .before .is-space .ensures) ∙ c .if2 .left),
+    )
+
+returns-3 : tie.Need-returns-3 Inv-loop μ-loop
+returns-3 c =
     let l = c .before in
-    let a = l .before .before .args in
+    let a = l .before .before .before .args in
     omega (arith, keep-end isSpace (a .l .now) (a .at) (l .loop .i) (omega arith))
 
 pub kept-end-spec : {M : Type 1} → statement M
@@ -60,11 +66,12 @@ kept-end-spec =
     (tie.spec
     Inv-loop
     μ-loop
+    returns
     loop-holds
     sub-last
     shared-slice-read-is-space
     is-space-requires
     loop-less
     loop-again
-    returns
-    returns-2)
+    returns-2
+    returns-3)

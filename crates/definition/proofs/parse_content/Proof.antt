@@ -44,7 +44,7 @@ within c =
     omega (arith, run-within (spaced false) l 1 (omega arith), run-within (spaced true) l n (omega (arith, run-within (spaced false) l 1 (omega arith))))
 
 kept-end-requires : tie.Need-kept-end-requires
-kept-end-requires c κs = within c
+kept-end-requires c κs = search needs
 
 -- the answer, by the places found
 named : (c : tie.After-kept-end) → (r : Span) → described (c .before .run-end2 .result) (c .kept-end .result - c .before .run-end2 .result) ≡ r
