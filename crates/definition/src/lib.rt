@@ -98,7 +98,7 @@ fn word_end(l: &[u8], at: usize) -> usize
     i
 }
 
-// The end of the run of whitespace, or of bytes that are none, from `at` on.
+// The end of the run of whitespace from `at` on, or of the run of other bytes.
 pub fn run_end(l: &[u8], at: usize, space: bool) -> usize
     ensures { λ r. ⌜ r ≡ at + run (spaced space) (drop at (now (l .entry))) ⌝ }
 {
@@ -108,9 +108,8 @@ pub fn run_end(l: &[u8], at: usize, space: bool) -> usize
     word_end(l, at)
 }
 
-// The end of the bytes from `at` on without the whitespace at their end.
-fn kept_end(l: &[u8], at: usize) -> usize
-    requires { ⌜ at ≤ length (now l) ⌝ }
+// The end of the bytes from `at` on without the whitespace at their end; `at` if there are none.
+pub fn kept_end(l: &[u8], at: usize) -> usize
     ensures { λ r. ⌜ r ≡ at + keep isSpace (drop at (now (l .entry))) ⌝ }
 {
     if l.len() <= at {

@@ -4,12 +4,11 @@ use borrow.Author.Needs.{needs}
 use native.Mathlib.Omega.{arith}
 use mathlib.Core.Bool.{true, false}
 use mathlib.Core.Path.{_≡_}
-use Prim.Native.Nat.{_≤_, _-_}
-use lib.ListN.{length}
+use Prim.Native.Nat.{_-_}
 use Rattle.lines.specs.declared.Span.{Span}
-use Rattle.definition.specs.Definition.{spaced, described, markedSays}
+use Rattle.definition.specs.Definition.{described, markedSays}
 use Rattle.definition.specs.declared.Parsed.the-variants.{Named}
-use Rattle.definition.specs.Laws.{says-empty, says-prefix, says-no-name, says-named, described-none, described-some, run-within}
+use Rattle.definition.specs.Laws.{says-empty, says-prefix, says-no-name, says-named, described-none, described-some}
 use Rattle.definition.proofs.parse_content.Statement.{statement}
 use Rattle.definition.proofs.parse_content.Tie as tie
 
@@ -35,13 +34,6 @@ sub-t7 c = search needs
 
 run-end-requires-2 : tie.Need-run-end-requires-2
 run-end-requires-2 c κs = search needs
-
--- the description begins in the line
-within : (c : tie.After-run-end2) → c .run-end2 .result ≤ length (c .before .before .before .before .before .before .before .args .content .now)
-within c =
-    let l = c .before .before .before .before .before .before .before .args .content .now in
-    let n = c .before .before .run-end .result in
-    omega (arith, run-within (spaced false) l 1 (omega arith), run-within (spaced true) l n (omega (arith, run-within (spaced false) l 1 (omega arith))))
 
 kept-end-requires : tie.Need-kept-end-requires
 kept-end-requires c κs = search needs
