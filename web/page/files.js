@@ -26,7 +26,7 @@ async function hand(mine, which, file, progress) {
         next = part(at + PART);
         next?.catch(() => {});
         const told = await ask("take", { round: mine, file: which, at, bytes }, [bytes]);
-        progress(Math.min(at + PART, file.size) / file.size);
+        progress(Math.min(at + PART, file.size));
         if (told.refused) break;
     }
     return mine === round;
@@ -51,8 +51,10 @@ async function load(mine, inParts) {
     const fastq = await isFastq(fasta);
     if (mine !== round) return undefined;
     await ask("begin", { round: mine, fasta: fasta.size, index: fai?.size, fastq, inParts, strict });
-    if (!await hand(mine, "fasta", fasta, (part) => { byId("progress").value = part; })) return undefined;
-    if (fai && !await hand(mine, "index", fai, () => {})) return undefined;
+    // of both files together: an index of millions of reads is long too
+    const progress = (bytes) => { byId("progress").value = bytes / (fasta.size + (fai?.size ?? 0)); };
+    if (!await hand(mine, "fasta", fasta, progress)) return undefined;
+    if (fai && !await hand(mine, "index", fai, (bytes) => progress(fasta.size + bytes))) return undefined;
     byId("doing").textContent = t("files.judging");
     byId("progress").removeAttribute("value");
     const loading = performance.now() - start;
