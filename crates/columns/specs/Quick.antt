@@ -5,10 +5,11 @@ use mathlib.Core.List.{List, [], _∷_, _++_}
 use mathlib.Core.Bool.{Bool, true, false, cond, _&&_, true≢false}
 use native.Mathlib.Omega.{arith}
 use native.Mathlib.Numerals.{add-one}
-use lib.ListN.{length, take, drop, getD}
-use lib.Seq.{take-suc, take-all, take-length, length-take-le, drop-cons}
+use native.Mathlib.Nat.{add-zero}
+use lib.ListN.{length, take, drop, getD, length-drop}
+use lib.Seq.{take-suc, take-all, take-length, length-take-le, drop-cons, getD-drop}
 use lib.Dec.{eqb, ltb, leb}
-use borrow.Author.Tests.{eqb-true, le-ltb, ltb-true, ne-eqb, lt-ltb, le-leb}
+use borrow.Author.Tests.{eq-eqb, eqb-true, ltb-true, ne-eqb, lt-ltb, le-leb}
 use Rattle.columns.specs.Bytes.{is, firstWhere}
 use Rattle.columns.specs.Decimal.{isDigit, allDigits, valueFrom, numberFrom, digitsOf, numberOf, plainNumber}
 use Rattle.columns.specs.Fields.{fieldSays, zeroBarred, Numbers, numbersFrom}
@@ -39,21 +40,31 @@ Quick s tabs f = 0 < f .length → (f .plain ≡ true) × ((line place : ℕ) �
 unfoldable pub ReadAll : List ℕ → ℕ → List ℕ → Type 0
 ReadAll s name vs = (line : ℕ) → Are vs true ≡ numbersFrom line 2 (length vs) (behind (length vs) (drop name s))
 
+-- the digits at a place of some bytes end at another, have a value, and begin with no 0; or there are none
+pub record DigitsAt (s : List ℕ) (at v end : ℕ) : Type 0 where
+  pub from : at ≤ end
+  pub digits : FrontDigits (drop at s) v (end - at)
+  pub plain : at < end → getD s at 0 ≡ 48 → ⊥
+
+-- ---- where a field ends
+
 module _ (s : List ℕ) (at : ℕ) where
-  pub ends-all : (tabs : ℕ) → tabs ≡ 0 → eqb at (length s) ≡ endsAt s at tabs
+  ends-tab : (tabs : ℕ) → 0 < tabs → at < length s → getD s at 0 ≡ 9 → endsAt s at tabs ≡ true
   unfolding endsAt
-  ends-all zero h = refl
-  ends-all (suc tabs) h = absurd (omega arith)
+  ends-tab zero h l e = absurd (omega arith)
+  ends-tab (suc tabs) h l e = rw (lt-ltb at (length s) l, e)
 
-  pub ends-out : (tabs : ℕ) → (tabs ≡ 0 → ⊥) → length s ≤ at → false ≡ endsAt s at tabs
+  -- the same by the bytes from a place on
+  ends-part : (a tabs : ℕ) → a ≤ at → endsAt s at tabs ≡ true → endsAt (drop a s) (at - a) tabs ≡ true
   unfolding endsAt
-  ends-out zero h l = absurd (h refl)
-  ends-out (suc tabs) h l = rw (le-ltb at (length s) l)
-
-  pub ends-tab : (tabs : ℕ) → (tabs ≡ 0 → ⊥) → at < length s → eqb (getD s at 0) 9 ≡ endsAt s at tabs
-  unfolding endsAt
-  ends-tab zero h l = absurd (h refl)
-  ends-tab (suc tabs) h l = rw (lt-ltb at (length s) l)
+  ends-part a zero h e = eq-eqb (at - a) (length (drop a s)) (omega (arith, eqb-true at (length s) e, length-drop a s))
+  ends-part a (suc tabs) h e = go (ltb at (length s)) refl e
+    where
+      go : (t : Bool) → ltb at (length s) ≡ t → (t && eqb (getD s at 0) 9) ≡ true → (ltb (at - a) (length (drop a s)) && eqb (getD (drop a s) (at - a) 0) 9) ≡ true
+      go true q b =
+          let k : a + (at - a) ≡ at = omega arith in
+          rw (lt-ltb (at - a) (length (drop a s)) (omega (arith, ltb-true at (length s) q, length-drop a s)), getD-drop a s (at - a) 0, k) b
+      go false q b = absurd (true≢false (sym b))
 
 -- ---- digits
 
@@ -85,6 +96,27 @@ front-more s v n h l lo hi r =
       value = rw (q, value-more 0 (take n s) (getD s n 0), ← h .value);
       small = omega arith;
     }
+
+-- the digits at a place
+
+digits-none : (s : List ℕ) (at : ℕ) → FrontDigits (drop at s) 0 (at - at)
+digits-none s at = let z : at - at ≡ 0 = omega arith in rw z (front-none (drop at s))
+
+pub at-none : (s : List ℕ) (at : ℕ) → DigitsAt s at 0 at
+at-none s at = record { from = omega arith; digits = digits-none s at; plain = λ h e. omega arith }
+
+pub at-more : (s : List ℕ) (at v i : ℕ) → at ≤ i → FrontDigits (drop at s) v (i - at) → i < length s → 48 ≤ getD s i 0 → getD s i 0 ≤ 57 → v < 1844674407370955160
+    → FrontDigits (drop at s) (v * 10 + (getD s i 0 - 48)) (i + 1 - at)
+at-more s at v i o h l lo hi r =
+    let k : at + (i - at) ≡ i = omega arith in
+    let g : getD (drop at s) (i - at) 0 ≡ getD s i 0 = getD-drop at s (i - at) 0 ∙ ap (λ (j : ℕ). getD s j 0) k in
+    let n : i + 1 - at ≡ i - at + 1 = omega arith in
+    rw (n, ← g) (front-more (drop at s) v (i - at) h (omega (arith, length-drop at s)) (rw g lo) (rw g hi) r)
+
+pub at-first : (s : List ℕ) (at : ℕ) → at < length s → 48 ≤ getD s at 0 → getD s at 0 ≤ 57 → FrontDigits (drop at s) (getD s at 0 - 48) (at + 1 - at)
+at-first s at l lo hi =
+    let e : 0 * 10 + (getD s at 0 - 48) ≡ getD s at 0 - 48 = omega arith in
+    rw e at (at-more s at 0 at (omega arith) (digits-none s at) l lo hi (omega arith))
 
 -- ---- the field
 
@@ -135,16 +167,12 @@ quick-says b s v n line place h z =
     let o : zeroBarred place v ≡ false = rw (ne-eqb v 0 (λ q. omega (arith, h .value, value-pos b (take n s) c))) in
     rw (k, p) at (field-good line place f v w o)
 
-pub quick-good : (s : List ℕ) (tabs v n : ℕ) → FrontDigits s v n → 0 < n → (getD s 0 0 ≡ 48 → ⊥) → endsAt s n tabs ≡ true
+quick-good : (s : List ℕ) (tabs v n : ℕ) → FrontDigits s v n → 0 < n → (getD s 0 0 ≡ 48 → ⊥) → endsAt s n tabs ≡ true
     → Quick s tabs (record { value = v; length = n; plain = true })
 unfolding Quick
 quick-good s tabs v zero h p z e l = absurd (omega arith)
 quick-good [] tabs v (suc n) h p z e l = absurd (omega (arith, h .within))
 quick-good (b ∷ s) tabs v (suc n) h p z e l = (refl, λ line place. rw (ends (b ∷ s) tabs (suc n) (h .digits) e) (quick-says b s v n line place h z))
-
-pub quick-none : (s : List ℕ) (tabs v : ℕ) → Quick s tabs (record { value = v; length = 0; plain = true })
-unfolding Quick
-quick-none s tabs v l = absurd (omega arith)
 
 -- ---- the loop: i numbers of n are read, and the tab before the next is at a place; W is what all say
 
@@ -152,13 +180,29 @@ module _ (n i : ℕ) (s : List ℕ) (at : ℕ) (vs : List ℕ) (W : ℕ → Numb
     (h : i < n) (m : at < length s)
     (inv : (line : ℕ) → after vs true (numbersFrom line (i + 2) (n - i) (behind (n - i) (drop at s))) ≡ W line)
     (q : Quick (drop (at + 1) s) (n - i - 1) f) (l : 0 < f .length) where
-  pub quick-within : at + 1 + f .length ≤ length s
-  unfolding Quick
-  quick-within = on-within 0 (i + 2) (n - i) s at vs true (W 0) (inv 0) (omega arith) m f (q l .1 0 (i + 2))
-
-  pub quick-turn : (line : ℕ) → after (vs ++ (f .value ∷ [])) true (numbersFrom line (i + 1 + 2) (n - (i + 1)) (behind (n - (i + 1)) (drop (at + 1 + f .length) s))) ≡ W line
+  quick-turn : (line : ℕ) → after (vs ++ (f .value ∷ [])) true (numbersFrom line (i + 1 + 2) (n - (i + 1)) (behind (n - (i + 1)) (drop (at + 1 + f .length) s))) ≡ W line
   unfolding Quick
   quick-turn line =
       let a : i + 1 + 2 ≡ i + 2 + 1 = omega arith in
       let b : n - (i + 1) ≡ n - i - 1 = omega arith in
       rw (a, b) (rw (q l .0) at (on-good line (i + 2) (n - i) s at vs true (W line) (inv line) (omega arith) m f (q l .1 line (i + 2))))
+
+-- a turn of the loop: the byte at a place is a tab, and digits stand behind it up to another place; they are a field if a field ends there
+module _ (n i : ℕ) (s : List ℕ) (at : ℕ) (vs : List ℕ) (W : ℕ → Numbers)
+    (inv : (line : ℕ) → endsAt s at (n - i) ≡ true → after vs true (numbersFrom line (i + 2) (n - i) (behind (n - i) (drop at s))) ≡ W line) where
+  pub turn : (v end : ℕ) → i < n → at < length s → getD s at 0 ≡ 9 → DigitsAt s (at + 1) v end → at + 1 < end → (line : ℕ) → endsAt s end (n - (i + 1)) ≡ true
+      → after (vs ++ (v ∷ [])) true (numbersFrom line (i + 1 + 2) (n - (i + 1)) (behind (n - (i + 1)) (drop end s))) ≡ W line
+  turn v end h m tab d some line e =
+      let f : Field = record { value = v; length = end - (at + 1); plain = true } in
+      let a : n - (i + 1) ≡ n - i - 1 = omega arith in
+      let b : at + 1 + (end - (at + 1)) ≡ end = omega arith in
+      let z : getD (drop (at + 1) s) 0 0 ≡ getD s (at + 1) 0 = getD-drop (at + 1) s 0 0 ∙ ap (λ (j : ℕ). getD s j 0) (add-zero (at + 1)) in
+      let q : Quick (drop (at + 1) s) (n - i - 1) f = quick-good (drop (at + 1) s) (n - i - 1) v (end - (at + 1)) (d .digits) (omega arith) (λ g. d .plain some (sym z ∙ g)) (ends-part s end (at + 1) (n - i - 1) (omega arith) (rw a at e)) in
+      rw b at (quick-turn n i s at vs W f h m (λ k. inv k (ends-tab s at (n - i) (omega arith) m tab)) q (omega arith) line)
+
+  -- and at the end
+  pub all-read : i ≡ n → at ≡ length s → (line : ℕ) → Are vs true ≡ W line
+  unfolding endsAt
+  all-read h l line =
+      let z : n - i ≡ 0 = omega arith in
+      on-end line (i + 2) (n - i) s at vs true (W line) (inv line (rw z (eq-eqb at (length s) l))) z

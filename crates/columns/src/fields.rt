@@ -12,7 +12,7 @@ ghost use Rattle.columns.specs.Bytes.{is, firstWhere, overlaid};
 ghost use Rattle.output.specs.Outcome.{leaves};
 ghost use Rattle.columns.specs.Fields.{zeroBarred, fieldSays, numbersFrom, numbersText, textOf, splits, textWritten, textWithin};
 ghost use Rattle.columns.specs.Reading.{fieldLen, behind, told};
-ghost use Rattle.columns.specs.Quick.{FrontDigits, endsAt, Quick, ReadAll};
+ghost use Rattle.columns.specs.Quick.{DigitsAt, ReadAll};
 
 // A field that is a number: its value, how many bytes it has, and whether it has no needless leading zero and no plus.
 pub struct Field {
@@ -126,90 +126,71 @@ fn read_each(content: &[u8], name: usize, line: u64, numbers: &mut [u64]) -> Num
     NumbersRead::All { plain }
 }
 
-// Some digits: their value, and how many they are.
+// Some digits of a line: their value, and the place behind them.
 struct Digits {
     value: u64,
-    count: usize,
+    end: usize,
 }
 
-// The digits at the front of `s`, up to those that are no more than the largest number whatever follows.
-fn front_digits(s: &[u8]) -> Digits
-    ensures { λ r. ⌜ FrontDigits (now (s .entry)) (r .value) (r .count) ⌝ }
+// The digits at a place of a line, up to those that are no more than the largest number whatever follows. There are none where the first
+// is a 0: most numbers begin with 1 to 9, and the others are read by `read_each`.
+fn digits_at(content: &[u8], at: usize) -> Digits
+    requires { ⌜ at < length (now content) ⌝ }
+    ensures { λ r. ⌜ DigitsAt (now (content .entry)) at (r .value) (r .end) ⌝ }
 {
-    let mut value: u64 = 0;
-    let mut i = 0;
-    while i < s.len() {
-        let b = decimal::wide(s[i]);
+    let first = decimal::wide(content[at]);
+    if first <= decimal::ZERO {
+        return Digits { value: 0, end: at };
+    }
+    if decimal::NINE < first {
+        return Digits { value: 0, end: at };
+    }
+    let mut value = first - decimal::ZERO;
+    let mut i = at + 1;
+    while i < content.len() {
+        let b = decimal::wide(content[i]);
         if b < decimal::ZERO {
-            return Digits { value, count: i };
+            return Digits { value, end: i };
         }
         if decimal::NINE < b {
-            return Digits { value, count: i };
+            return Digits { value, end: i };
         }
         if decimal::ROOMY <= value {
-            return Digits { value, count: i };
+            return Digits { value, end: i };
         }
         value = value * 10 + (b - decimal::ZERO);
         i += 1;
     }
-    Digits { value, count: i }
+    Digits { value, end: i }
 }
 
-// Does a field end at a place: at a tab where more tabs cut, else at the end.
-fn field_ends(s: &[u8], at: usize, tabs: usize) -> bool
-    ensures { λ r. ⌜ r ≡ endsAt (now (s .entry)) at tabs ⌝ }
-{
-    if tabs == 0 {
-        return at == s.len();
-    }
-    if s.len() <= at {
-        return false;
-    }
-    s[at] == b'\t'
-}
-
-// A number at the front of `s`, as most are written: its first digit is 1 to 9. The length is 0 where there is none.
-fn quick_field(s: &[u8], tabs: usize) -> Field
-    ensures { λ r. ⌜ Quick (now (s .entry)) tabs r ⌝ }
-{
-    let d = front_digits(s);
-    if 0 < d.count {
-        if s[0] != b'0' {
-            if field_ends(s, d.count, tabs) {
-                return Field {
-                    value: d.value,
-                    length: d.count,
-                    plain: true,
-                };
-            }
-        }
-    }
-    Field {
-        value: 0,
-        length: 0,
-        plain: true,
-    }
-}
-
-// Reads as many numbers as the table has, if all are as most are written; else the table holds any numbers.
+// Reads as many numbers as the table has, if all are as most are written; else the table holds any numbers. Each byte is looked at once:
+// whether a number ended at a tab is seen where the next begins.
 fn read_quickly(content: &[u8], name: usize, numbers: &mut [u64]) -> bool
     ensures { λ r. ⌜ (r ≡ true → ReadAll (now (content .entry)) name (now (numbers .exit))) ⌝ }
 {
+    if content.len() == 0 {
+        return false;
+    }
+    let last = content.len() - 1;
     let mut tab = name;
     let mut i = 0;
-    while tab < content.len() {
-        if numbers.len() <= i {
+    while i < numbers.len() {
+        if last <= tab {
             return false;
         }
-        let f = quick_field(&content[tab + 1..], numbers.len() - i - 1);
-        if f.length == 0 {
+        if content[tab] != b'\t' {
             return false;
         }
-        numbers[i] = f.value;
-        tab = tab + 1 + f.length;
+        let d = digits_at(content, tab + 1);
+        if d.end <= tab + 1 {
+            return false;
+        }
+        numbers[i] = d.value;
+        tab = d.end;
         i += 1;
     }
-    i == numbers.len()
+    tab == content.len()
 }
 
 // Reads as many numbers as the table has, each behind a tab; the first tab stands behind a name of `name` bytes, or there is the end.
