@@ -1,4 +1,5 @@
 pub mod Bytes
+pub mod Among
 pub mod Decimal
 pub mod Fields
 pub mod Digits

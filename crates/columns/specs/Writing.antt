@@ -72,19 +72,6 @@ module _ (ns : List ℕ) (i : ℕ) (some : 0 < i) (h : i ≤ length ns) where
         rw (overlaid-before out first place d t (sym p) (omega arith), text-from)
         (overlaid-front out (first - 1) first 9 (d ++ t) (omega (arith, before-room)) (omega (arith, before-room)))
 
--- ---- the name
-
--- the first LF before the first tab is the first of either
-pub split-is : (l : List ℕ) → firstWhere (is 10) (take (firstWhere (is 9) l) l) ≡ firstWhere splits l
-unfolding firstWhere
-split-is [] = refl
-split-is (b ∷ l) = go (is 9 b) (is 10 b) (split-is l)
-  where
-    go : (t u : Bool) → firstWhere (is 10) (take (firstWhere (is 9) l) l) ≡ firstWhere splits l
-        → firstWhere (is 10) (take (cond t 0 (suc (firstWhere (is 9) l))) (b ∷ l)) ≡ cond (t || is 10 b) 0 (suc (firstWhere splits l))
-    go true u h = refl
-    go false u h = rw h
-
 -- ---- the whole text
 
 -- the LF, the numbers before it, and the name at the front

@@ -8,7 +8,8 @@ ghost use mathlib.Core.Path.{_≡_};
 ghost use mathlib.Core.Bool.{true};
 ghost use Prim.Native.Nat.{_+_, _-_, _*_, _^_, _<_, _≤_};
 ghost use lib.ListN.{length, take, drop};
-ghost use Rattle.columns.specs.Bytes.{is, firstWhere, overlaid};
+ghost use Rattle.columns.specs.Bytes.{firstWhere, overlaid};
+ghost use Rattle.columns.specs.Among.{among, either};
 ghost use Rattle.output.specs.Outcome.{leaves};
 ghost use Rattle.columns.specs.Fields.{zeroBarred, fieldSays, numbersFrom, numbersText, textOf, splits, textWritten, textWithin};
 ghost use Rattle.columns.specs.Reading.{fieldLen, behind, told};
@@ -33,18 +34,56 @@ pub enum NumbersRead {
     Refused(Refusal),
 }
 
-// The place of the first `b`; the length where there is none.
-fn first_byte(l: &[u8], b: u8) -> usize
-    ensures { λ r. ⌜ r ≡ firstWhere (is b) (now (l .entry)) ⌝ }
+// Is one of the 8 bytes from place `i` on an `a` or a `b`. The loop never stops early, so the compiler looks at all of them at once.
+fn either_in_8(l: &[u8], i: usize, a: u8, b: u8) -> bool
+    requires { ⌜ i + 8 ≤ length (now l) ⌝ }
+    ensures { λ r. ⌜ r ≡ among (either a b) (take 8 (drop i (now (l .entry)))) ⌝ }
 {
-    let mut i = 0;
+    let mut any = false;
+    for k in 0..8 {
+        any = any | (l[i + k] == a) | (l[i + k] == b);
+    }
+    any
+}
+
+// The place of the first `a` or `b` from place `from` on, byte by byte; the length where there is none.
+fn first_near(l: &[u8], from: usize, a: u8, b: u8) -> usize
+    requires { ⌜ from ≤ length (now l) ⌝ }
+    ensures { λ r. ⌜ r ≡ from + firstWhere (either a b) (drop from (now (l .entry))) ⌝ }
+{
+    let mut i = from;
     while i < l.len() {
+        if l[i] == a {
+            return i;
+        }
         if l[i] == b {
             return i;
         }
         i += 1;
     }
     i
+}
+
+// The place of the first `a` or `b`; the length where there is none. Blocks of 8 bytes that have none are passed; the last ends where the
+// bytes end, and may begin inside the one before: of 12 bytes the blocks begin at places 0 and 4.
+fn first_either(l: &[u8], a: u8, b: u8) -> usize
+    ensures { λ r. ⌜ r ≡ firstWhere (either a b) (now (l .entry)) ⌝ }
+{
+    if l.len() < 8 {
+        return first_near(l, 0, a, b);
+    }
+    let last = l.len() - 8;
+    let mut i = 0;
+    while i < last {
+        if either_in_8(l, i, a, b) {
+            return first_near(l, i, a, b);
+        }
+        i += 8;
+    }
+    if either_in_8(l, last, a, b) {
+        return first_near(l, i, a, b);
+    }
+    l.len()
 }
 
 // How many bytes the first field of `l` has, where so many tabs cut.
@@ -54,7 +93,7 @@ pub fn field_length(l: &[u8], tabs: usize) -> usize
     if tabs == 0 {
         return l.len();
     }
-    first_byte(l, b'\t')
+    first_either(l, b'\t', b'\t')
 }
 
 // Is a value 0 where it may not be: in field 4 and in field 5.
@@ -207,8 +246,7 @@ pub fn read_numbers(content: &[u8], name: usize, line: u64, numbers: &mut [u64])
 fn name_split(name: &[u8]) -> usize
     ensures { λ r. ⌜ r ≡ firstWhere splits (now (name .entry)) ⌝ }
 {
-    let tab = first_byte(name, b'\t');
-    first_byte(&name[..tab], b'\n')
+    first_either(name, b'\t', b'\n')
 }
 
 // How many bytes a name and numbers are written with.
