@@ -51,7 +51,7 @@ fn same_name(def: &[u8], name: Span, line: &[u8], x: Record) -> bool
     let b = a + name.length;
     let c = x.name_start as usize;
     let d = c + x.name_length as usize;
-    check::same(&def[a..b], &line[c..d])
+    comparing::same(&def[a..b], &line[c..d])
 }
 
 // The sequence from `start` on against a record: 22, 23.

@@ -2,21 +2,21 @@
 use Prim.Native.Nat.{ℕ, zero, suc, _+_, _-_, _*_, _^_, _≤_, _<_}
 use mathlib.Core.Path.{_≡_, refl, sym, ap, _∙_}
 use mathlib.Core.List.{List, [], _∷_, _++_}
-use mathlib.Core.Bool.{Bool, true, false, cond, _&&_, true≢false}
+use mathlib.Core.Bool.{Bool, true, false, _&&_, true≢false}
 use native.Mathlib.Omega.{arith}
 use native.Mathlib.Numerals.{add-one}
 use native.Mathlib.Nat.{add-zero}
 use lib.ListN.{length, take, drop, getD, length-drop}
-use lib.Seq.{take-suc, take-all, take-length, length-take-le, drop-cons, getD-drop}
-use lib.Dec.{eqb, ltb, leb}
+use lib.Seq.{take-suc, length-take-le, getD-drop}
+use lib.Dec.{eqb, ltb}
 use borrow.Author.Tests.{eq-eqb, eqb-true, ltb-true, ne-eqb, lt-ltb, le-leb}
 use Rattle.columns.specs.Bytes.{is, firstWhere}
 use Rattle.columns.specs.Decimal.{isDigit, allDigits, valueFrom, numberFrom, digitsOf, numberOf, plainNumber}
 use Rattle.columns.specs.Fields.{fieldSays, zeroBarred, Numbers, numbersFrom}
 use Rattle.columns.specs.Fields.Numbers.{Are}
 use Rattle.columns.specs.Digits.{from-ge, digit-in}
-use Rattle.columns.specs.Reading.{fieldLen, behind, after, after-none, field-good, on-end, on-within, on-good}
-use Rattle.columns.specs.declared.Number.the-variants.{Value, Bad}
+use Rattle.columns.specs.Reading.{fieldLen, behind, after, field-good, on-end, on-good}
+use Rattle.columns.specs.declared.Number.the-variants.{Value}
 use Rattle.columns.specs.declared.fields.Field.{Field}
 use Rattle.columns.specs.declared.fields.FieldRead.the-variants.{Good}
 

@@ -50,7 +50,7 @@ fn same_name(fastq: &[u8], x: Record, line: &[u8], y: Record) -> bool
     let b = a + x.name_length as usize;
     let c = y.name_start as usize;
     let d = c + y.name_length as usize;
-    check::same(&fastq[a..b], &line[c..d])
+    comparing::same(&fastq[a..b], &line[c..d])
 }
 
 // One part of a record against that of its line's row: 23.

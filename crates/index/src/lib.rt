@@ -102,7 +102,7 @@ fn is_named(names: &[u8], x: Record, name: &[u8]) -> bool
 {
     let a = x.name_start as usize;
     let e = a + x.name_length as usize;
-    check::same(&names[a..e], name)
+    comparing::same(&names[a..e], name)
 }
 
 // Does a row have the name; or why it is refused.

@@ -2,7 +2,6 @@
 -- Assumes nothing.
 use borrow.Author.Needs.{needs}
 use mathlib.Core.Path.{_∙_}
-use Rattle.lines.specs.Same.{same-is}
 use Rattle.checker.specs.Steps.{same-cut}
 use Rattle.checker.proofs.same_name.Statement.{statement}
 use Rattle.checker.proofs.same_name.Tie as tie
@@ -37,7 +36,7 @@ same-requires c κs = search needs
 returns : tie.Need-returns
 returns c =
     let a = c .before .before .before .before .before .before .args in
-    same-is _ _ _ (c .same .ensures .0) (c .same .ensures .1) ∙ same-cut (a .def .now) (a .name) (a .line .now) (a .x)
+    c .same .ensures ∙ same-cut (a .def .now) (a .name) (a .line .now) (a .x)
 
 pub same-name-spec : {M : Type 1} → statement M
 same-name-spec =

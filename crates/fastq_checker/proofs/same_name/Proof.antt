@@ -1,7 +1,6 @@
 -- `fastq_checker::same_name` meets its contract: both names are cut from their bytes and compared.
 -- Assumes nothing.
 use mathlib.Core.Path.{_∙_}
-use Rattle.lines.specs.Same.{same-is}
 use Rattle.fastq_checker.specs.JudgeLaws.{same-cut}
 use borrow.Author.Needs.{needs}
 use Rattle.fastq_checker.proofs.same_name.Statement.{statement}
@@ -37,7 +36,7 @@ same-requires c κs = search needs
 returns : tie.Need-returns
 returns c =
     let a = c .before .before .before .before .before .args in
-    same-is _ _ _ (c .same .ensures .0) (c .same .ensures .1) ∙ same-cut (a .fastq .now) (a .x) (a .line .now) (a .y)
+    c .same .ensures ∙ same-cut (a .fastq .now) (a .x) (a .line .now) (a .y)
 
 pub same-name-spec : {M : Type 1} → statement M
 same-name-spec =

@@ -5,7 +5,6 @@ use mathlib.Core.Path.{_≡_, ap, _∙_}
 use Prim.Native.Nat.{_+_, _-_}
 use native.Mathlib.Nat.{add-sub-cancel-left}
 use Rattle.lines.specs.Lines.{part}
-use Rattle.lines.specs.Same.{same-is}
 use Rattle.index_line.specs.IndexLine.{nameIn}
 use Rattle.index.specs.Find.{named}
 use Rattle.index.proofs.is_named.Statement.{statement}
@@ -30,7 +29,7 @@ returns : tie.Need-returns
 unfolding named nameIn
 returns c =
     let x = c .before .before .before .before .args .x in
-    rw (← add-sub-cancel-left (x .«name_start») (x .«name_length»)) (same-is _ _ _ (c .same .ensures .0) (c .same .ensures .1))
+    rw (← add-sub-cancel-left (x .«name_start») (x .«name_length»)) (c .same .ensures)
 
 pub is-named-spec : {M : Type 1} → statement M
 is-named-spec =

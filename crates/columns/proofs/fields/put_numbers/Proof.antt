@@ -1,7 +1,6 @@
 -- `columns::fields::put_numbers` meets its contract. The loop's invariant: the text of the numbers from number i on is laid over the output
 -- from `place` up to the end.
 -- Assumes nothing.
-use borrow.Author.Needs.{needs}
 use Prim.Native.Nat.{_≤_, _+_, _-_}
 use mathlib.Core.Path.{_≡_, refl, ap, _∙_}
 use native.Mathlib.Omega.{arith}

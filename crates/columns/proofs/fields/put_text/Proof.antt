@@ -1,7 +1,7 @@
 -- `columns::fields::put_text` meets its contract: each piece is laid over the output in front of the one before it.
 -- Assumes nothing.
 use Prim.Native.Nat.{_+_, _-_, _≤_}
-use mathlib.Core.Path.{_≡_, sym, ap, _∙_}
+use mathlib.Core.Path.{_≡_, ap, _∙_}
 use native.Mathlib.Omega.{arith}
 use lib.ListN.{length, length-set}
 use Rattle.columns.specs.Bytes.{overlaid-length}

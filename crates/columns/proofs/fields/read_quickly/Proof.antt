@@ -8,7 +8,6 @@ use mathlib.Core.Bool.{true, true≢false}
 use native.Mathlib.Omega.{arith}
 use native.Mathlib.Numerals.{add-one}
 use native.Mathlib.Nat.{sub-zero}
-use borrow.Author.Needs.{needs}
 use lib.ListN.{length, take, drop, length-set}
 use lib.Seq.{take-all, take-suc-set}
 use Rattle.columns.specs.Fields.{numbersFrom}
