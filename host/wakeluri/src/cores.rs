@@ -14,6 +14,9 @@ use std::thread;
 /// A part is worth a thread from so many bytes on: starting a thread takes as long as some 100 kB.
 const WORTH: usize = 2 << 20;
 
+/// No file may be longer.
+const LIMIT: u64 = 1 << 40;
+
 /// How far before its first base the definition line of a record is looked for.
 const NEAR: usize = 1 << 16;
 
@@ -106,9 +109,9 @@ impl Cores {
         check_whole(fasta, index)
     }
 
-    /// How many parts so many bytes are worth.
+    /// How many parts so many bytes are worth. Too many of them are refused at once.
     fn parts(self, bytes: usize) -> usize {
-        self.threads.min(bytes / self.worth)
+        if bytes as u64 > LIMIT { 0 } else { self.threads.min(bytes / self.worth) }
     }
 
     /// The rows of the parts, one behind the other up to the first refusal; none where the file is not cut. No record but a last one has
@@ -157,7 +160,9 @@ impl Cores {
         }
         // each search may pass over a whole record, so they are made at once
         let shares: Vec<Range<usize>> = (1..parts).map(|k| share(fasta.len(), k, parts)..fasta.len()).collect();
-        let starts = at_once(&shares, |share| record_near(fasta, share.start));
+        // one long record is searched in vain, so no search goes far: an eighth of a share to each side
+        let most = (fasta.len() / parts / 8).max(NEAR);
+        let starts = at_once(&shares, |share| record_near(fasta, share.start, most));
         between(0, starts.into_iter().flatten(), fasta.len(), |one, next| one < next)
     }
 
@@ -214,8 +219,9 @@ fn between<T: Copy>(first: T, cuts: impl Iterator<Item = T>, last: T, rises: imp
     parts
 }
 
-/// The start of a record that is nearest to an offset: a '>' behind an LF. It is looked for on both sides, farther and farther away.
-fn record_near(fasta: &[u8], at: usize) -> Option<usize> {
+/// The start of a record that is nearest to an offset: a '>' behind an LF. It is looked for on both sides, farther and farther away, up to
+/// so many bytes.
+fn record_near(fasta: &[u8], at: usize, most: usize) -> Option<usize> {
     let mut reach = NEAR;
     let (mut before, mut behind) = (at, at);
     loop {
@@ -225,8 +231,8 @@ fn record_near(fasta: &[u8], at: usize) -> Option<usize> {
         match (left, right) {
             (Some(left), Some(right)) => return Some(if at - left < right - at { left } else { right }),
             (Some(one), None) | (None, Some(one)) => return Some(one),
-            (None, None) if low == 0 && high == fasta.len() => return None,
-            (None, None) => (before, behind, reach) = (low, high, reach.saturating_mul(2)),
+            (None, None) if reach >= most => return None,
+            (None, None) => (before, behind, reach) = (low, high, reach.saturating_mul(2).min(most)),
         }
     }
 }
