@@ -8,7 +8,7 @@ use mathlib.Core.List.{List, [], _∷_, _++_, map, reverse, reverse-reverse, con
 use lib.Bits.{bitAnd, bitOr, bitXor}
 use lib.Dec.{T, eqb, leb, eqb→eq}
 use lib.ListN.{length, take, drop, getD, take-append-drop}
-use lib.Seq.{take-suc, drop-drop}
+use lib.Seq.{take-suc, drop-drop, drop-length}
 use borrow.Author.Tests.{eqb-true, eqb-false, ne-eqb}
 use native.Mathlib.Omega.{arith}
 use Rattle.refusal.specs.declared.Refusal.{Refusal}
@@ -156,6 +156,15 @@ module _ (p : Bool) where
     pub block-bad : (v : Bool) → v ≡ allOf p (take (e - i) (drop i s)) → not v ≡ true → allOf p (drop i s) ≡ false
     block-bad false q t = block ∙ rw (← q)
     block-bad true q t = let z : _≡_ {A = ℕ} 0 1 = cc in absurd (omega arith)
+
+  -- behind the last there is none
+  pub all-behind : (s : List ℕ) → allOf p (drop (length s) s) ≡ true
+  unfolding allOf
+  all-behind s = rw (drop-length s)
+
+  -- those up to a place, and those behind it
+  pub all-halves : (s : List ℕ) (k : ℕ) → allOf p s ≡ cond (allOf p (take k s)) (allOf p (drop k s)) false
+  all-halves s k = ap (allOf p) (sym (take-append-drop k s)) ∙ all-append (take k s) (drop k s)
 
   -- each of them is
   pub all-at : (s : List ℕ) (k : ℕ) → k < length s → allOf p s ≡ true → isOf p (getD s k 0) ≡ true

@@ -27,6 +27,12 @@ ghost use Rattle.complement.specs.Flips.{flip, AreFlips};
 // How many bytes are judged at once.
 const BLOCK: usize = 4096;
 
+// From how many bytes on they are judged at two places in turns, and how many of them in a turn: less than a page of memory, so that
+// both places are asked for before either is there.
+const MANY: usize = 4194304;
+
+const TURN: usize = 512;
+
 // Is a byte a plain base: A, C, G, T or N, in either case.
 fn is_plain(b: u8) -> bool
     ensures { λ r. ⌜ r ≡ isOf true b ⌝ }
@@ -71,8 +77,8 @@ fn block_of(bases: &[u8], plain: bool) -> bool
     other == 0
 }
 
-// Are all bytes of the kind. They are judged by blocks, and the first block that has another byte ends it.
-fn all_of(bases: &[u8], plain: bool) -> bool
+// Are all bytes of a run of the kind. They are judged by blocks, and the first block that has another byte ends it.
+fn run_of(bases: &[u8], plain: bool) -> bool
     ensures { λ r. ⌜ r ≡ allOf plain (now (bases .entry)) ⌝ }
 {
     let mut i = 0;
@@ -84,6 +90,40 @@ fn all_of(bases: &[u8], plain: bool) -> bool
         i = e;
     }
     block_of(&bases[i..], plain)
+}
+
+// Are all bytes of two runs of the kind, the second as long as the first or longer. A block of each is judged in turns, so that the memory
+// is asked at two places.
+fn both_of(a: &[u8], b: &[u8], plain: bool) -> bool
+    requires { ⌜ length (now a) ≤ length (now b) ⌝ }
+    ensures { λ r. ⌜ r ≡ cond (allOf plain (now (a .entry))) (allOf plain (now (b .entry))) false ⌝ }
+{
+    let mut i = 0;
+    while TURN <= a.len() - i {
+        let e = i + TURN;
+        if !block_of(&a[i..e], plain) {
+            return false;
+        }
+        if !block_of(&b[i..e], plain) {
+            return false;
+        }
+        i = e;
+    }
+    if !block_of(&a[i..], plain) {
+        return false;
+    }
+    block_of(&b[i..], plain)
+}
+
+// Are all bytes of the kind. Of many, which come from memory, both halves are judged side by side.
+fn all_of(bases: &[u8], plain: bool) -> bool
+    ensures { λ r. ⌜ r ≡ allOf plain (now (bases .entry)) ⌝ }
+{
+    if bases.len() < MANY {
+        return run_of(bases, plain);
+    }
+    let half = bases.len() / 2;
+    both_of(&bases[..half], &bases[half..], plain)
 }
 
 // The complement of a plain base. A and T differ in 21, C and G in 4. Of the plain bases A and T alone lack the bit 2, and N alone
