@@ -17,3 +17,4 @@ pub mod Writing
 pub mod Scoring
 pub mod MendedScores
 pub mod Fed
+pub mod Parted

@@ -1,10 +1,11 @@
 // Demand 3 at the entry points, looking up and reading as two calls (request K8), just the needed bytes fetched and read (K7), a written record
-// read back (K3), a written exercise scored (K5), and a file that arrives in pieces (K1). The theorems are in specs/AtTheEdge.antt, LookUp.antt,
-// Fetching.antt, Writing.antt, Scoring.antt and Fed.antt, over the calls' promises as relations (specs/Calls.antt). Here each call is made, and has its relation for a contract: so the
+// read back (K3), a written exercise scored (K5), a file that arrives in pieces (K1), and a file in parts on several cores. The theorems are in
+// specs/AtTheEdge.antt, LookUp.antt, Fetching.antt, Writing.antt, Scoring.antt, Fed.antt and Parted.antt, over the calls' promises as relations (specs/Calls.antt). Here each call is made, and has its relation for a contract: so the
 // theorems are about the calls themselves.
 use wakeluri::answer::Answer;
 use wakeluri::answer::DefinitionAnswer;
 use wakeluri::answer::RowAnswer;
+use wakeluri::cores;
 use wakeluri::course;
 use wakeluri::course::ScoreAnswer;
 use wakeluri::feeding;
@@ -17,6 +18,7 @@ use wakeluri::window;
 use wakeluri::window::PartAnswer;
 use wakeluri::writing;
 ghost use Rattle.fitting.specs.declared.Rule.the-variants.{Strict, Complete};
+ghost use Rattle.demands.specs.Parted.{IndexPart, CheckPart};
 ghost use Rattle.demands.specs.Calls.{Check, ReadIndex, IndexFile, WriteIndexLine, Find, ReadExact, ReadRaw, NeededBytes, ReadWindow, WriteRecord, DefinitionLine, IndexRecord, ReadSequence, WriteExercise, ScoreExercise, FeedStart, FeedPiece, FeedEnd};
 
 fn check(file: &[u8], index: &[u8]) -> Answer
@@ -230,4 +232,16 @@ fn feed_end(feed: Feed, table: &mut [u8]) -> Feed
     ensures { λ a. ⌜ FeedEnd feed (now (table .entry)) a (now (table .exit)) ⌝ }
 {
     feeding::wakeluri_feed_end(feed, table)
+}
+
+fn index_part(file: &[u8], from: u64, to: u64, complete: u64, table: &mut [u8]) -> Answer
+    ensures { λ a. ⌜ IndexPart (now (file .entry)) from to complete (now (table .entry)) a (now (table .exit)) ⌝ }
+{
+    cores::wakeluri_index_part(file, from, to, complete, table)
+}
+
+fn check_part(fasta: &[u8], from: u64, to: u64, index: &[u8], first: u64, last: u64) -> Answer
+    ensures { λ a. ⌜ CheckPart (now (fasta .entry)) from to (now (index .entry)) first last a ⌝ }
+{
+    cores::wakeluri_check_part(fasta, from, to, index, first, last)
 }

@@ -57,6 +57,17 @@ impl Lines {
         file
     }
 
+    /// A file of so many records of about so many bytes each, as of a genome's chromosomes.
+    pub fn chromosomes(self, records: usize, bytes: usize, numbers: &mut Numbers) -> Vec<u8> {
+        let bases = bytes / (self.bases + self.end.len()) * self.bases - self.bases / 3;
+        let mut file = Vec::with_capacity(records * (bytes + 64));
+        for record in 1..=records {
+            let bases = numbers.letters(b"ACGT", bases);
+            self.add(&mut file, &format!("chr{record}"), &bases);
+        }
+        file
+    }
+
     /// A file of so many records, of one to three lines each.
     pub fn records(self, records: usize) -> Vec<u8> {
         let mut numbers = Numbers::new(2);

@@ -2,6 +2,7 @@
 //! physical limits. `tools/dev benches` builds and runs it; what it prints is Markdown. Before anything is timed, both sides must give the
 //! same answers.
 
+mod cores;
 mod fed;
 mod files;
 mod levels;
@@ -535,16 +536,21 @@ fn run(plan: &Plan) -> Report {
     if part("growth") {
         growth(plan, &mut report);
     }
+    if part("cores") {
+        report.cored = cores::run(plan);
+    }
     report
 }
 
 fn main() {
     let Some(plan) = Plan::of_words(std::env::args().skip(1)) else {
         eprintln!(
-            "usage: benches [--quick] [--json] [--only lines|records|long|fastq|reads|names|complement|write|text|scores|levels|fed|growth]"
+            "usage: benches [--quick] [--json] [--only lines|records|long|fastq|reads|names|complement|write|text|scores|levels|fed|growth|cores]"
         );
         std::process::exit(2);
     };
+    // the original has one thread; what more of them bring is timed apart
+    wakeluri::use_threads(1);
     let report = run(&plan);
     if plan.json {
         print!("{}", report.json());

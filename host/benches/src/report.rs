@@ -1,5 +1,6 @@
 //! What was found, as Markdown.
 
+use crate::cores::AllCored;
 use crate::fed::AllFed;
 use crate::levels::{Levelled, levels};
 use std::fmt;
@@ -113,6 +114,7 @@ pub struct Report {
     pub scored: Vec<Scored>,
     pub sheeted: Vec<Sheeted>,
     pub fed: AllFed,
+    pub cored: AllCored,
 }
 
 /// A goal, and what was found.
@@ -248,7 +250,7 @@ impl Report {
             found: SCORE_GOAL / s.ours,
         });
         let compared = compared.chain(checked).chain(wrapped).chain(fastq).chain(mapped);
-        compared.chain(sheeted).chain(scored).chain(self.fed.goals()).collect()
+        compared.chain(sheeted).chain(scored).chain(self.fed.goals()).chain(self.cored.goals()).collect()
     }
 
     /// The same for machines: each work's seconds, and each goal, as one JSON object.
@@ -420,6 +422,7 @@ impl fmt::Display for Report {
             writeln!(f, "| {work} | {} |", seconds.iter().map(cell).collect::<Vec<_>>().join(" | "))?;
         }
         write!(f, "{}", self.fed)?;
+        write!(f, "{}", self.cored)?;
         self.summary(f)
     }
 }

@@ -293,6 +293,16 @@ pub fn command() -> Command {
                 .value_parser(PossibleValuesParser::new(["auto", "map", "read"]))
                 .default_value("auto"),
         )
+        .arg(
+            Arg::new("threads")
+                .long("threads")
+                .global(true)
+                .value_name("N")
+                .help("at most N threads to index and check large FASTA files; 0, as without it, for all cores")
+                .value_parser(value_parser!(usize))
+                .default_value("0")
+                .hide_default_value(true),
+        )
         .subcommand(alone(
             Command::new("index")
                 .about("Write the index of a file, in samtools' form, or say what is wrong and where")

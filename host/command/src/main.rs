@@ -67,6 +67,7 @@ fn main() -> ExitCode {
         _ => How::Auto,
     };
     warning::be_quiet(matches.get_flag("quiet"));
+    wakeluri::use_threads(matches.get_one("threads").copied().unwrap_or_default());
     let common = Common { how, json: matches.get_flag("json"), outputs: Outputs::standard() };
     fastq::say(matches.subcommand().is_some_and(|(command, words)| command == "fqidx" || said(words, "fastq")));
     match verbs::run(&matches, common) {

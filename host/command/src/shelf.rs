@@ -223,6 +223,10 @@ impl Shelf<'_> {
         let cores = thread::available_parallelism().map_or(1, usize::from);
         // an index is on the disk before its line is printed, and disks take many at a time
         let threads = if self.work == Work::Index { cores * WAITING } else { cores }.min(self.items.len());
+        // with a file for each core there is none to help with a file
+        if threads >= cores {
+            wakeluri::use_threads(1);
+        }
         let (next, over) = (AtomicUsize::new(0), AtomicBool::new(false));
         if self.work == Work::Index {
             output::sync_folders_later();
@@ -352,6 +356,7 @@ impl Shelf<'_> {
         command.args(common.json.then_some("--json")).args(warning::is_quiet().then_some("--quiet"));
         command.args(self.strict.then_some("--strict")).args((common.how == How::Map).then_some("--input=map"));
         command.args(fastq::is_said().then_some("--fastq"));
+        command.arg(format!("--threads={}", wakeluri::Cores::default().threads()));
         command.arg("--").arg(&item.file).args(&item.index).stdin(Stdio::null());
         let ended = match command.output() {
             Ok(ended) => ended,

@@ -18,13 +18,11 @@ fn records_in(file: &[u8], part: Range<u64>) -> impl Iterator<Item = usize> {
     lines_in(file, part).filter(|at| *at == 0 || file[*at] == b'>')
 }
 
+/// A rule: the row of the record at an offset, and the offset behind it.
+type OneRecord = fn(&[u8], u64) -> Result<Option<(Row, u64)>, No>;
+
 /// A row for each record of the part, by a rule for one record of the whole file.
-pub(crate) fn index(
-    file: &[u8],
-    part: Range<u64>,
-    record: fn(&[u8], u64) -> Result<Option<(Row, u64)>, No>,
-    table: &mut [u64],
-) -> Filled {
+pub(crate) fn index(file: &[u8], part: Range<u64>, record: OneRecord, table: &mut [u64]) -> Filled {
     fill(
         table,
         records_in(file, part).filter_map(|at| record(file, n(at)).transpose()).map(|row| row.map(|(row, _)| row)),

@@ -182,18 +182,20 @@ impl Cores {
     }
 }
 
-/// What a function gives of each part, on a thread each.
-fn at_once<T: Clone + Send + Sync, R: Send>(parts: &[Range<T>], work: impl Fn(&Range<T>) -> R + Sync) -> Vec<R> {
+/// What a function gives of each part, on a thread each; where the system has no thread left, on this one.
+fn at_once<T: Send + Sync, R: Send>(parts: &[Range<T>], work: impl Fn(&Range<T>) -> R + Sync) -> Vec<R> {
+    let work = &work;
     thread::scope(|scope| {
         let Some((first, rest)) = parts.split_first() else { return vec![] };
-        let others: Vec<_> = rest.iter().map(|part| scope.spawn(|| work(part))).collect();
+        let start = |part| thread::Builder::new().spawn_scoped(scope, move || work(part));
+        let others: Vec<_> = rest.iter().map(|part| (part, start(part))).collect();
         // this thread has the first part
         let mut given = vec![work(first)];
-        for other in others {
-            match other.join() {
-                Ok(one) => given.push(one),
-                Err(panic) => std::panic::resume_unwind(panic),
-            }
+        for (part, other) in others {
+            given.push(match other {
+                Ok(other) => other.join().unwrap_or_else(|panic| std::panic::resume_unwind(panic)),
+                Err(_) => work(part),
+            });
         }
         given
     })

@@ -38,6 +38,7 @@
 //! | open a file with its index, and read from it in any thread | [`Fasta`] |
 //! | have an index of bytes in memory, or of another's text | [`index`], [`read_index`], [`check`], [`Table`] |
 //! | read regions as people write them | [`Fasta::read`], [`region`] |
+//! | say how many cores index and check a large file | [`use_threads`], [`Cores`] |
 //! | write FASTA | [`Writer`], [`write_record`] |
 //! | index FASTQ, and read its bases and qualities | [`Fastq`], [`fastq`] |
 //! | know why there is no answer | [`Refusal`], and [`Reason`] for a `match` |
@@ -45,7 +46,7 @@
 //!
 //! # Features
 //!
-//! `std`, which is on if nothing else is said, brings [`Fasta`], [`Fastq`], [`Writer`] and [`noodles`], which need files and streams. Without it the
+//! `std`, which is on if nothing else is said, brings [`Fasta`], [`Fastq`], [`Writer`], [`noodles`] and [`Cores`], which need files, streams and threads. Without it the
 //! crate needs `alloc` alone.
 
 #![cfg_attr(not(feature = "std"), no_std)]
