@@ -219,7 +219,7 @@ fn right_bit(codes: &[u8; 256], k: u8, t: u8, second: bool) -> u8
 }
 
 // How many of at most 224 places are right in edition 2: by the letters that the key means, or each place is looked at.
-fn second_piece(codes: &[u8; 256], key: &[u8], typed: &[u8], at: usize, n: usize) -> usize
+fn second_part(codes: &[u8; 256], key: &[u8], typed: &[u8], at: usize, n: usize) -> usize
     requires { ⌜ (IsTable setOf (now codes) × (n ≤ 224)) × (at + n ≤ length (now key)) × (at + n ≤ length (now typed)) ⌝ }
     ensures { λ r. ⌜ Counted (agrees (ruleFor true) (now (key .entry)) (now (typed .entry))) at n r ⌝ }
 {
@@ -237,33 +237,6 @@ fn smaller(a: usize, b: usize) -> usize
         return a;
     }
     b
-}
-
-// The same of any number of places, by 32: so one letter that is not told, as R, has only the 32 around it looked at one by one.
-fn second_pieces(codes: &[u8; 256], key: &[u8], typed: &[u8], at: usize, n: usize) -> usize
-    requires { ⌜ IsTable setOf (now codes) × (at + n ≤ length (now key)) × (at + n ≤ length (now typed)) ⌝ }
-    ensures { λ r. ⌜ Counted (agrees (ruleFor true) (now (key .entry)) (now (typed .entry))) at n r ⌝ }
-{
-    let mut right: usize = 0;
-    let mut j = 0;
-    while j < n {
-        let m = smaller(n - j, 32);
-        right = right + second_piece(codes, key, typed, at + j, m);
-        j += m;
-    }
-    right
-}
-
-// The same of at most 224 places, all at once if they are told.
-fn second_part(codes: &[u8; 256], key: &[u8], typed: &[u8], at: usize, n: usize) -> usize
-    requires { ⌜ (IsTable setOf (now codes) × (n ≤ 224)) × (at + n ≤ length (now key)) × (at + n ≤ length (now typed)) ⌝ }
-    ensures { λ r. ⌜ Counted (agrees (ruleFor true) (now (key .entry)) (now (typed .entry))) at n r ⌝ }
-{
-    let seen = fits_in(key, typed, at, n);
-    if wide(seen.told) == n {
-        return wide(seen.right);
-    }
-    second_pieces(codes, key, typed, at, n)
 }
 
 // The same of any number of places, part by part.

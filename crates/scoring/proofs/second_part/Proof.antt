@@ -8,7 +8,7 @@ use Rattle.scoring.proofs.second_part.Tie as tie
 use Rattle.scoring.proofs.second_part.Reads as reads
 use Rattle.scoring.proofs.second_part.Lts as lts
 use Rattle.scoring.proofs.fits_in.Reads as fits-in-reads
-use Rattle.scoring.proofs.second_pieces.Reads as second-pieces-reads
+use Rattle.scoring.proofs.run.Reads as run-reads
 use Rattle.scoring.proofs.wide.Reads as wide-reads
 
 fits-in-requires : tie.Need-fits-in-requires
@@ -26,8 +26,8 @@ returns c =
     let s = p .before .before .fits-in .ensures in
     rw (c .wide2 .ensures) (counted-clear _ _ _ _ _ (rw (sym (p .before .wide .ensures) ∙ p .if1 .taken) at (s .1)) (s .0))
 
-second-pieces-requires : tie.Need-second-pieces-requires
-second-pieces-requires c κs = search needs
+run-requires : tie.Need-run-requires
+run-requires c κs = search needs
 
 returns-2 : tie.Need-returns-2
 returns-2 c = search needs
@@ -35,4 +35,4 @@ returns-2 c = search needs
 pub second-part-spec : {M : Type 1} → statement M
 second-part-spec =
     tie.close
-    (tie.spec fits-in-requires wide-requires wide-requires-2 returns second-pieces-requires returns-2)
+    (tie.spec fits-in-requires wide-requires wide-requires-2 returns run-requires returns-2)
