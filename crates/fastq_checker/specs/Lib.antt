@@ -4,6 +4,7 @@ pub mod Elsewhere
 pub mod Taken
 pub mod Named
 pub mod Steps
+pub mod SameText
 pub mod JudgeLaws
 pub mod WalkLaws
 pub mod Examples

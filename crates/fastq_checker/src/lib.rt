@@ -15,7 +15,7 @@ use refusal::Refusal;
 ghost use mathlib.Core.Path.{_≡_};
 ghost use mathlib.Core.List.{[]};
 ghost use Prim.Native.Nat.{_+_, _≤_, _<_};
-ghost use lib.ListN.{length, drop};
+ghost use lib.ListN.{length, take, drop};
 ghost use Rattle.lines.specs.Lines.{lines};
 ghost use Rattle.lines.specs.Same.{sameBytes};
 ghost use Rattle.index_line.specs.IndexLine.{nameIn};
@@ -41,6 +41,35 @@ enum Step {
     Refused(Refusal),
 }
 
+// Are the 16 bytes from `i` on the same in two texts. The loop never stops early, so the compiler compares all of them at once.
+fn same_in_16(a: &[u8], b: &[u8], i: usize) -> bool
+    requires { ⌜ (i + 16 ≤ length (now a)) × (i + 16 ≤ length (now b)) ⌝ }
+    ensures { λ r. ⌜ r ≡ sameBytes (take 16 (drop i (now (a .entry)))) (take 16 (drop i (now (b .entry)))) ⌝ }
+{
+    let mut all = true;
+    for k in 0..16 {
+        all = all & (a[i + k] == b[i + k]);
+    }
+    all
+}
+
+// Are two texts the same: 16 bytes at a time, and what is left one by one. Example: names of 35 bytes are two blocks and three bytes.
+fn same_text(a: &[u8], b: &[u8]) -> bool
+    ensures { λ r. ⌜ r ≡ sameBytes (now (a .entry)) (now (b .entry)) ⌝ }
+{
+    if a.len() != b.len() {
+        return false;
+    }
+    let mut i = 0;
+    while 16 <= a.len() - i {
+        if !same_in_16(a, b, i) {
+            return false;
+        }
+        i += 16;
+    }
+    check::same(&a[i..], &b[i..])
+}
+
 // Is the name of a record of the file that of a line's row.
 fn same_name(fastq: &[u8], x: Record, line: &[u8], y: Record) -> bool
     requires { ⌜ (x .«name_start» + x .«name_length» ≤ length (now fastq)) × (y .«name_start» + y .«name_length» ≤ length (now line)) ⌝ }
@@ -50,7 +79,7 @@ fn same_name(fastq: &[u8], x: Record, line: &[u8], y: Record) -> bool
     let b = a + x.name_length as usize;
     let c = y.name_start as usize;
     let d = c + y.name_length as usize;
-    check::same(&fastq[a..b], &line[c..d])
+    same_text(&fastq[a..b], &line[c..d])
 }
 
 // One part of a record against that of its line's row: 23.
