@@ -1,10 +1,10 @@
 // count [WORK FILE ..]: does each work once on its file, so that the instructions it takes can be counted as the difference of two
 // runs (tools/dev instruction-goals). A work is `index`, by the ported rule, `fit`, by the complete one, `arrive`, the
 // same in one piece and the end, `check`, with the index on standard
-// input, `reverse`, the reverse complement of the whole file, `primer`, the first place of the primer on standard input, `score`, what
+// input, `qualities`, which indexes a FASTQ file, and `verify`, which checks one with the index on standard input, `reverse`, the reverse complement of the whole file, `primer`, the first place of the primer on standard input, `score`, what
 // was typed on standard input against the whole file by edition 1, `edition`, by edition 2, or `drill`, the same against bases 1 to
 // 10,000 of the file's record s, asked for by an exercise; `twice` scores them once more. It writes a line for each, as `index 1`,
-// `fit 1` or `arrive 1`, the count of rows, `check 0`, `primer 3`, the place, or `nothing 0`, `score 490`, or `reverse 60`, the count of bytes, and then
+// `fit 1`, `arrive 1` or `qualities 1`, the count of rows, `check 0`, `verify 0`, `primer 3`, the place, or `nothing 0`, `score 490`, or `reverse 60`, the count of bytes, and then
 // those bytes: a buffer that nobody reads, the compiler would not write. Where it is refused, `refused 24 3 45`. A file, or what is on
 // standard input, has at most 65,536 bytes; what is behind them is not read.
 ghost use Prim.Native.Nat.{_≤_};
@@ -71,19 +71,44 @@ fn arrive(fasta: &[u8]) {
     }
 }
 
-// Checks an index with its file.
-fn check(fasta: &[u8], text: &[u8]) {
-    match checker::check(fasta, text) {
-        Verdict::Accepted => say(b"check", 0),
+// Indexes a FASTQ file.
+fn index_qualities(fastq: &[u8]) {
+    let mut table = [0u8; 1024 * 8 * fastq_table::WORDS];
+    let told = fastq_index::index_file(fastq, &mut table);
+    let stop = told.stop;
+    match stop {
+        Stop::Ended => say(b"qualities", told.rows),
+        Stop::Refused(why) => say_refused(why),
+    }
+}
+
+// Says what a checker has found.
+fn say_verdict(work: &[u8], verdict: Verdict) {
+    match verdict {
+        Verdict::Accepted => say(work, 0),
         Verdict::Refused(why) => say_refused(why),
     }
 }
 
-// Checks the index on standard input with its file.
-fn check_input(fasta: &[u8]) {
+// Checks an index with its FASTA file.
+fn check(fasta: &[u8], text: &[u8]) {
+    say_verdict(b"check", checker::check(fasta, text));
+}
+
+// Checks an index with its FASTQ file.
+fn verify(fastq: &[u8], text: &[u8]) {
+    say_verdict(b"verify", fastq_checker::check(fastq, text));
+}
+
+// Checks the index on standard input with its file, which is FASTQ or not.
+fn check_input(file: &[u8], is_fastq: bool) {
     let mut text = io::large_buffer();
     let n = io::read_full(STDIN_FILENO, &mut text);
-    check(fasta, &text[..n]);
+    if is_fastq {
+        verify(file, &text[..n]);
+    } else {
+        check(file, &text[..n]);
+    }
 }
 
 // Complements some bases, from the last to the first, into a lent room.
@@ -163,7 +188,9 @@ fn work(letter: u8, file: &[u8]) {
         b'i' => index(b"index", file, Rule::Strict),
         b'f' => index(b"fit", file, Rule::Complete),
         b'a' => arrive(file),
-        b'c' => check_input(file),
+        b'c' => check_input(file, false),
+        b'q' => index_qualities(file),
+        b'v' => check_input(file, true),
         b'r' => reverse(file),
         b'p' => find_input(file),
         b's' => score_input(file, 1),
