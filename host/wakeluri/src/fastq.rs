@@ -29,7 +29,7 @@
 use crate::refusal::Call;
 use crate::row::{Identity, Row};
 use crate::table::{counted, rows_for_all, with_room, write_line_behind};
-use crate::{Bounds, Refusal, entry};
+use crate::{Bounds, Refusal, entry, pages};
 use alloc::vec::Vec;
 
 /// The numbers of a row: those of an index line with the span of its name before them, so that the quality position is last.
@@ -192,6 +192,7 @@ fn filled(
     let mut rows = most.min(FIRST_ROWS);
     loop {
         let mut bytes = vec![0; rows * ROW_BYTES];
+        pages::large(&mut bytes);
         let answer = fill(text, &mut bytes);
         let in_use = answer.count as usize;
         let mut table = Table::from_bytes(text, bytes, in_use);
