@@ -1,26 +1,30 @@
-//! Work on the rows of a table, in parts and on all cores. A part is some rows that follow each other; nothing is shared between two parts, so that
-//! the answers are the same however many cores there are.
+//! Work in parts, on all cores that may be used. Nothing is shared between two parts, so that the answers are the same however many cores
+//! there are.
 
 use std::ops::Range;
 use std::sync::atomic::{AtomicUsize, Ordering};
 use std::thread;
+use wakeluri::Cores;
 
 /// So many rows are a part.
 const ROWS: usize = 1 << 14;
 
-/// What a work gives for each part of so many rows, in the order of the parts.
-pub fn in_parts<T: Send>(rows: usize, work: impl Fn(Range<usize>) -> T + Sync) -> Vec<T> {
-    let parts = rows.div_ceil(ROWS);
-    let part = |number: usize| work(number * ROWS..rows.min((number + 1) * ROWS));
-    let cores = thread::available_parallelism().map_or(1, usize::from).min(parts);
+/// How many cores may be used.
+pub fn count() -> usize {
+    Cores::default().threads()
+}
+
+/// What a work gives for each part, by its number, in the order of the parts.
+pub fn at_once<T: Send>(parts: usize, work: impl Fn(usize) -> T + Sync) -> Vec<T> {
+    let cores = count().min(parts);
     if cores < 2 {
-        return (0..parts).map(part).collect();
+        return (0..parts).map(work).collect();
     }
     let next = AtomicUsize::new(0);
     let own = || {
         let numbers =
             std::iter::from_fn(|| Some(next.fetch_add(1, Ordering::Relaxed)).filter(|number| *number < parts));
-        numbers.map(|number| (number, part(number))).collect::<Vec<_>>()
+        numbers.map(|number| (number, work(number))).collect::<Vec<_>>()
     };
     let mut given = thread::scope(|scope| {
         let others: Vec<_> = (1..cores).map(|_| scope.spawn(own)).collect();
@@ -32,6 +36,11 @@ pub fn in_parts<T: Send>(rows: usize, work: impl Fn(Range<usize>) -> T + Sync) -
     });
     given.sort_unstable_by_key(|(number, _)| *number);
     given.into_iter().map(|(_, given)| given).collect()
+}
+
+/// What a work gives for each part of so many rows, in their order.
+pub fn in_parts<T: Send>(rows: usize, work: impl Fn(Range<usize>) -> T + Sync) -> Vec<T> {
+    at_once(rows.div_ceil(ROWS), |part| work(part * ROWS..rows.min((part + 1) * ROWS)))
 }
 
 #[cfg(test)]

@@ -1,5 +1,6 @@
 //! Records of one name, in a file that is indexed or checked: a look-up finds the first, and nobody may know of the others.
 
+use crate::cores;
 use crate::place::{commas, count, short};
 use crate::warning::Warning;
 
@@ -44,7 +45,7 @@ impl Seen {
 
     /// The first two records of each name that several have, in their order; the names are those that were seen.
     pub fn twins<'n>(self, names: impl Iterator<Item = &'n [u8]>) -> Vec<Twins<'n>> {
-        if are_some_alike(self.0) { among(names) } else { vec![] }
+        if are_some_alike(&self.0) { among(names) } else { vec![] }
     }
 }
 
@@ -71,10 +72,16 @@ fn among<'n>(names: impl Iterator<Item = &'n [u8]>) -> Vec<Twins<'n>> {
 }
 
 /// Whether two numbers are alike: once they are sorted, two such stand side by side. A table of places, one look for each number, takes four times as
-/// long, since nearly every look is at memory far away.
-fn are_some_alike(mut numbers: Vec<u64>) -> bool {
-    numbers.sort_unstable();
-    numbers.windows(2).any(|two| two[0] == two[1])
+/// long, since nearly every look is at memory far away. Each core sorts a share: the numbers that leave the same rest.
+fn are_some_alike(numbers: &[u64]) -> bool {
+    let shares = cores::count().min(8) as u64;
+    let shares = cores::at_once(shares as usize, |share| {
+        let is_own = |number: &u64| *number % shares == share as u64;
+        let mut own: Vec<u64> = numbers.iter().copied().filter(is_own).collect();
+        own.sort_unstable();
+        own.windows(2).any(|two| two[0] == two[1])
+    });
+    shares.contains(&true)
 }
 
 /// A number for a name, so that one comparison tells most names apart.
@@ -102,9 +109,9 @@ mod tests {
     #[test]
     fn alike_or_not() {
         let numbers: Vec<u64> = (0..5000).map(|n: u64| n.wrapping_mul(0x1234_5678_9abc_def1)).collect();
-        assert!(!are_some_alike(numbers.clone()));
+        assert!(!are_some_alike(&numbers));
         for twin in [0, 1, 4999] {
-            assert!(are_some_alike(numbers.iter().copied().chain([numbers[twin]]).collect()));
+            assert!(are_some_alike(&[&numbers[..], &[numbers[twin]]].concat()));
         }
     }
 }
