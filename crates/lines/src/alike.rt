@@ -129,8 +129,8 @@ pub fn lines_like_up_to(s: &[u8], at: usize, like: Line, mark: u8, most: usize) 
     if like.width == 0 {
         return 0;
     }
-    let mut i = at;
-    let mut n = 0;
+    let mut n = crate::abreast::lines_abreast(s, at, like, mark, most);
+    let mut i = at + n * like.width;
     while n < most {
         if !is_like(s, i, like) {
             return n;
