@@ -172,30 +172,20 @@ fn lines_by_rows(
 }
 
 // How many lines from `at` on are like `like` and do not begin with `mark`, as far as many at once tell, and at most `most`: by 1,024 lines, then by
-// 256. Few lines cost a look at the byte where 256 would end.
+// 256. Only lines of 33 to 129 bytes are looked at so.
 pub fn lines_abreast(s: &[u8], at: usize, like: Line, mark: u8, most: usize) -> usize
     ensures { λ r. ⌜ (r ≤ most) × (alike like (take r (upToAt (now (s .entry)) mark at)) ≡ r) ⌝ }
 {
+    if s.len() < at {
+        return 0;
+    }
     if like.width < 33 {
         return 0;
     }
     if 129 < like.width {
         return 0;
     }
-    if most < 256 {
-        return 0;
-    }
-    if s.len() < at {
-        return 0;
-    }
-    let few = 256 * like.width;
-    if s.len() - at < few {
-        return 0;
-    }
-    if s[at + (few - 1)] != b'\n' {
-        return 0;
-    }
-    let n = lines_by_rows(s, at, like, mark, most, 256, few);
+    let n = lines_by_rows(s, at, like, mark, most, 256, 256 * like.width);
     n
         + lines_by_rows(
             s,

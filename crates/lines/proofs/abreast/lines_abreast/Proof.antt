@@ -19,42 +19,21 @@ returns-2 c = (omega arith, sym (alike-none _))
 returns-3 : tie.Need-returns-3
 returns-3 c = (omega arith, sym (alike-none _))
 
-returns-4 : tie.Need-returns-4
-returns-4 c = (omega arith, sym (alike-none _))
-
-mul-few : tie.Need-mul-few
-mul-few c = search needs
-
-sub-if5 : tie.Need-sub-if5
-sub-if5 c = search needs
-
-returns-5 : tie.Need-returns-5
-returns-5 c = (omega arith, sym (alike-none _))
-
-sub-if6 : tie.Need-sub-if6
-sub-if6 c = search needs
-
-add-if6 : tie.Need-add-if6
-add-if6 c = search needs
-
-shared-slice-read-if6 : tie.Need-shared-slice-read-if6
-shared-slice-read-if6 c = search needs
-
-returns-6 : tie.Need-returns-6
-returns-6 c = (omega arith, sym (alike-none _))
+mul-lines-by-rows : tie.Need-mul-lines-by-rows
+mul-lines-by-rows c = search needs
 
 lines-by-rows-requires : tie.Need-lines-by-rows-requires
 lines-by-rows-requires c κs = (omega arith, omega arith, omega arith, omega arith, omega arith, omega arith, omega arith, omega arith)
 
 -- the lines passed end in the file
-within : (c : tie.After-lines-by-rows) → c .before .before .before .before .before .before .before .before .before .before .before .before .args .at + c .lines-by-rows .result * c .before .before .before .before .before .before .before .before .before .before .before .before .args .like .width
-    ≤ length (c .before .before .before .before .before .before .before .before .before .before .before .before .args .s .now)
+within : (c : tie.After-lines-by-rows) → c .before .before .before .before .before .before .before .before .args .at + c .lines-by-rows .result * c .before .before .before .before .before .before .before .before .args .like .width
+    ≤ length (c .before .before .before .before .before .before .before .before .args .s .now)
 within c =
-    let a = c .before .before .before .before .before .before .before .before .before .before .before .before .args in
+    let a = c .before .before .before .before .before .before .before .before .args in
     all-within (a .s .now) (a .like) (a .mark) (c .lines-by-rows .result) (a .at) (omega arith) (c .lines-by-rows .ensures .1)
 
-mul-lines-by-rows : tie.Need-mul-lines-by-rows
-mul-lines-by-rows c = omega (arith, within (c .before))
+mul-lines-by-rows-2 : tie.Need-mul-lines-by-rows-2
+mul-lines-by-rows-2 c = omega (arith, within (c .before))
 
 add-lines-by-rows : tie.Need-add-lines-by-rows
 add-lines-by-rows c = omega (arith, within (c .before))
@@ -62,8 +41,8 @@ add-lines-by-rows c = omega (arith, within (c .before))
 sub-lines-by-rows : tie.Need-sub-lines-by-rows
 sub-lines-by-rows c = omega (arith, c .before .lines-by-rows .ensures .0)
 
-mul-lines-by-rows-2 : tie.Need-mul-lines-by-rows-2
-mul-lines-by-rows-2 c = search needs
+mul-lines-by-rows-3 : tie.Need-mul-lines-by-rows-3
+mul-lines-by-rows-3 c = search needs
 
 lines-by-rows-requires-2 : tie.Need-lines-by-rows-requires-2
 lines-by-rows-requires-2 c κs = (omega arith, omega arith, omega arith, omega arith, omega arith, omega arith, omega arith, omega (arith, within (c .before .before)))
@@ -71,10 +50,10 @@ lines-by-rows-requires-2 c κs = (omega arith, omega arith, omega arith, omega a
 add-result : tie.Need-add-result
 add-result c = omega (arith, c .before .before .before .lines-by-rows .ensures .0, c .lines-by-rows2 .ensures .0)
 
-returns-7 : tie.Need-returns-7
-returns-7 c =
+returns-4 : tie.Need-returns-4
+returns-4 c =
     let d = c .before .before .before in
-    let a = d .before .before .before .before .before .before .before .before .before .before .before .before .args in (
+    let a = d .before .before .before .before .before .before .before .before .args in (
       omega (arith, d .lines-by-rows .ensures .0, c .lines-by-rows2 .ensures .0),
       all-join (a .s .now) (a .like) (a .mark) (d .lines-by-rows .result) (c .lines-by-rows2 .result) (a .at) (omega arith) (d .lines-by-rows .ensures .1) (c .lines-by-rows2 .ensures .1) .all,
     )
@@ -86,19 +65,12 @@ lines-abreast-spec =
     returns
     returns-2
     returns-3
-    returns-4
-    mul-few
-    sub-if5
-    returns-5
-    sub-if6
-    add-if6
-    shared-slice-read-if6
-    returns-6
-    lines-by-rows-requires
     mul-lines-by-rows
+    lines-by-rows-requires
+    mul-lines-by-rows-2
     add-lines-by-rows
     sub-lines-by-rows
-    mul-lines-by-rows-2
+    mul-lines-by-rows-3
     lines-by-rows-requires-2
     add-result
-    returns-7)
+    returns-4)
