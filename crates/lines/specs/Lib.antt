@@ -12,3 +12,4 @@ pub mod Clear
 pub mod UpTo
 pub mod Blocks
 pub mod FirstLf
+pub mod Abreast

@@ -119,8 +119,8 @@ fn is_like(s: &[u8], at: usize, like: Line) -> bool
 }
 
 // How many lines from `at` on end in LF with the width and the bases of `like`, up to the first that does not, or that begins with `mark`, and
-// at most `most`. The mark is looked at last: the blocks of `is_like` load the byte too, and the compiler would not load them whole.
-pub fn lines_like_up_to(s: &[u8], at: usize, like: Line, mark: u8, most: usize) -> usize
+// at most `most`: one by one. The mark is looked at last: the blocks of `is_like` load the byte too, and the compiler would not load them whole.
+fn lines_one_by_one(s: &[u8], at: usize, like: Line, mark: u8, most: usize) -> usize
     ensures { λ r. ⌜ r ≡ alike like (take most (upToAt (now (s .entry)) mark at)) ⌝ }
 {
     if s.len() < at {
@@ -144,9 +144,53 @@ pub fn lines_like_up_to(s: &[u8], at: usize, like: Line, mark: u8, most: usize) 
     n
 }
 
+// The same by many at once, as far as they are alike; the others one by one.
+fn lines_at_once(s: &[u8], at: usize, like: Line, mark: u8, most: usize) -> usize
+    ensures { λ r. ⌜ r ≡ alike like (take most (upToAt (now (s .entry)) mark at)) ⌝ }
+{
+    if s.len() < at {
+        return 0;
+    }
+    let n = crate::abreast::lines_abreast(s, at, like, mark, most);
+    n + lines_one_by_one(s, at + n * like.width, like, mark, most - n)
+}
+
+// May many lines of a width from `at` on be alike: do 256 of them fit, and does the last one end in LF. Where few are, this look is all that
+// they pay for the many; so it stands in both functions below, and not in a third, which would be one call more.
+fn may_be_many(s: &[u8], at: usize, width: usize) -> bool {
+    if width < 33 {
+        return false;
+    }
+    if 129 < width {
+        return false;
+    }
+    if s.len() < at {
+        return false;
+    }
+    let last = 256 * width - 1;
+    if s.len() - at <= last {
+        return false;
+    }
+    s[at + last] == b'\n'
+}
+
+// How many lines from `at` on end in LF with the width and the bases of `like`, up to the first that does not, or that begins with `mark`, and
+// at most `most`.
+pub fn lines_like_up_to(s: &[u8], at: usize, like: Line, mark: u8, most: usize) -> usize
+    ensures { λ r. ⌜ r ≡ alike like (take most (upToAt (now (s .entry)) mark at)) ⌝ }
+{
+    if may_be_many(s, at, like.width) {
+        return lines_at_once(s, at, like, mark, most);
+    }
+    lines_one_by_one(s, at, like, mark, most)
+}
+
 // How many sequence lines from `at` on end in LF with the width and the bases of `like`, up to the first that does not.
 pub fn lines_like(s: &[u8], at: usize, like: Line) -> usize
     ensures { λ r. ⌜ r ≡ alike like (seqAt (now (s .entry)) at) ⌝ }
 {
-    lines_like_up_to(s, at, like, b'>', s.len())
+    if may_be_many(s, at, like.width) {
+        return lines_at_once(s, at, like, b'>', s.len());
+    }
+    lines_one_by_one(s, at, like, b'>', s.len())
 }

@@ -1,4 +1,4 @@
--- `lines::alike::lines_like_up_to` meets its contract: the lines passed and those alike from the place on are all that are alike.
+-- `lines::alike::lines_one_by_one` meets its contract: the lines passed and those alike from the place on are all that are alike.
 -- Assumes nothing.
 use Prim.Native.Nat.{_+_, _-_, _≤_, _<_}
 use mathlib.Core.Path.{_≡_, sym, _∙_, ap}
@@ -12,8 +12,8 @@ use Rattle.lines.specs.Lines.{lines}
 use Rattle.lines.specs.Alike.{alike, firstLike, alike-flat}
 use Rattle.lines.specs.Clear.{like-fits}
 use Rattle.lines.specs.UpTo.{upToAt, alike-past, alike-marked, alike-other, alike-more, alike-done}
-use Rattle.lines.proofs.alike.lines_like_up_to.Statement.{statement}
-use Rattle.lines.proofs.alike.lines_like_up_to.Tie as tie
+use Rattle.lines.proofs.alike.lines_one_by_one.Statement.{statement}
+use Rattle.lines.proofs.alike.lines_one_by_one.Tie as tie
 
 abbrev Inv-loop : tie.InvT-loop
 Inv-loop s at like mark most i₀ n₀ i n = (i ≤ length s) × (n ≤ i) × (n ≤ most) × (n + alike like (take (most - n) (upToAt s mark i)) ≡ alike like (take most (upToAt s mark at)))
@@ -95,8 +95,8 @@ returns-5 c =
     let a = c .before .before .before .before .before .before .args in
     omega (arith, l .inv .3, alike-done (a .like) (a .most - l .n) (upToAt (a .s .now) (a .mark) (l .i)) (omega arith))
 
-pub lines-like-up-to-spec : {M : Type 1} → statement M
-lines-like-up-to-spec =
+pub lines-one-by-one-spec : {M : Type 1} → statement M
+lines-one-by-one-spec =
     tie.close
     (tie.spec
     Inv-loop
