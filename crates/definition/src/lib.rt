@@ -80,18 +80,74 @@ fn low_in_16(l: &[u8], i: usize) -> bool
     any
 }
 
-// The end of the bytes from `at` on that are no whitespace, by blocks of 16: most of a long name have no low byte. Example: a name of 35 bytes is
-// two such blocks, and three bytes that are looked at one by one.
+// The same of 8 bytes.
+fn low_in_8(l: &[u8], i: usize) -> bool
+    requires { ⌜ i + 8 ≤ length (now l) ⌝ }
+    ensures { λ r. ⌜ r ≡ anyLow 8 (drop i (now (l .entry))) ⌝ }
+{
+    let mut found = false;
+    for k in 0..8 {
+        found = found | (l[i + k] < 33);
+    }
+    found
+}
+
+// The same of 4 bytes.
+fn low_in_4(l: &[u8], i: usize) -> bool
+    requires { ⌜ i + 4 ≤ length (now l) ⌝ }
+    ensures { λ r. ⌜ r ≡ anyLow 4 (drop i (now (l .entry))) ⌝ }
+{
+    let mut one = false;
+    for k in 0..4 {
+        one = one | (l[i + k] < 33);
+    }
+    one
+}
+
+// The end of the bytes from `at` on that are no whitespace: 4 bytes at once, then byte by byte.
+fn word_end_by_4(l: &[u8], at: usize) -> usize
+    ensures { λ r. ⌜ r ≡ at + run (spaced false) (drop at (now (l .entry))) ⌝ }
+{
+    if l.len() < 4 {
+        return run_end_near(l, at, false);
+    }
+    if l.len() - 4 < at {
+        return run_end_near(l, at, false);
+    }
+    if low_in_4(l, at) {
+        return run_end_near(l, at, false);
+    }
+    run_end_near(l, at + 4, false)
+}
+
+// The same: 8 bytes at once, then by 4.
+fn word_end_by_8(l: &[u8], at: usize) -> usize
+    ensures { λ r. ⌜ r ≡ at + run (spaced false) (drop at (now (l .entry))) ⌝ }
+{
+    if l.len() < 8 {
+        return word_end_by_4(l, at);
+    }
+    if l.len() - 8 < at {
+        return word_end_by_4(l, at);
+    }
+    if low_in_8(l, at) {
+        return word_end_by_4(l, at);
+    }
+    word_end_by_4(l, at + 8)
+}
+
+// The same, by blocks of 16: most of a long name have no low byte. Example: a name of 47 bytes is two such blocks, 8 bytes, 4, and three that are
+// looked at one by one.
 fn word_end(l: &[u8], at: usize) -> usize
     ensures { λ r. ⌜ r ≡ at + run (spaced false) (drop at (now (l .entry))) ⌝ }
 {
     let mut i = at;
     while i < l.len() {
         if l.len() - i < 16 {
-            return run_end_near(l, i, false);
+            return word_end_by_8(l, i);
         }
         if low_in_16(l, i) {
-            return run_end_near(l, i, false);
+            return word_end_by_8(l, i);
         }
         i += 16;
     }

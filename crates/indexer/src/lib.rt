@@ -1,6 +1,8 @@
 // The ported indexer: the row of one record of a FASTA file. A record is a definition line and the lines of its sequence. These all have
 // the first line's bases and width, except the last, which may have less. Refuses a file over the size limit (1), a bad definition line
 // (2 to 4), no bases in the first line (5), and a line of other bases (6) or width (7). The loop over a file is in `fitting`.
+pub mod quick;
+
 ghost use mathlib.Core.Path.{_≡_};
 ghost use Prim.Native.Nat.{_+_, _-_, _≤_, _<_};
 ghost use lib.ListN.{length};
@@ -35,6 +37,13 @@ pub struct Step {
 enum Rest {
     Done { length: usize, next: usize },
     Refused(Refusal),
+}
+
+// A good sequence: its first line, how many bases all its lines have, and where it ends; that is 0 where nothing is told.
+pub struct Good {
+    pub first: Line,
+    pub bases: usize,
+    pub next: usize,
 }
 
 // May a line be a record's last: no line follows, and neither width nor bases exceed the first line's.

@@ -5,8 +5,8 @@ use mathlib.Core.List.{List, [], _∷_, _++_, append-assoc, append-nil}
 use native.Mathlib.Omega.{arith}
 use native.Mathlib.Numerals.{add-one}
 use native.Mathlib.Nat.{pow-suc, one-le-pow, div-lt-iff-lt-mul}
-use lib.ListN.{length, drop-of-length-le, List·getD-eq-default, getD, take, drop, set, length-append, length-drop, take-append-drop}
-use lib.Seq.{length-take-le, take-suc, drop-length, set-out, take-all, take-suc-set, sets, drop-cons, drop-drop, take-add, getD-take, getD-drop, take-at, drop-at}
+use lib.ListN.{length, List·getD-eq-default, getD, take, drop, set, length-append, length-drop, take-append-drop}
+use lib.Seq.{length-take-le, take-suc, drop-length, set-out, take-all, take-suc-set, drop-cons, drop-drop, take-add, getD-take, getD-drop, take-at, drop-at}
 use lib.Dec.{lit<}
 use Rattle.table.specs.Numbers.{fromBytes, toBytes, firstNumbers, numbersIn, restOf, bytesOf, withNumbers}
 
@@ -161,15 +161,6 @@ pub copy-all : (r l : List ℕ) (i n : ℕ) → length r ≡ n → i ≤ n → n
 copy-all r l i n e h m q =
     let z : i ≡ n = omega arith in
     sym (take-all n r (omega arith)) ∙ (rw z at q)
-
--- one number put, and all of them
-pub sets-more : (t vs : List ℕ) (k i : ℕ) → i < length vs → sets (set t (k + i) (getD vs i 0)) (k + (i + 1)) (drop (i + 1) vs) ≡ sets t (k + i) (drop i vs)
-sets-more t vs k i h =
-    let e : k + (i + 1) ≡ suc (k + i) = omega arith in
-    rw (e, drop-cons vs i 0 h, add-one i)
-
-pub sets-all : (t vs : List ℕ) (k i : ℕ) → length vs ≤ i → sets t k (drop i vs) ≡ t
-sets-all t vs k i h = rw (drop-of-length-le vs h)
 
 -- ---- a table's bytes from its numbers and its rest
 

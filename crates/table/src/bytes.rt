@@ -12,8 +12,10 @@ use refusal::Refusal;
 ghost use mathlib.Core.Path.{_≡_};
 ghost use Prim.Native.Nat.{_+_, _*_, _≤_};
 ghost use lib.ListN.{length};
+ghost use lib.Seq.{sets};
 ghost use Rattle.table.specs.Numbers.{numbersIn};
-ghost use Rattle.table.specs.Rows.{rowWords, rowCount, rowAt, usedAt};
+ghost use Rattle.table.specs.NumberLaws.{Became};
+ghost use Rattle.table.specs.Rows.{rowWords, wordsOf, rowCount, rowAt, usedAt};
 ghost use Rattle.table.specs.Bytes.{StoredIn, KeptIn};
 
 // How many whole rows a table has.
@@ -47,6 +49,22 @@ pub fn row(table: &[u8], in_use: usize, row: usize) -> InUse
     InUse::Row(row, read(table, row))
 }
 
+// Puts a record's numbers in a row that the table has: eight numbers, of eight bytes each, without a look whether the table has them.
+fn write(table: &mut [u8], row: usize, x: Record)
+    requires { ⌜ (row * rowWords + rowWords) * 8 ≤ length (now table) ⌝ }
+    ensures { λ _. ⌜ Became (now (table .entry)) (sets (numbersIn (now (table .entry))) (row * rowWords) (wordsOf x)) (now (table .exit)) ⌝ }
+{
+    let b = row * WORDS;
+    numbers::put_here(table, b, x.name_start);
+    numbers::put_here(table, b + 1, x.name_length);
+    numbers::put_here(table, b + 2, x.length);
+    numbers::put_here(table, b + 3, x.position.0);
+    numbers::put_here(table, b + 4, x.line_bases);
+    numbers::put_here(table, b + 5, x.line_width);
+    numbers::put_here(table, b + 6, x.description_start);
+    numbers::put_here(table, b + 7, x.description_length);
+}
+
 // Puts a record in row `row` of a table, and leaves every other byte there as it was.
 pub fn store(table: &mut [u8], row: usize, x: Record) -> Stored
     ensures { λ r. ⌜ StoredIn (now (table .entry)) row x r (now (table .exit)) ⌝ }
@@ -55,9 +73,7 @@ pub fn store(table: &mut [u8], row: usize, x: Record) -> Stored
     if all <= row {
         return Stored::Refused(Refusal::TableFull { rows: all as u64 });
     }
-    let mut words = [0; WORDS];
-    crate::write(&mut words, 0, x);
-    numbers::put_numbers(table, row * WORDS, &words);
+    write(table, row, x);
     Stored::Kept
 }
 

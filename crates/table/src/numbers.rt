@@ -1,8 +1,7 @@
 // The numbers of a table that is lent as bytes: eight bytes to a number, low byte first.
 ghost use mathlib.Core.Path.{_≡_};
-ghost use Prim.Native.Nat.{_+_, _≤_};
+ghost use Prim.Native.Nat.{_+_, _*_, _≤_};
 ghost use lib.ListN.{length, take, drop, getD, set};
-ghost use lib.Seq.{sets};
 ghost use Rattle.table.specs.Numbers.{fromBytes, toBytes, numbersIn};
 ghost use Rattle.table.specs.NumberLaws.{Became};
 
@@ -57,6 +56,15 @@ pub fn number(table: &[u8], k: usize) -> u64
     from_bytes(&table[at..at + 8])
 }
 
+// Puts a number in the place of number `k` of a table that has it.
+pub(crate) fn put_here(table: &mut [u8], k: usize, number: u64)
+    requires { ⌜ k * 8 + 8 ≤ length (now table) ⌝ }
+    ensures { λ _. ⌜ Became (now (table .entry)) (set (numbersIn (now (table .entry))) k number) (now (table .exit)) ⌝ }
+{
+    let at = k * 8;
+    to_bytes(number, &mut table[at..at + 8]);
+}
+
 // Puts a number in the place of number `k` of a table, if it has one.
 pub fn put(table: &mut [u8], k: usize, number: u64)
     ensures { λ _. ⌜ Became (now (table .entry)) (set (numbersIn (now (table .entry))) k number) (now (table .exit)) ⌝ }
@@ -64,8 +72,7 @@ pub fn put(table: &mut [u8], k: usize, number: u64)
     if count(table) <= k {
         return;
     }
-    let at = k * 8;
-    to_bytes(number, &mut table[at..at + 8]);
+    put_here(table, k, number);
 }
 
 // Copies the numbers of a table from number `k` on, as many as there is room for.
@@ -76,18 +83,6 @@ pub(crate) fn copy_numbers(table: &[u8], k: usize, room: &mut [u64])
     let mut i = 0;
     while i < room.len() {
         room[i] = number(table, k + i);
-        i += 1;
-    }
-}
-
-// Puts some numbers in a table, from number `k` on.
-pub(crate) fn put_numbers(table: &mut [u8], k: usize, numbers: &[u64])
-    requires { ⌜ k + length (now numbers) ≤ length (numbersIn (now table)) ⌝ }
-    ensures { λ _. ⌜ Became (now (table .entry)) (sets (numbersIn (now (table .entry))) k (now (numbers .entry))) (now (table .exit)) ⌝ }
-{
-    let mut i = 0;
-    while i < numbers.len() {
-        put(table, k + i, numbers[i]);
         i += 1;
     }
 }

@@ -24,20 +24,20 @@ loop-holds c = search needs
 sub-if1 : tie.Need-sub-if1 Inv-loop μ-loop
 sub-if1 c = search needs
 
-run-end-near-requires : tie.Need-run-end-near-requires Inv-loop μ-loop
-run-end-near-requires c κs = search needs
+word-end-by-8-requires : tie.Need-word-end-by-8-requires Inv-loop μ-loop
+word-end-by-8-requires c κs = search needs
 
 returns : tie.Need-returns Inv-loop μ-loop
-returns c = c .run-end-near .ensures ∙ c .before .before .before .loop .inv
+returns c = c .word-end-by-8 .ensures ∙ c .before .before .before .loop .inv
 
 low-in-16-requires : tie.Need-low-in-16-requires Inv-loop μ-loop
 low-in-16-requires c κs = omega arith
 
-run-end-near-requires-2 : tie.Need-run-end-near-requires-2 Inv-loop μ-loop
-run-end-near-requires-2 c κs = search needs
+word-end-by-8-requires-2 : tie.Need-word-end-by-8-requires-2 Inv-loop μ-loop
+word-end-by-8-requires-2 c κs = search needs
 
 returns-2 : tie.Need-returns-2 Inv-loop μ-loop
-returns-2 c = c .run-end-near2 .ensures ∙ c .before .before .before .before .before .loop .inv
+returns-2 c = c .word-end-by-82 .ensures ∙ c .before .before .before .before .before .loop .inv
 
 add-i : tie.Need-add-i Inv-loop μ-loop
 add-i c = omega arith
@@ -64,10 +64,10 @@ word-end-spec =
     μ-loop
     loop-holds
     sub-if1
-    run-end-near-requires
+    word-end-by-8-requires
     returns
     low-in-16-requires
-    run-end-near-requires-2
+    word-end-by-8-requires-2
     returns-2
     add-i
     loop-less
