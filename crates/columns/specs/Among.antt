@@ -9,7 +9,7 @@ use native.Mathlib.Nat.{zero-add}
 use lib.ListN.{length, take, drop, getD, length-drop, drop-of-length-le}
 use lib.Seq.{take-suc, take-add, drop-drop, getD-drop}
 use lib.Dec.{eqb}
-use Rattle.columns.specs.Bytes.{is, firstWhere}
+use Rattle.columns.specs.Bytes.{is, firstWhere, first-le}
 
 -- does one of some bytes pass a test
 unfoldable pub among : (ℕ → Bool) → List ℕ → Bool
@@ -20,15 +20,27 @@ among p (b ∷ l) = p b || among p l
 abbrev pub either : ℕ → ℕ → ℕ → Bool
 either a b x = is a x || is b x
 
--- one byte twice is that byte
-pub either-same : (b : ℕ) (l : List ℕ) → firstWhere (either b b) l ≡ firstWhere (is b) l
+-- the first of one byte is no nearer than the first of two, and the search may go on from there
+first-of-two : (a b : ℕ) (l : List ℕ) → firstWhere (is a) l ≡ firstWhere (either a b) l + firstWhere (is a) (drop (firstWhere (either a b) l) l)
 unfolding firstWhere
-either-same b [] = refl
-either-same b (x ∷ l) = go (is b x) (either-same b l)
+first-of-two a b [] = refl
+first-of-two a b (x ∷ l) = go (is a x) (is b x) refl (first-of-two a b l)
   where
-    go : (t : Bool) → firstWhere (either b b) l ≡ firstWhere (is b) l → cond (t || t) 0 (suc (firstWhere (either b b) l)) ≡ cond t 0 (suc (firstWhere (is b) l))
-    go true h = refl
-    go false h = ap suc h
+    go : (t u : Bool) → is a x ≡ t → firstWhere (is a) l ≡ firstWhere (either a b) l + firstWhere (is a) (drop (firstWhere (either a b) l) l)
+        → cond t 0 (suc (firstWhere (is a) l)) ≡ cond (t || u) 0 (suc (firstWhere (either a b) l)) + firstWhere (is a) (drop (cond (t || u) 0 (suc (firstWhere (either a b) l))) (x ∷ l))
+    go true u e h = rw e
+    go false true e h = rw e (omega arith)
+    go false false e h = omega (arith, h)
+
+module _ (s : List ℕ) (a b j w : ℕ) (inv : j + firstWhere (is a) (drop j s) ≡ w) (i : ℕ) (e : i ≡ j + firstWhere (either a b) (drop j s)) where
+  pub two-on : i + firstWhere (is a) (drop i s) ≡ w
+  two-on =
+      let k : ℕ = firstWhere (either a b) (drop j s) in
+      let d : drop k (drop j s) ≡ drop i s = drop-drop k j s ∙ ap (λ (x : ℕ). drop x s) (sym e) in
+      omega (arith, first-of-two a b (drop j s), ap (firstWhere (is a)) d)
+
+  pub two-within : j ≤ length s → i ≤ length s
+  two-within h = omega (arith, first-le (either a b) (drop j s), length-drop j s)
 
 -- two tests one after another
 or-assoc : (a b c : Bool) → ((a || b) || c) ≡ (a || (b || c))

@@ -10,3 +10,4 @@ pub mod Lacks
 pub mod Cut
 pub mod Numbers
 pub mod Quick
+pub mod Standing

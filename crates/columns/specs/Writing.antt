@@ -29,9 +29,12 @@ text-append : (ms ns : List ℕ) → numbersText (ms ++ ns) ≡ numbersText ms +
 text-append ms ns = rw map-append (tabbed-append (map decimalOf ms) (map decimalOf ns))
 
 -- one number more
-pub text-more : (ns : List ℕ) (i : ℕ) → i < length ns → numbersText (take (suc i) ns) ≡ numbersText (take i ns) ++ (9 ∷ decimalOf (getD ns i 0))
+pub text-snoc : (ns : List ℕ) (n : ℕ) → numbersText (ns ++ (n ∷ [])) ≡ numbersText ns ++ (9 ∷ decimalOf n)
 unfolding tabbed
-text-more ns i h = rw (take-suc ns i 0 h, text-append) (rw append-nil)
+text-snoc ns n = rw text-append (rw append-nil)
+
+pub text-more : (ns : List ℕ) (i : ℕ) → i < length ns → numbersText (take (suc i) ns) ≡ numbersText (take i ns) ++ (9 ∷ decimalOf (getD ns i 0))
+text-more ns i h = rw (take-suc ns i 0 h) (text-snoc (take i ns) (getD ns i 0))
 
 pub text-more-length : (ns : List ℕ) (i : ℕ) → i < length ns
     → length (numbersText (take (i + 1) ns)) ≡ length (numbersText (take i ns)) + (1 + length (decimalOf (getD ns i 0)))

@@ -13,7 +13,8 @@ ghost use Rattle.columns.specs.Among.{among, either};
 ghost use Rattle.output.specs.Outcome.{leaves};
 ghost use Rattle.columns.specs.Fields.{zeroBarred, fieldSays, numbersFrom, numbersText, textOf, splits, textWritten, textWithin};
 ghost use Rattle.columns.specs.Reading.{fieldLen, behind, told};
-ghost use Rattle.columns.specs.Quick.{DigitsAt, ReadAll};
+ghost use Rattle.columns.specs.Quick.{DigitsAt};
+ghost use Rattle.columns.specs.Standing.{NumbersAt, LineAt, ReadAll};
 
 // A field that is a number: its value, how many bytes it has, and whether it has no needless leading zero and no plus.
 pub struct Field {
@@ -33,6 +34,11 @@ pub enum NumbersRead {
     All { plain: bool },
     Refused(Refusal),
 }
+
+// The bytes that end a field, and a line.
+const TAB: u8 = b'\t';
+
+const LF: u8 = b'\n';
 
 // Is one of the 8 bytes from place `i` on an `a` or a `b`. The loop never stops early, so the compiler looks at all of them at once.
 fn either_in_8(l: &[u8], i: usize, a: u8, b: u8) -> bool
@@ -64,36 +70,44 @@ fn first_near(l: &[u8], from: usize, a: u8, b: u8) -> usize
     i
 }
 
-// The place of the first `a` or `b`; the length where there is none. Blocks of 8 bytes that have none are passed; the last ends where the
-// bytes end, and may begin inside the one before: of 12 bytes the blocks begin at places 0 and 4.
-fn first_either(l: &[u8], a: u8, b: u8) -> usize
-    ensures { λ r. ⌜ r ≡ firstWhere (either a b) (now (l .entry)) ⌝ }
+// The place of the first tab or LF from place `from` on; the length where there is none. Blocks of 8 bytes that have none are passed; the last
+// ends where the bytes end, and may begin inside the one before: of 12 bytes the blocks begin at places 0 and 4.
+fn first_split(l: &[u8], from: usize) -> usize
+    requires { ⌜ from ≤ length (now l) ⌝ }
+    ensures { λ r. ⌜ r ≡ from + firstWhere splits (drop from (now (l .entry))) ⌝ }
 {
     if l.len() < 8 {
-        return first_near(l, 0, a, b);
+        return first_near(l, from, TAB, LF);
     }
     let last = l.len() - 8;
-    let mut i = 0;
+    let mut i = from;
     while i < last {
-        if either_in_8(l, i, a, b) {
-            return first_near(l, i, a, b);
+        if either_in_8(l, i, TAB, LF) {
+            return first_near(l, i, TAB, LF);
         }
         i += 8;
     }
-    if either_in_8(l, last, a, b) {
-        return first_near(l, i, a, b);
+    if either_in_8(l, last, TAB, LF) {
+        return first_near(l, i, TAB, LF);
     }
     l.len()
 }
 
-// How many bytes the first field of `l` has, where so many tabs cut.
+// How many bytes the first field of `l` has, where so many tabs cut. An LF is passed: few lines have one before their end.
 pub fn field_length(l: &[u8], tabs: usize) -> usize
     ensures { λ r. ⌜ r ≡ fieldLen tabs (now (l .entry)) ⌝ }
 {
     if tabs == 0 {
         return l.len();
     }
-    first_either(l, b'\t', b'\t')
+    let mut i = first_split(l, 0);
+    while i < l.len() {
+        if l[i] == TAB {
+            return i;
+        }
+        i = first_split(l, i + 1);
+    }
+    i
 }
 
 // Is a value 0 where it may not be: in field 4 and in field 5.
@@ -203,33 +217,75 @@ fn digits_at(content: &[u8], at: usize) -> Digits
     Digits { value, end: i }
 }
 
-// Reads as many numbers as the table has, if all are as most are written; else the table holds any numbers. Each byte is looked at once:
-// whether a number ended at a tab is seen where the next begins.
-fn read_quickly(content: &[u8], name: usize, numbers: &mut [u64]) -> bool
-    ensures { λ r. ⌜ (r ≡ true → ReadAll (now (content .entry)) name (now (numbers .exit))) ⌝ }
+// Reads as many numbers as the table has, if all are as they are written, each with a tab before it, and tells the place behind the last; else 0,
+// and the table holds any numbers. Each byte is looked at once: whether a number ended at a tab is seen where the next begins.
+fn numbers_at(s: &[u8], place: usize, numbers: &mut [u64]) -> usize
+    ensures { λ r. ⌜ (0 < r → NumbersAt (now (s .entry)) place (now (numbers .exit)) r) ⌝ }
 {
-    if content.len() == 0 {
-        return false;
+    if s.len() == 0 {
+        return 0;
     }
-    let last = content.len() - 1;
-    let mut tab = name;
+    let last = s.len() - 1;
+    let mut tab = place;
     let mut i = 0;
     while i < numbers.len() {
         if last <= tab {
-            return false;
+            return 0;
         }
-        if content[tab] != b'\t' {
-            return false;
+        if s[tab] != TAB {
+            return 0;
         }
-        let d = digits_at(content, tab + 1);
+        let d = digits_at(s, tab + 1);
         if d.end <= tab + 1 {
-            return false;
+            return 0;
         }
         numbers[i] = d.value;
         tab = d.end;
         i += 1;
     }
-    tab == content.len()
+    tab
+}
+
+// Reads as many numbers as the table has, if all are as they are written and are all the rest; else the table holds any numbers.
+fn read_quickly(content: &[u8], name: usize, numbers: &mut [u64]) -> bool
+    ensures { λ r. ⌜ (r ≡ true → ReadAll (now (content .entry)) name (now (numbers .exit))) ⌝ }
+{
+    let end = numbers_at(content, name, numbers);
+    if end == 0 {
+        return false;
+    }
+    end == content.len()
+}
+
+// A line as it is written: how many bytes its name has, and the place behind its LF.
+pub struct Standing {
+    pub name: usize,
+    pub end: usize,
+}
+
+// Reads the line that begins at a place of a text, in one walk and without a look for its end first: a name, as many numbers as the table has, and an
+// LF, if they stand there as they are written and no number is 0. Else its end is 0, and the table holds any numbers.
+pub fn line_at(text: &[u8], at: usize, numbers: &mut [u64]) -> Standing
+    ensures { λ r. ⌜ (0 < r .end → LineAt (now (text .entry)) at (r .name) (r .end) (now (numbers .exit))) ⌝ }
+{
+    if text.len() <= at {
+        return Standing { name: 0, end: 0 };
+    }
+    let place = first_split(text, at);
+    let end = numbers_at(text, place, numbers);
+    if end == 0 {
+        return Standing { name: 0, end: 0 };
+    }
+    if text.len() <= end {
+        return Standing { name: 0, end: 0 };
+    }
+    if text[end] != LF {
+        return Standing { name: 0, end: 0 };
+    }
+    Standing {
+        name: place - at,
+        end: end + 1,
+    }
 }
 
 // Reads as many numbers as the table has, each behind a tab; the first tab stands behind a name of `name` bytes, or there is the end.
@@ -246,7 +302,7 @@ pub fn read_numbers(content: &[u8], name: usize, line: u64, numbers: &mut [u64])
 fn name_split(name: &[u8]) -> usize
     ensures { λ r. ⌜ r ≡ firstWhere splits (now (name .entry)) ⌝ }
 {
-    first_either(name, b'\t', b'\n')
+    first_split(name, 0)
 }
 
 // How many bytes a name and numbers are written with.
@@ -282,7 +338,7 @@ fn put_numbers(numbers: &[u64], out: &mut [u8], end: usize)
         i -= 1;
         place = decimal::put_before(numbers[i], out, place);
         place -= 1;
-        out[place] = b'\t';
+        out[place] = TAB;
     }
 }
 
@@ -292,7 +348,7 @@ fn put_text(name: &[u8], numbers: &[u64], out: &mut [u8], needed: usize)
     ensures { λ _. ⌜ now (out .exit) ≡ overlaid (now (out .entry)) 0 (textOf (now (name .entry)) (now (numbers .entry))) ⌝ }
 {
     let end = needed - 1;
-    out[end] = b'\n';
+    out[end] = LF;
     put_numbers(numbers, out, end);
     put_front(name, out);
 }

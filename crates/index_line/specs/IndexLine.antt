@@ -1,12 +1,13 @@
 -- What an index line says, and how one is written.
 use Prim.Native.Nat.{ℕ}
+use mathlib.Core.Path.{_≡_}
 use mathlib.Core.List.{List, [], _∷_}
 use mathlib.Core.Bool.{Bool, true, false, cond, not, _&&_}
 use lib.ListN.{length, getD, take, drop}
 use lib.Dec.{eqb}
 use Rattle.refusal.specs.declared.Refusal.the-variants.{TooLong, EmptyIndexLine}
 use Rattle.refusal.specs.Numbers.{overLimit}
-use Rattle.lines.specs.Lines.{lineLen, chop, ends, contentOf}
+use Rattle.lines.specs.Lines.{part, lineLen, lineEnd, chop, ends, contentOf}
 use Rattle.record.specs.declared.Record.{Record}
 use Rattle.table.specs.declared.Held.{Held}
 use Rattle.table.specs.declared.Held.the-variants as held
@@ -65,6 +66,11 @@ onlyIf p (read.Refused r) = read.Refused r
 -- number has a needless leading zero or a plus. A line of a text has no other LF; bytes that stand alone may have one
 unfoldable pub indexLineSays : ℕ → List ℕ → LineRead
 indexLineSays line l = onlyIf (plainEnd l) (contentSays line (contentOf l))
+
+-- what the line at a place of a text says, and where it ends
+pub record SaidAt (line : ℕ) (text : List ℕ) (at : ℕ) (r : LineRead) (e : ℕ) : Type 0 where
+  pub end : e ≡ lineEnd text at
+  pub read : r ≡ indexLineSays line (part text at e)
 
 -- the name of a line: its first field
 abbrev pub firstOf : List (List ℕ) → List ℕ

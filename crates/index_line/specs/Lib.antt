@@ -5,5 +5,6 @@ pub mod AnyColumns
 pub mod Laws
 pub mod RoundTripLaws
 pub mod RoundTrip
+pub mod Standing
 pub mod PlainAgainLaws
 pub mod PlainAgain

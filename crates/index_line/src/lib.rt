@@ -11,7 +11,7 @@ use refusal::Refusal;
 use table::Held;
 use table::InUse;
 ghost use mathlib.Core.Path.{_≡_};
-ghost use Rattle.index_line.specs.IndexLine.{contentSays, onlyIf, indexLineSays, readContent, readLine, lineWritten};
+ghost use Rattle.index_line.specs.IndexLine.{recordOf, contentSays, onlyIf, indexLineSays, SaidAt, readContent, readLine, lineWritten};
 ghost use lib.ListN.{length};
 ghost use Rattle.output.specs.Outcome.{leaves};
 ghost use Rattle.table.specs.Rows.{namedOf};
@@ -29,8 +29,22 @@ pub enum LineRead {
     Refused(Refusal),
 }
 
+// A line read where it stands in a text, and the place behind it.
+pub struct ReadAt {
+    pub read: LineRead,
+    pub end: usize,
+}
+
 // How many numbers a line has behind its name, each with a tab before it.
 const NUMBERS: usize = 4;
+
+// The record of a name of so many bytes, at the front of its line, and of a line's numbers.
+fn record_of(name: usize, numbers: &[u64; NUMBERS]) -> Record
+    ensures { λ r. ⌜ r ≡ recordOf name (now (numbers .entry)) ⌝ }
+{
+    let unnamed = Record::unnamed(numbers[0], Offset(numbers[1]), numbers[2], numbers[3]);
+    unnamed.named(0, name as u64)
+}
 
 // Reads the content of line number `line`, which has no end. Of content, plain means that no number has a needless leading zero or a plus.
 fn parse_record(content: &[u8], line: u64) -> LineRead
@@ -44,8 +58,7 @@ fn parse_record(content: &[u8], line: u64) -> LineRead
     match fields::read_numbers(content, name, line, &mut numbers) {
         NumbersRead::Refused(r) => LineRead::Refused(r),
         NumbersRead::All { plain } => {
-            let unnamed = Record::unnamed(numbers[0], Offset(numbers[1]), numbers[2], numbers[3]);
-            let record = unnamed.named(0, name as u64);
+            let record = record_of(name, &numbers);
             LineRead::Row(Entry { record, plain })
         }
     }
@@ -75,6 +88,41 @@ pub fn parse_line(l: &[u8], line: u64) -> LineRead
     let length = lines::content_length(l);
     let ended = l.len() - length == 1;
     plain_if(ended, parse_record(&l[..length], line))
+}
+
+// Reads the line that begins at a place of a text, by its end, which is looked for first.
+fn parse_by_end(text: &[u8], at: usize, line: u64) -> ReadAt
+    ensures { λ r. ⌜ SaidAt line (now (text .entry)) at (r .read) (r .end) ⌝ }
+{
+    if text.len() <= at {
+        return ReadAt {
+            read: LineRead::Refused(Refusal::EmptyIndexLine { line }),
+            end: at,
+        };
+    }
+    let end = lines::ends::line_end(text, at);
+    let read = parse_line(&text[at..end], line);
+    ReadAt { read, end }
+}
+
+// Reads the line that begins at a place of a text, and tells where it ends; at or past the end of the text there is an empty line. Most lines are
+// as they are written, and are read in one walk.
+pub fn parse_at(text: &[u8], at: usize, line: u64) -> ReadAt
+    ensures { λ r. ⌜ SaidAt line (now (text .entry)) at (r .read) (r .end) ⌝ }
+{
+    let mut numbers: [u64; NUMBERS] = [0; NUMBERS];
+    let found = fields::line_at(text, at, &mut numbers);
+    if found.end == 0 {
+        return parse_by_end(text, at, line);
+    }
+    let record = record_of(found.name, &numbers);
+    ReadAt {
+        read: LineRead::Row(Entry {
+            record,
+            plain: true,
+        }),
+        end: found.end,
+    }
 }
 
 // Reads the content of a line that stands alone. It is not plain: a plain line ends in LF.

@@ -3,7 +3,7 @@
 use mathlib.Core.Path.{_≡_}
 use native.Mathlib.Omega.{arith}
 use lib.ListN.{length}
-use Rattle.columns.specs.Quick.{ReadAll}
+use Rattle.columns.specs.Standing.{ReadAll}
 use borrow.Author.Needs.{needs}
 use Rattle.columns.proofs.fields.read_numbers.Statement.{statement}
 use Rattle.columns.proofs.fields.read_numbers.Tie as tie
