@@ -261,7 +261,7 @@ fn clear_in(key: &[u8], typed: &[u8], at: usize, n: usize) -> Passed
         right = right + wide(fit.right);
         j += m;
     }
-    Passed { places: n, right }
+    Passed { places: j, right }
 }
 
 // How many of the places that the bits of a word stand for are right in edition 2. Each turn takes the lowest bit away.

@@ -66,7 +66,7 @@ loop-again : tie.Need-loop-again Inv-loop μ-loop
 loop-again c = (search needs, rw (c .wide2 .ensures) (part (c .before)))
 
 returns-2 : tie.Need-returns-2 Inv-loop μ-loop
-returns-2 c = let q : c .before .loop .j ≡ c .before .before .before .before .args .n = omega arith in (omega arith, rw q at (c .before .loop .inv .1))
+returns-2 c = c .before .loop .inv
 
 pub clear-in-spec : {M : Type 1} → statement M
 clear-in-spec =
