@@ -47,6 +47,12 @@ unfolding countBelow
 count-stops f n zero h = rw add-zero
 count-stops f n (suc d) h = rw (add-suc n d, h (n + d) (omega arith)) (omega (arith, count-stops f n d h))
 
+-- two tests, of which at each place one holds where a third does
+pub count-two : (f g h : ℕ → Bool) (n : ℕ) → ((p : ℕ) → bit (f p) + bit (g p) ≡ bit (h p)) → countBelow f n + countBelow g n ≡ countBelow h n
+unfolding countBelow
+count-two f g h zero e = refl
+count-two f g h (suc n) e = omega (arith, count-two f g h n e, e n)
+
 -- three tests, of which at each place one holds
 pub count-three : (f g h : ℕ → Bool) (n : ℕ) → ((p : ℕ) → bit (f p) + bit (g p) + bit (h p) ≡ 1) → countBelow f n + countBelow g n + countBelow h n ≡ n
 unfolding countBelow
@@ -77,7 +83,7 @@ counted-join f at m n r s c d =
     let q : at + (m + n) ≡ at + m + n = omega arith in
     record { counts = rw q (omega (arith, c .counts, d .counts)); most = omega (arith, c .most, d .most) }
 
-count-rise : (f : ℕ → Bool) (a d : ℕ) → countBelow f (a + d) ≤ countBelow f a + d
+pub count-rise : (f : ℕ → Bool) (a d : ℕ) → countBelow f (a + d) ≤ countBelow f a + d
 unfolding countBelow
 count-rise f a zero = rw (add-zero a) (omega arith)
 count-rise f a (suc d) = rw (add-suc a d) (omega (arith, count-rise f a d, bit-lt (f (a + d))))

@@ -6,4 +6,7 @@ pub mod Laws
 pub mod Theorems
 pub mod Plain
 pub mod Meant
+pub mod Lanes
+pub mod Bits
+pub mod Open
 pub mod Examples

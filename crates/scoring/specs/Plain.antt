@@ -15,7 +15,7 @@ use Rattle.scoring.specs.RuleLaws.{holds, holds-at}
 use Rattle.scoring.specs.Counting.{Counted, agrees, counted-as}
 use Rattle.scoring.specs.Theorems.{among, all, all-at, beq, beq-same}
 
-abbrev lone : List ℕ
+abbrev pub lone : List ℕ
 lone = 65 ∷ 67 ∷ 69 ∷ 71 ∷ 84 ∷ 97 ∷ 99 ∷ 101 ∷ 103 ∷ 116 ∷ []
 
 -- a letter that stands for one base, in either case, but U; or E, which stands for none

@@ -1,9 +1,12 @@
 // What was typed against a key: how many places of the key are right, wrong and missing, how much was typed past it, and the score,
 // whose denominator is what was asked. Refused: 1 for bytes over the limit, then 33 for an edition that is not known.
+mod lanes;
+
 use refusal::Refusal;
 ghost use mathlib.Core.Path.{_≡_};
-ghost use mathlib.Core.Bool.{true, false};
-ghost use Prim.Native.Nat.{ℕ, _+_, _≤_, _<_, min};
+ghost use mathlib.Core.Bool.{true, false, not};
+ghost use Prim.Native.Nat.{ℕ, _+_, _*_, _≤_, _<_, min};
+ghost use lib.Dec.{ltb};
 ghost use lib.ListN.{length, getD};
 ghost use Rattle.letters.specs.Letters.{setOf};
 ghost use Rattle.letters.specs.Sets.{bit};
@@ -11,6 +14,9 @@ ghost use Rattle.letters.specs.Table.{IsTable};
 ghost use Rattle.scoring.specs.Rules.{folded, same, lies, ruleFor};
 ghost use Rattle.scoring.specs.Plain.{isLone, isUracil, alike, told};
 ghost use Rattle.scoring.specs.Meant.{isClear, isThymine, meant, clear, fits};
+ghost use Rattle.scoring.specs.Open.{isOpen, openLies};
+ghost use Rattle.scoring.specs.Lanes.{IsLanes, weigh, sumTo};
+ghost use Rattle.scoring.specs.Bits.{hits, place};
 ghost use Rattle.scoring.specs.Places.{tenths, scoreBy, keyScored, scoredAs};
 ghost use Rattle.scoring.specs.Counting.{Counted, agrees};
 
@@ -32,6 +38,18 @@ pub enum Scored {
 struct Seen {
     right: u8,
     told: u8,
+}
+
+// Some places from the front of others: how many they are, and how many of them are right.
+struct Passed {
+    places: usize,
+    right: usize,
+}
+
+// What a look at a part finds: how many places are right, and an estimate of how many are open.
+struct Look {
+    right: usize,
+    many: u32,
 }
 
 // An ASCII letter in upper case; another byte as it is.
@@ -218,18 +236,6 @@ fn right_bit(codes: &[u8; 256], k: u8, t: u8, second: bool) -> u8
     same_bit(k, t)
 }
 
-// How many of at most 224 places are right in edition 2: by the letters that the key means, or each place is looked at.
-fn second_part(codes: &[u8; 256], key: &[u8], typed: &[u8], at: usize, n: usize) -> usize
-    requires { ⌜ (IsTable setOf (now codes) × (n ≤ 224)) × (at + n ≤ length (now key)) × (at + n ≤ length (now typed)) ⌝ }
-    ensures { λ r. ⌜ Counted (agrees (ruleFor true) (now (key .entry)) (now (typed .entry))) at n r ⌝ }
-{
-    let seen = fits_in(key, typed, at, n);
-    if wide(seen.told) == n {
-        return wide(seen.right);
-    }
-    run(codes, key, typed, at, n, true)
-}
-
 fn smaller(a: usize, b: usize) -> usize
     ensures { λ r. ⌜ r ≡ min a b ⌝ }
 {
@@ -239,17 +245,145 @@ fn smaller(a: usize, b: usize) -> usize
     b
 }
 
-// The same of any number of places, part by part.
-fn second_rest(codes: &[u8; 256], key: &[u8], typed: &[u8], at: usize, n: usize) -> usize
-    requires { ⌜ IsTable setOf (now codes) × (at + n ≤ length (now key)) × (at + n ≤ length (now typed)) ⌝ }
-    ensures { λ r. ⌜ Counted (agrees (ruleFor true) (now (key .entry)) (now (typed .entry))) at n r ⌝ }
+// How many of the first places are right in edition 2, by the letters that the key means, up to the first part that they do not tell.
+fn clear_in(key: &[u8], typed: &[u8], at: usize, n: usize) -> Passed
+    requires { ⌜ (at + n ≤ length (now key)) × (at + n ≤ length (now typed)) ⌝ }
+    ensures { λ r. ⌜ (r .places ≤ n) × Counted (agrees lies (now (key .entry)) (now (typed .entry))) at (r .places) (r .right) ⌝ }
 {
     let mut right: usize = 0;
     let mut j = 0;
     while j < n {
         let m = smaller(n - j, 224);
-        right = right + second_part(codes, key, typed, at + j, m);
+        let fit = fits_in(key, typed, at + j, m);
+        if wide(fit.told) < m {
+            return Passed { places: j, right };
+        }
+        right = right + wide(fit.right);
         j += m;
+    }
+    Passed { places: j, right }
+}
+
+// How many of the places that the bits of a word stand for are right in edition 2. Each turn takes the lowest bit away.
+fn walk(codes: &[u8; 256], key: &[u8], typed: &[u8], at: usize, word: u64) -> usize
+    requires { ⌜ IsTable setOf (now codes) × (hits (λ i. not (ltb (at + place i) (min (length (now key)) (length (now typed))))) 64 0 word ≡ 0) ⌝ }
+    ensures { λ r. ⌜ r ≡ hits (λ i. agrees lies (now (key .entry)) (now (typed .entry)) (at + place i)) 64 0 word ⌝ }
+{
+    let mut right: usize = 0;
+    let mut x = word;
+    while x != 0 {
+        let p = at + wide(lanes::place(u64::trailing_zeros(x) as u8));
+        right = right + wide(lies_bit(codes, key[p], typed[p]));
+        x = x & (x - 1);
+    }
+    right
+}
+
+// The same of all lanes, which have their open places.
+fn walks(
+    codes: &[u8; 256],
+    key: &[u8],
+    typed: &[u8],
+    at: usize,
+    blocks: usize,
+    opens: &[u8; 32],
+) -> usize
+    requires { ⌜ (IsTable setOf (now codes) × (blocks ≤ 7)) × ((at + 32 * blocks ≤ length (now key)) × (at + 32 * blocks ≤ length (now typed))) × IsLanes (agrees isOpen (now key) (now typed)) 2 at blocks (now opens) ⌝ }
+    ensures { λ r. ⌜ r ≡ sumTo (weigh (agrees openLies (now (key .entry)) (now (typed .entry))) 1 at blocks) 32 ⌝ }
+{
+    let mut right: usize = 0;
+    let mut i = 0;
+    while i < 4 {
+        right = right + walk(codes, key, typed, at + 8 * i, lanes::word(opens, 8 * i));
+        i += 1;
+    }
+    right
+}
+
+// An estimate of how many places are open, by the first eight lanes. It is 0 where most places are right and settled.
+fn many(opens: &[u8; 32], right: usize, n: usize) -> u32
+    requires { ⌜ right ≤ 224 ⌝ }
+{
+    if right + 28 < n {
+        return u64::count_ones(lanes::word(opens, 0));
+    }
+    0
+}
+
+// How many places of some blocks are right in edition 2: those that are settled, and the open ones, bit by bit, or place by place where
+// most are open.
+fn open_part(codes: &[u8; 256], key: &[u8], typed: &[u8], at: usize, blocks: usize) -> Look
+    requires { ⌜ (IsTable setOf (now codes) × (blocks ≤ 7)) × (at + 32 * blocks ≤ length (now key)) × (at + 32 * blocks ≤ length (now typed)) ⌝ }
+    ensures { λ r. ⌜ Counted (agrees lies (now (key .entry)) (now (typed .entry))) at (32 * blocks) (r .right) ⌝ }
+{
+    let lanes = lanes::lanes_in(key, typed, at, blocks);
+    let settled = lanes::total(&lanes.right);
+    let many = many(&lanes.opens, settled, 32 * blocks);
+    if 32 < many {
+        return Look {
+            right: run(codes, key, typed, at, 32 * blocks, true),
+            many,
+        };
+    }
+    Look {
+        right: settled + walks(codes, key, typed, at, blocks, &lanes.opens),
+        many,
+    }
+}
+
+// How many places to look at one by one after a part with many open ones: none, or, after one with most of them open, up to 896, since what
+// follows is likely to be the same.
+fn ahead(many: u32, left: usize) -> usize
+    ensures { λ r. ⌜ r ≤ left ⌝ }
+{
+    if many <= 32 {
+        return 0;
+    }
+    smaller(left, 896)
+}
+
+// How many of the first places are right in edition 2, by blocks, up to the first part with many open places: a key that has many N or U is
+// told better by the letters that it means.
+fn open_in(codes: &[u8; 256], key: &[u8], typed: &[u8], at: usize, n: usize) -> Passed
+    requires { ⌜ IsTable setOf (now codes) × (at + n ≤ length (now key)) × (at + n ≤ length (now typed)) ⌝ }
+    ensures { λ r. ⌜ (r .places ≤ n) × (0 < n → 0 < r .places) × Counted (agrees lies (now (key .entry)) (now (typed .entry))) at (r .places) (r .right) ⌝ }
+{
+    let mut right: usize = 0;
+    let mut j = 0;
+    while 32 <= n - j {
+        let blocks = smaller((n - j) / 32, 7);
+        let look = open_part(codes, key, typed, at + j, blocks);
+        right = right + look.right;
+        j += 32 * blocks;
+        if 7 < look.many {
+            let m = ahead(look.many, n - j);
+            return Passed {
+                places: j + m,
+                right: right + run(codes, key, typed, at + j, m, true),
+            };
+        }
+    }
+    Passed {
+        places: n,
+        right: right + run(codes, key, typed, at + j, n - j, true),
+    }
+}
+
+// The same of all places: by the letters that the key means as far as they tell, then by blocks, and again.
+fn second_rest(codes: &[u8; 256], key: &[u8], typed: &[u8], at: usize, n: usize) -> usize
+    requires { ⌜ IsTable setOf (now codes) × (at + n ≤ length (now key)) × (at + n ≤ length (now typed)) ⌝ }
+    ensures { λ r. ⌜ Counted (agrees (ruleFor true) (now (key .entry)) (now (typed .entry))) at n r ⌝ }
+{
+    let first = clear_in(key, typed, at, n);
+    let mut right = first.right;
+    let mut j = first.places;
+    while j < n {
+        let looked = open_in(codes, key, typed, at + j, n - j);
+        right = right + looked.right;
+        j += looked.places;
+        let clear = clear_in(key, typed, at + j, n - j);
+        right = right + clear.right;
+        j += clear.places;
     }
     right
 }
