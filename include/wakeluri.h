@@ -7,7 +7,8 @@
  * record without a description or with an empty one. Rows and offsets count from 0, base positions, lines and records from 1.
  * Every answer begins with the refusal's number, 0 for none, and its two numbers. A refusal leaves outputs as they were; rows that
  * were indexed or read before it stay, and are counted. Every call takes any bytes and any numbers. An output or a table that a call
- * changes may not overlap other bytes that are lent to the same call.
+ * changes may not overlap other bytes that are lent to the same call. A bound, or a description, that has a flag before it is absent if the
+ * flag is 0.
  *
  * A definition line that does not read is refused with 2 (empty), 3 (no '>') or 4 (no name), and with the offset where reading it
  * failed: where the line begins, plus 0 for 2 and 3, 1 for 4. wakeluri_check answers the record first and that offset second.
@@ -122,7 +123,7 @@ struct wakeluri_answer wakeluri_index_complete(const uint8_t *file, size_t file_
 
 /* The same of a part of a file, for a host that has several cores: a row for each record that begins at `from` or behind it, and before `to`. By
  * the rule of wakeluri_index_file for 0, else by that of wakeluri_index_complete. Any numbers will do: a record begins at 0, and at a '>' behind
- * an LF. Offsets and spans are those of the whole file. Where the numbers of parts rise from 0 to file_length or more, the rows of all parts,
+ * an LF. Offsets and spans are those of the whole file. Where the numbers of parts rise from 0 to the file's length or more, the rows of all parts,
  * one behind the other up to the first refusal, are the rows of the file, and that refusal is the file's. Refuses 1 for the whole file, and as
  * that call does. */
 struct wakeluri_answer wakeluri_index_part(const uint8_t *file, size_t file_length, uint64_t from, uint64_t to, uint64_t complete, uint8_t *table, size_t table_length);
@@ -156,7 +157,7 @@ struct wakeluri_answer wakeluri_write_index_line(const uint8_t *names, size_t na
 /* The first row in use that has the name, as `count`. Look a name up once, and read from its row as often as you like. Refuses 1, 25, 15. */
 struct wakeluri_answer wakeluri_find(const uint8_t *names, size_t names_length, const uint8_t *table, size_t table_length, uint64_t in_use, const uint8_t *name, size_t name_length);
 
-/* Exactly the bases from `start` to `end` of a row's record, never fewer; a bound is absent if its flag is 0. Refuses 1, 16, 25, 17, 14, 18. */
+/* Exactly the bases from `start` to `end` of a row's record, never fewer. Refuses 1, 16, 25, 17, 14, 18. */
 struct wakeluri_answer wakeluri_read_exact(const uint8_t *file, size_t file_length, const uint8_t *table, size_t table_length, uint64_t in_use, uint64_t row, uint64_t has_start, uint64_t start, uint64_t has_end, uint64_t end, uint8_t *out, size_t out_length);
 
 /* Exactly the bases of up to 200 regions, one after another at the front of `out`, and where each begins at the front of `starts`, which is
@@ -185,8 +186,8 @@ struct wakeluri_answer wakeluri_complement(const uint8_t *bases, size_t bases_le
 /* The reverse complement, at the front of `out`. Refuses 1, 14, and 24 with the last bad byte. */
 struct wakeluri_answer wakeluri_reverse_complement(const uint8_t *bases, size_t bases_length, uint8_t *out, size_t out_length);
 
-/* A FASTA record at the front of `out`: '>', the name, one space and the description if there is one (its flag is not 0), LF; then the
- * bases in lines of `width`, each with LF; answers how many bytes. Refuses 1, 27 to 30, 14. */
+/* A FASTA record at the front of `out`: '>', the name, one space and the description if there is one, LF; then the bases in
+ * lines of `width`, each with LF; answers how many bytes. Refuses 1, 27 to 30, 14. */
 struct wakeluri_answer wakeluri_write_record(const uint8_t *name, size_t name_length, uint64_t has_description, const uint8_t *description, size_t description_length, const uint8_t *bases, size_t bases_length, uint64_t width, uint8_t *out, size_t out_length);
 
 /* Bases alone, in lines of `width`, each with LF: the next piece of a record whose pieces so far were whole lines. Refuses 1, 27, 30, 14. */
@@ -240,8 +241,7 @@ struct wakeluri_fastq wakeluri_fastq_read_line(const uint8_t *line, size_t line_
 /* The index line of a row, of six columns and with its LF, at the front of `out`; answers how many bytes. Refuses 1, 25, 13, 14. */
 struct wakeluri_answer wakeluri_fastq_write_line(const uint8_t *names, size_t names_length, const uint8_t *table, size_t table_length, uint64_t in_use, uint64_t row, uint8_t *out, size_t out_length);
 
-/* Exactly the bases from `start` to `end` of a row's record, or exactly their qualities if `qualities` is not 0, never fewer; a bound is
- * absent if its flag is 0. Refuses 1, 16, 25, 17, 14, 18. */
+/* Exactly the bases from `start` to `end` of a row's record, or exactly their qualities if `qualities` is not 0, never fewer. Refuses 1, 16, 25, 17, 14, 18. */
 struct wakeluri_answer wakeluri_fastq_read(const uint8_t *file, size_t file_length, const uint8_t *table, size_t table_length, uint64_t in_use, uint64_t row, uint64_t has_start, uint64_t start, uint64_t has_end, uint64_t end, uint64_t qualities, uint8_t *out, size_t out_length);
 
 /* Accepts a FASTQ file and an index of six columns, of any program, exactly if wakeluri_fastq_index takes the file and the index leads to every base

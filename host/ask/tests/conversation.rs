@@ -1,7 +1,7 @@
 //! The library answers the examples as they stand, and as the model does.
 
 use ask::Library;
-use questions::family::EXAMPLES;
+use questions::family::examples;
 use questions::form::answered;
 use questions::generate::Questions;
 
@@ -20,7 +20,7 @@ def x41 x41 => skip";
 #[test]
 fn the_examples() {
     // without its program, the library has no answer for one family
-    let asked = EXAMPLES.lines().filter(|line| !line.starts_with("prg "));
+    let asked = examples().filter(|line| !line.starts_with("prg "));
     for line in asked.chain(SKIPPED.lines()) {
         assert_eq!(answered(&LIBRARY, line).as_deref(), Some(line));
     }

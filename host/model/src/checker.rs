@@ -4,8 +4,18 @@ use crate::lines::{bases, content, definition_at, first_line};
 use crate::reads::offset;
 use crate::rows::{file_rows, index_content, record, sequence_lines, write_line};
 use crate::{PROGRAM_BYTES, PROGRAM_ROWS, n, no};
-use questions::form::No;
+use questions::form::{Answer, No, Value};
 use questions::row::{Rows, WORDS, row};
+
+/// The answers of this file's families.
+pub(crate) fn answer(family: &str, arguments: &mut [Value]) -> Option<Answer> {
+    use questions::form::Value::Bytes;
+    Some(match (family, arguments) {
+        ("chk", [Bytes(fasta), Bytes(index)]) => check(fasta, index).into(),
+        ("prg", [Bytes(input)]) => Ok(vec![Bytes(program(input))]).into(),
+        _ => return None,
+    })
+}
 
 // ---- the checker ----
 

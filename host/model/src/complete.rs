@@ -3,10 +3,19 @@
 use crate::checker::base_offsets;
 use crate::lines::{bases, definition_at, first_line, from};
 use crate::reads::offset;
-use crate::rows::{record_row, sequence_lines};
+use crate::rows::{file_rows, record_row, sequence_lines};
 use crate::{n, no};
-use questions::form::No;
+use questions::form::{Answer, No, Value};
 use questions::row::Row;
+
+/// The answers of this file's families.
+pub(crate) fn answer(family: &str, arguments: &mut [Value]) -> Option<Answer> {
+    use questions::form::Value::{Bytes, Table};
+    Some(match (family, arguments) {
+        ("fit", [Bytes(file), Table(table)]) => file_rows(file, table, fitted_record).into(),
+        _ => return None,
+    })
+}
 
 /// The row of the record at an offset by the complete rule, and the offset behind it: the three numbers are those of the bases'
 /// offsets alone, and every base is compared with them.

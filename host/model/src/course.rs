@@ -4,8 +4,27 @@ use crate::primers::bases;
 use crate::reads::{exact, put};
 use crate::rows::find;
 use crate::{n, no};
-use questions::form::No;
+use questions::form::{Answer, No, Value};
 use questions::row::Rows;
+
+/// The answers of this file's families.
+pub(crate) fn answer(family: &str, arguments: &mut [Value]) -> Option<Answer> {
+    use questions::form::Value::{Bytes, Number, Output, Rows};
+    Some(match (family, arguments) {
+        ("exw", [Bytes(name), Number(start), Number(end), Number(edition), Output(out)]) => {
+            write_exercise(name, *start, *end, *edition, out).into()
+        }
+        ("exd", [Bytes(bytes)]) => {
+            let read = read_exercise(bytes);
+            read.map(|(name, numbers)| [Bytes(name)].into_iter().chain(numbers.map(Number)).collect::<Vec<_>>()).into()
+        }
+        ("sco", [Bytes(key), Bytes(typed), Number(edition)]) => score(key, typed, *edition).into(),
+        ("scr", [Bytes(exercise), Bytes(typed), Bytes(file), Bytes(names), Rows(rows), Output(key)]) => {
+            score_exercise(exercise, typed, file, names, rows, key).into()
+        }
+        _ => return None,
+    })
+}
 
 /// The fields of an exercise: a tag, two bytes of length, high byte first, and so many bytes.
 pub(crate) fn write_exercise(name: &[u8], start: u64, end: u64, edition: u64, out: &mut [u8]) -> Result<u64, No> {

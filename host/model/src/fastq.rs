@@ -3,10 +3,26 @@
 use crate::checker::base_offsets;
 use crate::lines::{bases, content, first_line, from, marked_definition};
 use crate::reads::{self, offset, put};
-use crate::rows::{columns, named_row};
+use crate::rows::{columns, file_rows, index_rows, named_row};
 use crate::{n, no};
-use questions::form::{Bounds, No};
+use questions::form::{Answer, Bounds, No, Value};
 use questions::row::{FASTQ_WORDS, FastqRow, Row, Rows, row};
+
+/// The answers of this file's families.
+pub(crate) fn answer(family: &str, arguments: &mut [Value]) -> Option<Answer> {
+    use questions::form::Value::{Bounds, Bytes, Number, Numbers, Output, Rows, Table};
+    Some(match (family, arguments) {
+        ("fqi", [Bytes(file), Table(table)]) => file_rows(file, table, record).into(),
+        ("fqt", [Bytes(index), Table(table)]) => index_rows(index, table, line).into(),
+        ("fql", [Bytes(text)]) => line(content(text), 0, 1).map(|row| vec![Numbers(row.to_vec())]).into(),
+        ("fqw", [Bytes(names), Rows(rows), Number(row), Output(out)]) => write_line(names, rows, *row, out).into(),
+        ("fqr", [Bytes(file), Rows(rows), Number(row), Bounds(bounds), Number(which), Output(out)]) => {
+            exact(file, rows, *row, *bounds, *which, out).into()
+        }
+        ("fqc", [Bytes(file), Bytes(index)]) => check(file, index).into(),
+        _ => return None,
+    })
+}
 
 // ---- the indexer ----
 

@@ -7,8 +7,18 @@ use crate::complete::fitted_record;
 use crate::lines::{definition_at, first_line};
 use crate::rows::{put_row, record, sequence_lines};
 use crate::{LIMIT, n};
-use questions::form::No;
+use questions::form::{Answer, No, Value};
 use questions::row::Row;
+
+/// The answers of this file's families.
+pub(crate) fn answer(family: &str, arguments: &mut [Value]) -> Option<Answer> {
+    use questions::form::Value::{Stepped, Steps, Table};
+    Some(match (family, arguments) {
+        ("fed", [Table(table), Steps(steps)]) => Ok(vec![Stepped(fed(table, steps, false))]).into(),
+        ("ffd", [Table(table), Steps(steps)]) => Ok(vec![Stepped(fed(table, steps, true))]).into(),
+        _ => return None,
+    })
+}
 
 /// The row of the record at an offset, and the offset behind it.
 type Indexed = Result<Option<(Row, u64)>, No>;

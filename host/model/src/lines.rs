@@ -1,7 +1,25 @@
 //! Lines, definition lines, and the scanning rule.
 
 use crate::{n, no};
-use questions::form::No;
+use questions::form::{Answer, No, Value};
+
+/// The answers of this file's families.
+pub(crate) fn answer(family: &str, arguments: &mut [Value]) -> Option<Answer> {
+    use questions::form::Value::{Bytes, Number};
+    Some(match (family, arguments) {
+        ("def", [Bytes(line)]) => definition(content(line)).into(),
+        ("dfc", [Bytes(content)]) => definition(content).into(),
+        ("lin", [Bytes(file), Number(at)]) => {
+            let line = first_line(from(file, *at));
+            Ok(line.map(|line| [*at, n(content(line).len()), *at + n(line.len())])).into()
+        }
+        ("run", [Bytes(file), Number(at)]) => {
+            let (start, line) = run(file, *at);
+            Ok([start, n(line.len())]).into()
+        }
+        _ => return None,
+    })
+}
 
 // ---- lines ----
 

@@ -1,12 +1,27 @@
 //! Parts of a file: the records that begin between two numbers.
 
 use crate::checker::judge;
+use crate::complete::fitted_record;
 use crate::lines::first_line;
-use crate::rows::{Filled, fill};
+use crate::rows::{Filled, fill, record};
 use crate::{n, no};
-use questions::form::No;
+use questions::form::{Answer, No, Value};
 use questions::row::Row;
 use std::ops::Range;
+
+/// The answers of this file's families.
+pub(crate) fn answer(family: &str, arguments: &mut [Value]) -> Option<Answer> {
+    use questions::form::Value::{Bytes, Number, Table};
+    Some(match (family, arguments) {
+        ("ipt", [Bytes(file), Number(from), Number(to), Number(complete), Table(table)]) => {
+            index(file, *from..*to, if *complete == 0 { record } else { fitted_record }, table).into()
+        }
+        ("cpt", [Bytes(fasta), Number(from), Number(to), Bytes(index), Number(first), Number(last)]) => {
+            check(fasta, *from..*to, index, *first..*last).into()
+        }
+        _ => return None,
+    })
+}
 
 /// Where lines begin: at the start, and behind each LF.
 fn lines_in(text: &[u8], part: Range<u64>) -> impl Iterator<Item = usize> {

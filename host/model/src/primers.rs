@@ -1,7 +1,18 @@
 //! Primers: the bases that each letter allows, by the IUPAC nucleotide codes, written as texts.
 
 use crate::{n, no};
-use questions::form::No;
+use questions::form::{Answer, No, Value};
+
+/// The answers of this file's families.
+pub(crate) fn answer(family: &str, arguments: &mut [Value]) -> Option<Answer> {
+    use questions::form::Value::{Bytes, Number};
+    Some(match (family, arguments) {
+        ("deg", [Bytes(primer)]) => degeneracy(primer).into(),
+        ("prm", [Bytes(primer), Bytes(text)]) => next_place(primer, text, 0).into(),
+        ("prn", [Bytes(primer), Bytes(text), Number(from)]) => next_place(primer, text, *from).into(),
+        _ => return None,
+    })
+}
 
 /// The bases that a byte stands for; none if it has no code.
 pub(crate) fn bases(byte: u8) -> &'static str {

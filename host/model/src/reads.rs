@@ -3,8 +3,32 @@
 use crate::lines::scan;
 use crate::rows::held_row;
 use crate::{n, no};
-use questions::form::{Bounds, No};
+use questions::form::{Answer, Bounds, No, Value};
 use questions::row::{Row, Rows};
+
+/// The answers of this file's families.
+pub(crate) fn answer(family: &str, arguments: &mut [Value]) -> Option<Answer> {
+    use questions::form::Value::{Bounds, Bytes, MaybeNumber, Number, Output, Regions, Rows, Table};
+    Some(match (family, arguments) {
+        ("seq", [Bytes(file), Number(at), Output(out)]) => sequence(file, *at, None, out).into(),
+        ("lim", [Bytes(file), Number(at), Number(limit), Output(out)]) => sequence(file, *at, Some(*limit), out).into(),
+        ("exr", [Bytes(file), Rows(rows), Number(row), Bounds(bounds), Output(out)]) => {
+            exact(file, rows, *row, *bounds, out).into()
+        }
+        ("rar", [Bytes(file), Rows(rows), Number(row), Bounds(bounds), Output(out)]) => {
+            raw(file, rows, *row, *bounds, out).into()
+        }
+        ("sht", [Bytes(file), Rows(rows), Regions(regions), Output(out), Table(starts)]) => {
+            match sheet(file, rows, regions, out, starts) {
+                Ok(total) => Answer { no: None, told: vec![MaybeNumber(None), Number(total)] },
+                Err((place, no)) => Answer { no: Some(no), told: vec![MaybeNumber(Some(place)), Number(0)] },
+            }
+        }
+        ("cmp", [Bytes(bases), Output(out)]) => complemented(bases, false, out).into(),
+        ("rev", [Bytes(bases), Output(out)]) => complemented(bases, true, out).into(),
+        _ => return None,
+    })
+}
 
 // ---- outputs ----
 

@@ -6,6 +6,29 @@ use crate::{n, no};
 use questions::form::{Answer, No, Value};
 use questions::row::{OF_A_LINE, Row, Rows, WORDS, row};
 
+/// The answers of this file's families.
+pub(crate) fn answer(family: &str, arguments: &mut [Value]) -> Option<Answer> {
+    use questions::form::Value::{Bytes, Number, Numbers, Output, Rows, Table};
+    Some(match (family, arguments) {
+        ("rec", [Bytes(file), Number(at)]) => {
+            let found = record(file, *at);
+            found.map(|found| found.map(|(row, next)| vec![Numbers(row.to_vec()), Number(next)])).into()
+        }
+        ("idx", [Bytes(file), Table(table)]) => file_rows(file, table, record).into(),
+        ("ixl", [Bytes(line)]) => {
+            let read = index_content(content(line), 0, 1);
+            read.map(|row| vec![Numbers(row.to_vec()), Number(u64::from(is_plain(line)))]).into()
+        }
+        ("ixc", [Bytes(content)]) => index_content(content, 0, 1).map(|row| vec![Numbers(row.to_vec())]).into(),
+        ("ixt", [Bytes(index), Table(table)]) => {
+            index_rows(index, table, |content, start, line| index_content(content, start, line).map(row)).into()
+        }
+        ("wrl", [Bytes(names), Rows(rows), Number(row), Output(out)]) => write_line(names, rows, *row, out).into(),
+        ("fnd", [Bytes(names), Rows(rows), Bytes(name)]) => find(names, rows, name).into(),
+        _ => return None,
+    })
+}
+
 // ---- the indexer ----
 
 /// The lines of a record's sequence: all up to one that begins with '>', or to the end.

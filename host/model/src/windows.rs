@@ -3,8 +3,22 @@
 use crate::reads::{judge_bounds, offset, put};
 use crate::rows::held_row;
 use crate::{LIMIT, n, no};
-use questions::form::{Bounds, No};
+use questions::form::{Answer, Bounds, No, Value};
 use questions::row::{Row, Rows};
+
+/// The answers of this file's families.
+pub(crate) fn answer(family: &str, arguments: &mut [Value]) -> Option<Answer> {
+    use questions::form::Value::{Bounds, Bytes, Number, Output, Rows};
+    Some(match (family, arguments) {
+        ("win", [Number(length), Bytes(w), Number(from), Rows(rows), Number(row), Bounds(bounds), Output(out)]) => {
+            window(*length, w, *from, rows, *row, *bounds, out).into()
+        }
+        ("ned", [Number(length), Number(room), Rows(rows), Number(row), Bounds(bounds)]) => {
+            needed(*length, *room, rows, *row, *bounds).into()
+        }
+        _ => return None,
+    })
+}
 
 /// The first and the last base of a region, and its row: 16, 25, 17, 14, as the exact read has them.
 fn region(room: u64, rows: &Rows, r: u64, bounds: Bounds) -> Result<(u64, u64, Row), No> {

@@ -3,7 +3,19 @@
 use crate::lines::is_space;
 use crate::no;
 use crate::reads::put;
-use questions::form::No;
+use questions::form::{Answer, No, Value};
+
+/// The answers of this file's families.
+pub(crate) fn answer(family: &str, arguments: &mut [Value]) -> Option<Answer> {
+    use questions::form::Value::{Bytes, MaybeBytes, Number, Output};
+    Some(match (family, arguments) {
+        ("wfa", [Bytes(name), MaybeBytes(description), Bytes(bases), Number(width), Output(out)]) => {
+            write_record(name, description.as_deref(), bases, *width, out).into()
+        }
+        ("wsq", [Bytes(bases), Number(width), Output(out)]) => write_sequence(bases, *width, out).into(),
+        _ => return None,
+    })
+}
 
 /// The definition line, and the bases in lines of a width; how many bytes that is.
 pub(crate) fn write_record(

@@ -1,7 +1,7 @@
 //! The model's own examples, and that the questions reach every family and every refusal.
 
 use model::Model;
-use questions::family::{EXAMPLES, FAMILIES};
+use questions::family::{examples, families};
 use questions::form::{Speaker, Value, answered};
 use questions::generate::Questions;
 use std::collections::BTreeSet;
@@ -35,7 +35,7 @@ fn every_refusal_of_every_family_is_reached() {
         };
         reached.insert((family, number));
     }
-    for family in FAMILIES {
+    for family in families() {
         let found: Vec<u64> = reached.iter().filter(|(name, _)| name == family.name).map(|(_, n)| *n).collect();
         let expected = [&[0], family.refuses].concat();
         assert_eq!(found, expected, "{}", family.name);
@@ -44,11 +44,11 @@ fn every_refusal_of_every_family_is_reached() {
 
 #[test]
 fn the_examples() {
-    for line in EXAMPLES.lines() {
+    for line in examples() {
         assert_eq!(answered(&Model, line).as_deref(), Some(line));
     }
-    let asked: BTreeSet<_> = EXAMPLES.lines().filter_map(|line| line.split(' ').next()).collect();
-    assert!(FAMILIES.iter().all(|family| asked.contains(family.name)), "a family without an example");
+    let asked: BTreeSet<_> = examples().filter_map(|line| line.split(' ').next()).collect();
+    assert!(families().all(|family| asked.contains(family.name)), "a family without an example");
 }
 
 /// M1 to M8 through the program, which indexes.

@@ -1,7 +1,7 @@
 //! The line form: a question is `family argument ...`, its answer the same line with ` => ` and the answer behind it.
 //!
 //! Words are split by one space; [`Kind`] says how each is written. An answer begins with `ok`, or with `no` and the refusal's number
-//! and two numbers; memory afterwards is always told. [`FAMILIES`](crate::family::FAMILIES) has what each family takes and tells.
+//! and two numbers; memory afterwards is always told. [`Family`] has what each family takes and tells.
 
 use crate::family::{Family, Kind, Shape, family};
 use crate::row::Rows;
@@ -283,11 +283,9 @@ pub fn read_question(question: &str) -> Option<(&'static Family, Vec<Value>)> {
 
 /// Whether an answer has the parts that its family tells, or none of them where it may.
 fn fits(shape: Shape, answer: &Answer) -> bool {
-    let (kinds, may_be_none) = match shape {
-        Shape::IfOk(kinds) | Shape::Always(kinds) | Shape::Bare(kinds) => (kinds, answer.no.is_some()),
-        Shape::Found(kinds) => (kinds, true),
-    };
-    may_be_none && answer.told.is_empty() || answer.told.iter().map(Value::kind).eq(kinds.iter().copied())
+    let may_be_none = answer.no.is_some() || matches!(shape, Shape::Found(..));
+    let kinds = shape.parts().iter().map(|part| part.kind());
+    may_be_none && answer.told.is_empty() || answer.told.iter().map(Value::kind).eq(kinds)
 }
 
 /// Adds an answer to a line that ends in `=>`: what the family answers, and lent memory as it was left.
@@ -300,9 +298,9 @@ fn tell_answer(line: &mut String, shape: Shape, answer: &Answer, arguments: &[Va
         (None, _) => line.push_str(" ok"),
     }
     match (answer.no, shape) {
-        (Some(_), Shape::IfOk(_) | Shape::Found(_)) => {}
-        (Some(_), Shape::Always(kinds)) if answer.told.is_empty() => kinds.iter().for_each(|_| line.push_str(" 0")),
-        (None, Shape::Found(_)) if answer.told.is_empty() => line.push_str(" none"),
+        (Some(_), Shape::IfOk(_) | Shape::Found(..)) => {}
+        (Some(_), Shape::Always(parts)) if answer.told.is_empty() => parts.iter().for_each(|_| line.push_str(" 0")),
+        (None, Shape::Found(..)) if answer.told.is_empty() => line.push_str(" none"),
         _ => answer.told.iter().for_each(|part| part.tell(line)),
     }
     let lent = |argument: &&Value| matches!(argument.kind(), Kind::Table | Kind::Output);

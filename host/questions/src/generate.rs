@@ -3,23 +3,23 @@
 //!
 //! The same seed gives the same questions, on every machine.
 
-mod by_chance;
-mod chance;
-mod every;
-mod makers;
+pub(crate) mod by_chance;
+mod by_kind;
+pub(crate) mod chance;
+pub(crate) mod short;
 
-use crate::family::family;
+use crate::family::{self, Family};
 use crate::form::{Value, question};
+use by_kind::by_kind;
 pub use chance::Chance;
-use makers::{MAKERS, Maker, by_kind};
 
 /// Questions of one family, each by its arguments.
-type Source = Box<dyn Iterator<Item = Vec<Value>> + Send>;
+pub(crate) type Source = Box<dyn Iterator<Item = Vec<Value>> + Send>;
 
 /// Questions without end: one of every short input, and one by chance, in turn.
 pub struct Questions {
     chance: Chance,
-    makers: Vec<&'static Maker>,
+    families: Vec<&'static Family>,
     /// Those of every short input that are not at their end, by family.
     sources: Vec<(&'static str, Source)>,
     turn: usize,
@@ -28,20 +28,19 @@ pub struct Questions {
 impl Questions {
     /// The questions of a seed, of every family.
     pub fn new(seed: u64) -> Self {
-        Self::made_by(MAKERS.iter().collect(), seed)
+        Self::made_of(family::families().collect(), seed)
     }
 
     /// Those of one family; `None` if there is no such family.
-    pub fn of(family: &str, seed: u64) -> Option<Self> {
-        let maker = MAKERS.iter().find(|maker| maker.family == family)?;
-        Some(Self::made_by(vec![maker], seed))
+    pub fn of(name: &str, seed: u64) -> Option<Self> {
+        Some(Self::made_of(vec![family::family(name)?], seed))
     }
 
-    fn made_by(makers: Vec<&'static Maker>, seed: u64) -> Self {
+    fn made_of(families: Vec<&'static Family>, seed: u64) -> Self {
         let every =
-            |maker: &&'static Maker| maker.every.iter().map(|every| (maker.family, every())).collect::<Vec<_>>();
-        let sources = makers.iter().flat_map(every).collect();
-        Self { chance: Chance::new(seed), makers, sources, turn: 0 }
+            |family: &&'static Family| family.made.every.iter().map(|every| (family.name, every())).collect::<Vec<_>>();
+        let sources = families.iter().flat_map(every).collect();
+        Self { chance: Chance::new(seed), families, sources, turn: 0 }
     }
 }
 
@@ -58,38 +57,42 @@ impl Iterator for Questions {
                 None => drop(self.sources.remove(turn)),
             }
         }
-        Some(by_chance(&mut self.chance, &self.makers))
+        Some(by_chance(&mut self.chance, &self.families))
     }
 }
 
-/// A question as its family's maker has it, or at times one whose arguments have the right kinds and nothing else in common.
-fn by_chance(chance: &mut Chance, makers: &[&Maker]) -> String {
-    let mut left = chance.below(makers.iter().map(|maker| maker.share).sum());
-    for maker in makers {
-        if left < maker.share {
-            let takes = family(maker.family).map_or(&[][..], |family| family.takes);
-            let arguments = if chance.once_in(24) { by_kind(chance, takes) } else { (maker.by_chance)(chance) };
-            return question(maker.family, &arguments);
+/// A question as its family makes it, or at times one whose arguments have the right kinds and nothing else in common.
+fn by_chance(chance: &mut Chance, families: &[&Family]) -> String {
+    let mut left = chance.below(families.iter().map(|family| family.made.share).sum());
+    for family in families {
+        if left < family.made.share {
+            let arguments =
+                if chance.once_in(24) { by_kind(chance, family.takes) } else { (family.made.by_chance)(chance) };
+            return question(family.name, &arguments);
         }
-        left -= maker.share;
+        left -= family.made.share;
     }
     unreachable!("a number below the sum of the shares")
 }
 
-/// Each family has a maker, whose questions are of the family's kinds.
+/// The questions that a family makes are of its kinds.
 #[test]
-fn every_family_has_a_maker() {
-    use crate::family::FAMILIES;
+fn every_family_makes_its_own_questions() {
     let mut chance = Chance::new(1);
-    for family in FAMILIES {
-        let maker = MAKERS.iter().find(|maker| maker.family == family.name).expect(family.name);
-        for arguments in [(maker.by_chance)(&mut chance), by_kind(&mut chance, family.takes)] {
+    for family in family::families() {
+        let by_chance = [(family.made.by_chance)(&mut chance), by_kind(&mut chance, family.takes)];
+        let every = family.made.every.iter().map(|every| every().next().expect("a question"));
+        for arguments in by_chance.into_iter().chain(every) {
             assert!(arguments.iter().map(Value::kind).eq(family.takes.iter().copied()), "{}", family.name);
         }
-        for every in maker.every {
-            let arguments = every().next().expect("a question");
-            assert!(arguments.iter().map(Value::kind).eq(family.takes.iter().copied()), "{}", family.name);
-        }
+        assert!(family.made.share > 0, "{}", family.name);
     }
-    assert_eq!(FAMILIES.len(), MAKERS.len());
+}
+
+/// A name is of one family.
+#[test]
+fn every_family_has_a_name_of_its_own() {
+    for family in family::families() {
+        assert_eq!(family::families().filter(|other| other.name == family.name).count(), 1, "{}", family.name);
+    }
 }

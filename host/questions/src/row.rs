@@ -9,6 +9,19 @@ pub const OF_A_LINE: usize = 6;
 /// The numbers of a row of a FASTQ file: the same as of a line, and the quality position.
 pub const FASTQ_WORDS: usize = 7;
 
+/// Their names in the header.
+pub const FIELDS: &[&str; WORDS] = &[
+    "name_start", "name_length", "length", "position", "line_bases", "line_width", "description_start",
+    "description_length",
+];
+
+/// Those of a line.
+pub const FIELDS_OF_A_LINE: &[&str] = FIELDS.split_at(OF_A_LINE).0;
+
+/// Those of a row of a FASTQ file.
+pub const FASTQ_FIELDS: &[&str; FASTQ_WORDS] =
+    &["name_start", "name_length", "length", "position", "line_bases", "line_width", "quality_position"];
+
 /// A row of a table of a FASTQ file.
 pub type FastqRow = [u64; FASTQ_WORDS];
 

@@ -81,27 +81,20 @@ mod writer;
 pub use bounds::Bounds;
 #[cfg(feature = "std")]
 pub use cores::{Cores, use_threads};
-pub use course::{Edition, Exercise, Score, read_exercise, score_typed, write_exercise};
 pub use feeder::{Fed, Feeder};
 pub use level::{LEVELS, use_level};
 pub use names::Names;
-pub use primer::{Places, degeneracy, find_primer, find_primer_from, primer_places};
 pub use refusal::{Call, Refusal};
 pub use row::Row;
 pub use sheet::{SHEET_REGIONS, Sheet, SheetRefusal};
-pub use table::{
-    Record, Table, check, index, index_strict, index_strict_until_refused, index_until_refused, read_index,
-    read_index_until_refused,
-};
-pub use text::{
-    Definition, complement, complement_into, definition_content, definition_line, index_line, index_record_strict,
-    read_line, read_run, read_sequence, read_sequence_limit, reverse_complement, reverse_complement_into,
-};
-
 pub use window::{ReadError, Window};
-#[cfg(feature = "std")]
-pub use writer::Writer;
-pub use writer::{write_record, write_record_into, write_sequence_into};
+
+// the calls: what is public in these files is the library's
+pub use course::*;
+pub use primer::*;
+pub use table::*;
+pub use text::*;
+pub use writer::*;
 
 /// The identity of the kit that the linked library was proved with.
 pub const PROVED_WITH: &str = env!("WAKELURI_KIT");

@@ -1,16 +1,21 @@
 //! questions [--seed S] [--count N] [--family F]: writes N questions, of one family or of all, the same for the same seed.
+//! questions --families: writes the table of families as JSON, which web/ask.mjs reads.
 
 use questions::generate::Questions;
 use std::io::{self, Write};
 use std::process::ExitCode;
 
 fn usage() -> ExitCode {
-    eprintln!("usage: questions [--seed S] [--count N] [--family F]");
+    eprintln!("usage: questions [--seed S] [--count N] [--family F] | --families");
     ExitCode::from(2)
 }
 
 fn main() -> ExitCode {
     let (mut seed, mut count, mut family) = (1, 1_000, None);
+    if std::env::args().skip(1).eq(["--families"]) {
+        print!("{}", questions::family::as_json());
+        return ExitCode::SUCCESS;
+    }
     let mut words = std::env::args().skip(1);
     while let Some(word) = words.next() {
         let value = words.next().unwrap_or_default();

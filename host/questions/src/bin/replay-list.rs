@@ -25,7 +25,7 @@ use std::collections::HashSet;
 use std::io::{self, BufRead};
 use std::process::ExitCode;
 
-/// The families that the program `replay` asks, in its order. FAMILIES says the rest.
+/// The families that the program `replay` asks, in its order. The table of families says the rest.
 const REPLAYED: [&str; 14] =
     ["def", "dfc", "lin", "run", "rec", "ixc", "seq", "lim", "wrl", "rar", "cmp", "rev", "idx", "ixt"];
 const EACH: usize = 1_500;
@@ -51,7 +51,7 @@ fn answer(family: &Family, lends: bool, told: &[&str]) -> Option<(Vec<u8>, Vec<u
     let words = match (told[0], family.tells) {
         ("no", _) if family.original == Original::Memory => &told[1..],
         ("no", _) => told.get(1..4)?,
-        (_, Shape::Found(_)) => {
+        (_, Shape::Found(..)) => {
             put(&mut numbers, &[0, 0, 0, u64::from(told[1] != "none")]);
             if told[1] == "none" { &[] } else { &told[1..] }
         }

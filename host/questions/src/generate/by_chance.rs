@@ -5,34 +5,34 @@ use crate::form::Bounds;
 use crate::row::{FASTQ_WORDS, OF_A_LINE, Row, Rows, WORDS, described, row};
 
 /// An output as it is lent: each of its bytes tells its place.
-pub(super) fn room(length: usize) -> Vec<u8> {
+pub(crate) fn room(length: usize) -> Vec<u8> {
     (0..length).map(|k| b'a' + (k % 26) as u8).collect()
 }
 
 /// A table as it is lent: each of its numbers tells its place.
-pub(super) fn table(numbers: usize) -> Vec<u64> {
+pub(crate) fn table(numbers: usize) -> Vec<u64> {
     (0..numbers).map(|k| 700 + k as u64).collect()
 }
 
 /// A file made by chance, and what its rows should be before it is damaged.
-pub(super) struct Sample<const W: usize = WORDS> {
-    pub(super) text: Vec<u8>,
-    pub(super) rows: Vec<[u64; W]>,
+pub(crate) struct Sample<const W: usize = WORDS> {
+    pub(crate) text: Vec<u8>,
+    pub(crate) rows: Vec<[u64; W]>,
 }
 
 /// A FASTQ file made by chance.
-pub(super) type FastqSample = Sample<FASTQ_WORDS>;
+pub(crate) type FastqSample = Sample<FASTQ_WORDS>;
 
 /// Line lengths around which blocks and buffers end.
-pub(super) const WIDTHS: [usize; 30] = [
+pub(crate) const WIDTHS: [usize; 30] = [
     7, 8, 9, 15, 16, 17, 30, 31, 32, 33, 47, 48, 49, 59, 60, 61, 63, 64, 65, 70, 80, 100, 127, 128, 129, 130, 191, 192,
     193, 257,
 ];
 
 /// Every letter that stands for bases.
-pub(super) const LETTERS: &[u8] = b"ACGTUNRYKMSWBDHVacgtunrykmswbdhv";
+pub(crate) const LETTERS: &[u8] = b"ACGTUNRYKMSWBDHVacgtunrykmswbdhv";
 
-pub(super) fn name(chance: &mut Chance) -> Vec<u8> {
+pub(crate) fn name(chance: &mut Chance) -> Vec<u8> {
     const NAMES: [&[u8]; 10] =
         [b"s", b"t", b"sq0", b"chr1", b"s:1-2", b"\xff", b"\xc3\xa9", b">", b"a\x0bb", b"HLA-A*01:01"];
     chance.one_of(&NAMES).to_vec()
@@ -43,7 +43,7 @@ fn base(chance: &mut Chance) -> u8 {
 }
 
 /// Some records with lines of one length each.
-pub(super) fn sample(chance: &mut Chance) -> Sample {
+pub(crate) fn sample(chance: &mut Chance) -> Sample {
     let mut sample = Sample { text: vec![], rows: vec![] };
     let end: &[u8] = if chance.once_in(3) { b"\r\n" } else { b"\n" };
     let records = chance.one_of(&[0, 1, 1, 1, 2, 2, 3, 5]);
@@ -95,7 +95,7 @@ fn quality(chance: &mut Chance) -> u8 {
 }
 
 /// Some FASTQ records, whose sequences are of one line or of more.
-pub(super) fn fastq_sample(chance: &mut Chance) -> FastqSample {
+pub(crate) fn fastq_sample(chance: &mut Chance) -> FastqSample {
     let mut sample = FastqSample { text: vec![], rows: vec![] };
     let end: &[u8] = if chance.once_in(3) { b"\r\n" } else { b"\n" };
     for _ in 0..chance.one_of(&[0, 1, 1, 1, 2, 2, 3, 5]) {
@@ -135,7 +135,7 @@ fn add_fastq_record(chance: &mut Chance, sample: &mut FastqSample, end: &[u8]) {
 }
 
 /// A FASTQ file, damaged or not.
-pub(super) fn fastq_file(chance: &mut Chance) -> FastqSample {
+pub(crate) fn fastq_file(chance: &mut Chance) -> FastqSample {
     let mut sample = fastq_sample(chance);
     if chance.once_in(3) {
         fastq_damage(chance, &mut sample.text);
@@ -146,7 +146,7 @@ pub(super) fn fastq_file(chance: &mut Chance) -> FastqSample {
 }
 
 /// Damage that is FASTQ's own: a line's first byte, a line that is lost, and a blank one.
-pub(super) fn fastq_damage(chance: &mut Chance, text: &mut Vec<u8>) {
+pub(crate) fn fastq_damage(chance: &mut Chance, text: &mut Vec<u8>) {
     let from = chance.below(text.len() + 1);
     let Some(lf) = text.iter().skip(from).position(|b| *b == b'\n') else { return };
     let at = from + lf + 1;
@@ -165,7 +165,7 @@ pub(super) fn fastq_damage(chance: &mut Chance, text: &mut Vec<u8>) {
 }
 
 /// Damages some bytes in one of the ways that files are damaged.
-pub(super) fn damage(chance: &mut Chance, text: &mut Vec<u8>) {
+pub(crate) fn damage(chance: &mut Chance, text: &mut Vec<u8>) {
     const BYTES: &[u8] = b"\n\n\r\r>>A \t0+\x0b\x0c\0\xff";
     let at = chance.below(text.len() + 1);
     let to = at + chance.below(text.len() + 1 - at);
@@ -206,7 +206,7 @@ fn damaged(chance: &mut Chance, text: &mut Vec<u8>) {
 }
 
 /// A file, damaged or not.
-pub(super) fn file(chance: &mut Chance) -> Sample {
+pub(crate) fn file(chance: &mut Chance) -> Sample {
     let mut sample = sample(chance);
     damaged(chance, &mut sample.text);
     sample
@@ -222,7 +222,7 @@ const SPACES: [&[&[u8]]; 4] = [
 ];
 
 /// Some records whose lines may have blank ones before, between and behind them, damaged or not; and how many were made.
-pub(super) fn spaced_file(chance: &mut Chance) -> (Vec<u8>, usize) {
+pub(crate) fn spaced_file(chance: &mut Chance) -> (Vec<u8>, usize) {
     let (mut text, records) = (vec![], chance.one_of(&[1, 1, 2, 2, 3, 5]));
     for _ in 0..records {
         text.extend(spaced_record(chance));
@@ -252,7 +252,7 @@ fn spaced_record(chance: &mut Chance) -> Vec<u8> {
 }
 
 /// A number about one that is right, or an awkward one.
-pub(super) fn about(chance: &mut Chance, right: u64) -> u64 {
+pub(crate) fn about(chance: &mut Chance, right: u64) -> u64 {
     match chance.below(12) {
         0..=5 => right,
         6 => right.wrapping_add(1),
@@ -264,31 +264,31 @@ pub(super) fn about(chance: &mut Chance, right: u64) -> u64 {
 }
 
 /// A place in a file, or past it.
-pub(super) fn place(chance: &mut Chance, file: &[u8]) -> u64 {
+pub(crate) fn place(chance: &mut Chance, file: &[u8]) -> u64 {
     let within = chance.below(file.len() + 2) as u64;
     if chance.once_in(12) { chance.one_of(&AWKWARD) } else { within }
 }
 
 /// A room that is empty, just enough, one short, one more, or plenty.
-pub(super) fn some_room(chance: &mut Chance, enough: u64) -> Vec<u8> {
+pub(crate) fn some_room(chance: &mut Chance, enough: u64) -> Vec<u8> {
     let enough = enough.min(600) as usize;
     room(chance.one_of(&[0, enough, enough, enough, enough + 1, enough.saturating_sub(1), enough + 7, 500]))
 }
 
 /// A table with room for about so many rows, and at times a part of one more.
-pub(super) fn some_table(chance: &mut Chance, rows: usize) -> Vec<u64> {
+pub(crate) fn some_table(chance: &mut Chance, rows: usize) -> Vec<u64> {
     some_table_of(chance, WORDS, rows)
 }
 
 /// The same, of rows with so many numbers.
-pub(super) fn some_table_of(chance: &mut Chance, words: usize, rows: usize) -> Vec<u64> {
+pub(crate) fn some_table_of(chance: &mut Chance, words: usize, rows: usize) -> Vec<u64> {
     let rows = chance.one_of(&[rows, rows, rows + 1, rows.saturating_sub(1), 0, rows + 2]);
     let rest = if chance.once_in(3) { chance.below(words) } else { 0 };
     table(words * rows + rest)
 }
 
 /// Rows that tell the truth, or lie in some of their numbers; and how many are said to be in use.
-pub(super) fn some_rows<const W: usize>(chance: &mut Chance, rows: &[[u64; W]]) -> Rows {
+pub(crate) fn some_rows<const W: usize>(chance: &mut Chance, rows: &[[u64; W]]) -> Rows {
     let mut numbers = rows.concat();
     if chance.once_in(2) && !numbers.is_empty() {
         for _ in 0..1 + chance.below(3) {
@@ -307,7 +307,7 @@ pub(super) fn some_rows<const W: usize>(chance: &mut Chance, rows: &[[u64; W]]) 
 }
 
 /// Bounds inside a length, at its ends, past it, or at the limits.
-pub(super) fn some_bounds(chance: &mut Chance, length: u64) -> Bounds {
+pub(crate) fn some_bounds(chance: &mut Chance, length: u64) -> Bounds {
     let near = length.min(1000) as usize + 2;
     let bound = |chance: &mut Chance| match chance.below(12) {
         0..=1 => None,
@@ -324,30 +324,30 @@ pub(super) fn some_bounds(chance: &mut Chance, length: u64) -> Bounds {
 }
 
 /// About how many bytes a region has.
-pub(super) fn wanted(bounds: Bounds, length: u64) -> u64 {
+pub(crate) fn wanted(bounds: Bounds, length: u64) -> u64 {
     let (start, end) = (bounds.0.unwrap_or(1), bounds.1.unwrap_or(length));
     end.wrapping_sub(start).wrapping_add(1)
 }
 
 /// How many bytes a record has when it is written.
-pub(super) fn written_length(name: &[u8], description: Option<&[u8]>, bases: &[u8], width: u64) -> u64 {
+pub(crate) fn written_length(name: &[u8], description: Option<&[u8]>, bases: &[u8], width: u64) -> u64 {
     let bases = bases.len() as u64;
     let text = description.map_or(0, |text| text.len() + 1);
     (name.len() + text) as u64 + 2 + bases + bases.div_ceil(width.max(1))
 }
 
 /// A numeral: one that is right, an awkward number, or something that is none.
-pub(super) fn numeral(chance: &mut Chance, right: u64) -> Vec<u8> {
+pub(crate) fn numeral(chance: &mut Chance, right: u64) -> Vec<u8> {
     if chance.once_in(9) { chance.one_of(&NUMERALS).to_vec() } else { about(chance, right).to_string().into_bytes() }
 }
 
 /// An index text for some rows whose names lie in a file; some of its numbers lie, some of its lines are damaged.
-pub(super) fn index_text(chance: &mut Chance, file: &[u8], rows: &[Row]) -> Vec<u8> {
+pub(crate) fn index_text(chance: &mut Chance, file: &[u8], rows: &[Row]) -> Vec<u8> {
     index_text_of(chance, file, rows, OF_A_LINE)
 }
 
 /// The same, where so many numbers of a row are those of a line.
-pub(super) fn index_text_of<const W: usize>(
+pub(crate) fn index_text_of<const W: usize>(
     chance: &mut Chance,
     file: &[u8],
     rows: &[[u64; W]],
@@ -379,9 +379,48 @@ pub(super) fn index_text_of<const W: usize>(
 }
 
 /// The number of a row, at times of one that isn't there, and the row's own numbers.
-pub(super) fn a_row<const W: usize>(chance: &mut Chance, sample: &Sample<W>) -> (u64, [u64; W]) {
+pub(crate) fn a_row<const W: usize>(chance: &mut Chance, sample: &Sample<W>) -> (u64, [u64; W]) {
     let number = chance.below(sample.rows.len());
     let any = || std::array::from_fn(|word| row([1, 1, 4, 3, 4, 5])[word]);
     let numbers = sample.rows.get(number).copied().unwrap_or_else(any);
     (if chance.once_in(12) { about(chance, number as u64) } else { number as u64 }, numbers)
+}
+
+pub(crate) fn some_bases(chance: &mut Chance) -> Vec<u8> {
+    let length = if chance.once_in(3) { chance.one_of(&WIDTHS) } else { chance.below(12) };
+    let mut bases: Vec<u8> = (0..length).map(|_| chance.one_of(LETTERS)).collect();
+    if chance.once_in(3) {
+        damage(chance, &mut bases);
+    }
+    bases
+}
+
+/// A text in pieces, some of them empty, with its end; or steps in some other order.
+pub(crate) fn some_steps(chance: &mut Chance, text: &[u8]) -> Vec<Option<Vec<u8>>> {
+    let (mut steps, mut rest) = (vec![], text);
+    while !rest.is_empty() {
+        let longest = chance.one_of(&[1, 2, 3, 8, 40]).min(rest.len());
+        let (piece, behind) = rest.split_at(chance.below(longest + 1));
+        steps.push(Some(piece.to_vec()));
+        rest = behind;
+    }
+    steps.push(None);
+    if chance.once_in(6) {
+        let (from, to) = (chance.below(steps.len()), chance.below(steps.len() + 1));
+        let step = steps[from].clone();
+        steps.insert(to, step);
+    }
+    steps
+}
+
+/// Two numbers that rise, mostly: where a line begins, near it, or anywhere.
+pub(crate) fn some_part(chance: &mut Chance, text: &[u8]) -> [u64; 2] {
+    let starts: Vec<usize> =
+        (0..text.len()).filter(|at| *at == 0 || text[at - 1] == b'\n').chain([text.len()]).collect();
+    let mut number = || {
+        let start = chance.one_of(&starts) as u64;
+        if chance.once_in(4) { place(chance, text) } else { about(chance, start) }
+    };
+    let (one, other) = (number(), number());
+    if chance.once_in(16) { [one.max(other), one.min(other)] } else { [one.min(other), one.max(other)] }
 }

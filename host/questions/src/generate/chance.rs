@@ -34,7 +34,7 @@ impl Chance {
 }
 
 /// Numbers where something might go wrong.
-pub(super) const AWKWARD: [u64; 40] = [
+pub(crate) const AWKWARD: [u64; 40] = [
     0,
     1,
     2,
@@ -78,7 +78,7 @@ pub(super) const AWKWARD: [u64; 40] = [
 ];
 
 /// What may stand where a decimal number should.
-pub(super) const NUMERALS: [&[u8]; 30] = [
+pub(crate) const NUMERALS: [&[u8]; 30] = [
     b"1",
     b"0",
     b"4",
@@ -111,4 +111,4 @@ pub(super) const NUMERALS: [&[u8]; 30] = [
     b"++1",
 ];
 /// How many of those make up every line of four numbers.
-pub(super) const NUMERALS_FOR_ALL: usize = 18;
+pub(crate) const NUMERALS_FOR_ALL: usize = 18;
