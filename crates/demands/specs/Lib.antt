@@ -18,3 +18,4 @@ pub mod Scoring
 pub mod MendedScores
 pub mod Fed
 pub mod Parted
+pub mod PartedReads

@@ -13,6 +13,7 @@ use lib.ListN.{length, take}
 use lib.Dec.{ltb}
 use Rattle.refusal.specs.Numbers.{overLimit, numbersOf}
 use Rattle.refusal.specs.declared.Refusal.the-variants.{TooLong, TableFull}
+use Rattle.table.specs.Kinds.{FoundOf}
 use Rattle.table.specs.Fill.{Found, nothing, heldIn}
 use Rattle.table.specs.Numbers.{numbersIn}
 use Rattle.table.specs.Rows.{rowCount}
@@ -70,7 +71,8 @@ long-one : (k : ℕ) → filledAnswer k (stop.Refused TooLong) .refusal ≡ 1
 unfolding filledAnswer numbersOf
 long-one k = refl
 
-held-room : (n : ℕ) (f : Found) → (filledAnswer (length (heldIn n n f .rows)) (heldIn n n f .stop) .refusal ≡ 8 → ⊥) → heldIn n n f ≡ f
+-- rows of any kind that a table does not refuse with 8 are all there
+pub held-room : {Row : Type 0} (n : ℕ) (f : FoundOf Row) → (filledAnswer (length (heldIn n n f .rows)) (heldIn n n f .stop) .refusal ≡ 8 → ⊥) → heldIn n n f ≡ f
 unfolding heldIn
 held-room n f h = go (ltb n (length (f .rows))) h
   where

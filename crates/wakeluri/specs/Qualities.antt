@@ -19,6 +19,8 @@ use Rattle.fastq.specs.declared.Part.{Part}
 use Rattle.fastq.specs.declared.Part.the-variants.{Bases, Qualities}
 use Rattle.fastq_table.specs.Rows.{withRows, usedAt, qualitiesAt}
 use Rattle.fastq_table.specs.Fill.{Found, FilledBytes}
+use Rattle.fastq_index.specs.Part.{behind, PartBytes}
+use Rattle.fastq_index.specs.declared.PartFilled.{PartFilled}
 use Rattle.fastq_line.specs.declared.LineRead.{LineRead}
 use Rattle.fastq_line.specs.declared.LineRead.the-variants as read
 use Rattle.fastq_line.specs.SixColumns.{lineWritten}
@@ -66,6 +68,21 @@ rowsTold f t = leaves (filledAnswer (length (f .rows)) (f .stop)) (withNumbers t
 pub rows-told : (a : Answer) (before after : List ℕ) (f : Found) (r : Filled) → FilledBytes f before after r → a ≡ filledAnswer (r .rows) (r .stop) → leaves a after ≡ rowsTold f before
 unfolding rowsTold
 rows-told a before after f r t q = rw (q, t .filled .rows, t .filled .stop, ← t .filled .table, ← t .bytes)
+
+-- the same, and where a part stopped
+abbrev pub stoppedAt : Answer → ℕ → Answer
+stoppedAt a next = record { refusal = a .refusal; first = a .first; second = a .second; count = a .count; next = next }
+
+-- a table filled with rows of a file from an offset on, and the offset behind the last of them
+unfoldable pub partTold : List ℕ → ℕ → Found → List ℕ → Outcome Answer
+partTold s from f t =
+    leaves (stoppedAt (filledAnswer (length (f .rows)) (f .stop)) (behind s (length (f .rows)) from)) (withNumbers t (withRows (numbersIn t) 0 (f .rows)))
+
+pub part-told : (a b : Answer) (s : List ℕ) (from : ℕ) (before after : List ℕ) (f : Found) (r : PartFilled) → PartBytes s from f before after r
+    → b ≡ filledAnswer (r .filled .rows) (r .filled .stop) → a ≡ stoppedAt b (r .next) → leaves a after ≡ partTold s from f before
+unfolding partTold
+part-told a b s from before after f r t p q =
+    rw (q, p, t .next, t .filled .filled .rows, t .filled .filled .stop, ← t .filled .filled .table, ← t .filled .bytes)
 
 -- ---- by row, of a table with n rows in use
 

@@ -1,4 +1,4 @@
-// Entry points on FASTQ: a file indexed, an index of six columns read whole and checked against its file, a line of it read and written, and
+// Entry points on FASTQ: a file, or a part of one, indexed, an index of six columns read whole and checked against its file, a line of it read and written, and
 // bases or qualities read by row. A table is bytes, as it is elsewhere, with seven numbers to a row: the quality position is last.
 use crate::answer;
 use crate::answer::Answer;
@@ -14,11 +14,12 @@ ghost use Rattle.table.specs.Numbers.{numbersIn};
 ghost use Rattle.fastq_table.specs.Rows.{rowCount};
 ghost use Rattle.fastq_line.specs.SixColumns.{readLine};
 ghost use Rattle.fastq_index.specs.File.{fileIn};
+ghost use Rattle.fastq_index.specs.Part.{partIn};
 ghost use Rattle.fastq_index.specs.Text.{indexIn};
 ghost use Rattle.fastq_checker.specs.Check.{checkOf};
 ghost use Rattle.wakeluri.specs.Answer.{boundOf, verdictAnswer};
 ghost use Rattle.wakeluri.specs.Told.{writtenTold};
-ghost use Rattle.wakeluri.specs.Qualities.{partGiven, noRow, fastqTold, fastqAnswer, rowsTold, lineFrom, partRead};
+ghost use Rattle.wakeluri.specs.Qualities.{partGiven, noRow, fastqTold, fastqAnswer, rowsTold, stoppedAt, partTold, lineFrom, partRead};
 
 // The row of an index line of six columns, and whether the line is plain.
 #[repr(C)]
@@ -96,6 +97,35 @@ pub extern "C" fn wakeluri_fastq_index(file: &[u8], table: &mut [u8]) -> Answer
 {
     let filled = fastq_index::index_file(file, table);
     answer::filled_answer(filled)
+}
+
+// An answer that also tells where a part stopped.
+fn stopped(a: Answer, next: usize) -> Answer
+    ensures { λ r. ⌜ r ≡ stoppedAt a next ⌝ }
+{
+    Answer {
+        refusal: a.refusal,
+        first: a.first,
+        second: a.second,
+        count: a.count,
+        next: next as u64,
+    }
+}
+
+// A row for each record of a FASTQ file from `from` on, where one begins, that begins before `to`, from the table's first on; and the offset behind
+// the last of them, so that the next part goes on from there.
+#[no_mangle]
+pub extern "C" fn wakeluri_fastq_index_part(
+    file: &[u8],
+    from: u64,
+    to: u64,
+    table: &mut [u8],
+) -> Answer
+    ensures { λ a. ⌜ leaves a (now (table .exit)) ≡ partTold (now (file .entry)) from (partIn (now (file .entry)) from to (rowCount (numbersIn (now (table .entry))))) (now (table .entry)) ⌝ }
+{
+    let part = fastq_index::index_part(file, from as usize, to as usize, table);
+    let filled = part.filled;
+    stopped(answer::filled_answer(filled), part.next)
 }
 
 // A row for each line of an index of six columns, from the table's first on.
