@@ -155,9 +155,13 @@ fn lines_at_once(s: &[u8], at: usize, like: Line, mark: u8, most: usize) -> usiz
     n + lines_one_by_one(s, at + n * like.width, like, mark, most - n)
 }
 
-// May many lines of a width from `at` on be alike: do 256 of them fit, and does the last one end in LF. Where few are, this look is all that
-// they pay for the many; so it stands in both functions below, and not in a third, which would be one call more.
+// May many lines of a width from `at` on be alike, of a file that comes from the memory: do 256 of them fit, and does the last one end in LF. From a
+// processor's cache one place is as fast as four, so that files below 4 MiB are left out. Where few lines are alike, this look is all that they pay for
+// the many; so it stands in both functions below, and not in a third, which would be one call more.
 fn may_be_many(s: &[u8], at: usize, width: usize) -> bool {
+    if s.len() < 4194304 {
+        return false;
+    }
     if width < 33 {
         return false;
     }
