@@ -49,8 +49,8 @@ fn say_refused(why: Refusal) {
 
 // Indexes a file by a rule.
 fn index(work: &[u8], fasta: &[u8], rule: Rule) {
-    let mut table = [0u64; 1024 * table::WORDS];
-    let told = fitting::index_file(fasta, &mut table, rule);
+    let mut table = [0u8; 1024 * 8 * table::WORDS];
+    let told = fitting::bytes::index_file(fasta, &mut table, rule);
     let stop = told.stop;
     match stop {
         Stop::Ended => say(work, told.rows),

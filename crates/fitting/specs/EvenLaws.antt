@@ -2,13 +2,14 @@
 use Prim.Native.Nat.{ℕ, suc, _+_, _-_, _*_, _≤_}
 use mathlib.Core.Path.{_≡_, refl, ap, sym, _∙_}
 use mathlib.Core.List.{List, [], _∷_}
+use mathlib.Core.Bool.{Bool, true, true≢false}
 use lib.ListN.{length}
 use native.Mathlib.Omega.{arith}
 use native.Mathlib.Numerals.{add-one}
 use native.Mathlib.Nat.{add-zero, zero-mul, add-mul, one-mul}
 use Rattle.lines.specs.declared.Line.{Line}
 use Rattle.definition.specs.declared.Definition.{Definition}
-use Rattle.lines.specs.Lines.{basesOf, seqAt, firstLine, tailOf, sumBases, sumWidths}
+use Rattle.lines.specs.Lines.{basesOf, seqAt, firstLine, tailOf, none, sumBases, sumWidths}
 use Rattle.lines.specs.Laws.{seqAt-next, first-within, bases-le}
 use Rattle.lines.specs.Alike.{alike, alike-passes, LineLike}
 use Rattle.record.specs.EvenLines.{EvenLines, length-basesAt}
@@ -19,15 +20,26 @@ use Rattle.fitting.specs.declared.LineAt.{LineAt}
 use Rattle.fitting.specs.declared.Even.{Even}
 use Rattle.fitting.specs.declared.Even.the-variants.{Lines, Not}
 use Rattle.indexer.specs.Rule.{rowFor, sequenceBy}
-use Rattle.fitting.specs.Complete.{complete}
+use Rattle.fitting.specs.Complete.{fromBases, complete}
 use Rattle.fitting.specs.FirstLine.{terminated-here}
 use Rattle.fitting.specs.Even.{FirstLineFits, even-fits}
-use Rattle.fitting.specs.BlankLines.{PastBlank, no-bases, no-lines}
+use Rattle.fitting.specs.BlankLines.{PastBlank, same-start, no-bases, no-lines}
 
 -- what is said of the sequence from an offset on: its lines are even, it has so many bases, and it ends there; or nothing
 pub data EvenLinesAt (s : List ℕ) (at : ℕ) : Even → Type 0 where
   even : {n e : ℕ} → FirstLineFits at (seqAt s at) → n ≡ sumBases (seqAt s at) → e ≡ at + sumWidths (seqAt s at) → EvenLinesAt s at (Lines n e)
   nothing : EvenLinesAt s at Not
+
+none-left : (ls : List (List ℕ)) → none ls ≡ true → ls ≡ []
+none-left [] e = refl
+none-left (l ∷ ls) e = absurd (true≢false (sym e))
+
+-- no line is left, so none is blank
+pub past-none : (s : List ℕ) (at : ℕ) → at ≤ length s → (t : Bool) → t ≡ none (seqAt s at) → t ≡ true → PastBlank s at (record { at = at; line = record { width = 0; bases = 0 } })
+unfolding fromBases
+past-none s at h t ht y =
+    let q : seqAt s at ≡ [] = none-left (seqAt s at) (sym ht ∙ y) in
+    record { same = same-start s at h; lines = rw q; line = rw q }
 
 -- ---- the lines like the first
 
@@ -56,6 +68,37 @@ module _ (s : List ℕ) (x : Line) (from : ℕ) where
 module _ (s : List ℕ) (at : ℕ) (h : at ≤ length s) (x : Line) (hx : x ≡ firstLine (seqAt s at)) where
   pub first-fits : (at + x .width ≤ length s) × (x .bases ≤ x .width)
   first-fits = rw hx (first-within s at h, bases-le (seqAt s at))
+
+  module _ (z : x .bases ≡ 0 → ⊥) where
+    -- by the lines behind the first
+    even-from : (n j : ℕ) → EvenLines (x .bases) (x .width) (seqAt s (at + x .width)) → n ≡ x .bases + sumBases (seqAt s (at + x .width))
+        → j ≡ at + x .width + sumWidths (seqAt s (at + x .width)) → EvenLinesAt s at (Lines n j)
+    unfolding sumBases sumWidths
+    even-from n j c hn hj = go (seqAt s at) refl hx
+      where
+        next : seqAt s (at + x .width) ≡ tailOf (seqAt s at)
+        next = rw hx (seqAt-next s at h)
+
+        go : (ls : List (List ℕ)) → seqAt s at ≡ ls → x ≡ firstLine ls → EvenLinesAt s at (Lines n j)
+        go [] e q = absurd (z (ap (λ (l : Line). l .bases) q))
+        go (l ∷ ls) e q =
+            let b : length (basesOf l) ≡ x .bases = sym (ap (λ (v : Line). v .bases) q) in
+            let w : length l ≡ x .width = sym (ap (λ (v : Line). v .width) q) in
+            let t : seqAt s (at + x .width) ≡ ls = rw e at next in
+            let a : EvenLines (x .bases) (x .width) ls = rw t at c in
+            let d : EvenLines (length (basesOf l)) (length l) ls = rw (b, w) a in
+            let u : EvenLines (length (basesOf l)) (length l) (l ∷ ls) = line-more refl refl d in
+            let v : FirstLineFits at (l ∷ ls) = even-fits at l ls u (omega (arith, b, z)) (rw e at (terminated-here s at h)) in
+            let m : n ≡ sumBases (seqAt s at) = rw e (omega (arith, b, rw t at hn)) in
+            let k : j ≡ at + sumWidths (seqAt s at) = rw e (omega (arith, w, rw t at hj)) in
+            even (rw e v) m k
+
+    -- none follows it
+    pub one-even : (t : Bool) → t ≡ none (seqAt s (at + x .width)) → t ≡ true → EvenLinesAt s at (Lines (x .bases) (at + x .width))
+    unfolding sumBases sumWidths
+    one-even t ht y =
+        let q : seqAt s (at + x .width) ≡ [] = none-left (seqAt s (at + x .width)) (sym ht ∙ y) in
+        even-from (x .bases) (at + x .width) (rw q (no-more refl)) (rw q (omega arith)) (rw q (omega arith))
 
   module _ (k : ℕ) (hk : k ≡ alike x (seqAt s (at + x .width))) where
     pub like-fits : (at + x .width + k * x .width ≤ length s) × (k * x .bases ≤ k * x .width)
@@ -107,25 +150,9 @@ module _ (s : List ℕ) (at : ℕ) (h : at ≤ length s) (x : Line) (hx : x ≡ 
         onto = rw hk (onto-all s x (at + x .width) (first-fits .0))
 
         pub even-said : EvenLinesAt s at (Lines (x .bases + k * x .bases + y .bases) (r .at))
-        unfolding sumBases sumWidths
-        even-said = go (seqAt s at) refl hx
-          where
-            next : seqAt s (at + x .width) ≡ tailOf (seqAt s at)
-            next = rw hx (seqAt-next s at h)
-
-            go : (ls : List (List ℕ)) → seqAt s at ≡ ls → x ≡ firstLine ls → EvenLinesAt s at (Lines (x .bases + k * x .bases + y .bases) (r .at))
-            go [] e q = absurd (z (ap (λ (l : Line). l .bases) q))
-            go (l ∷ ls) e q =
-                let b : length (basesOf l) ≡ x .bases = sym (ap (λ (v : Line). v .bases) q) in
-                let w : length l ≡ x .width = sym (ap (λ (v : Line). v .width) q) in
-                let t : seqAt s (at + x .width) ≡ ls = rw e at next in
-                let c : EvenLines (x .bases) (x .width) ls = rw t at (onto .even (left .even)) in
-                let d : EvenLines (length (basesOf l)) (length l) ls = rw (b, w) c in
-                let u : EvenLines (length (basesOf l)) (length l) (l ∷ ls) = line-more refl refl d in
-                let v : FirstLineFits at (l ∷ ls) = even-fits at l ls u (omega (arith, b, z)) (rw e at (terminated-here s at h)) in
-                let n : x .bases + k * x .bases + y .bases ≡ sumBases (seqAt s at) = rw e (omega (arith, b, rw t at (onto .bases), left .bases)) in
-                let j : r .at ≡ at + sumWidths (seqAt s at) = rw e (omega (arith, w, rw t at (onto .widths), left .widths)) in
-                even (rw e v) n j
+        even-said =
+            even-from z (x .bases + k * x .bases + y .bases) (r .at) (onto .even (left .even)) (omega (arith, onto .bases, left .bases))
+            (omega (arith, onto .widths, left .widths))
 
 -- ---- a record whose lines are even, by its first line x
 

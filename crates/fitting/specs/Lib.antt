@@ -19,4 +19,5 @@ pub mod Even
 pub mod BlankLines
 pub mod Laws
 pub mod EvenLaws
+pub mod Quick
 pub mod LineByLine

@@ -3,6 +3,7 @@
 // far the first base behind those is from the first of all. Refuses a file over the size limit (1), a bad definition line (2 to 4), a
 // base that no numbers can lead to (42), and a table without a free row (8).
 pub mod bytes;
+pub(crate) mod quick;
 
 use definition::Definition;
 use definition::Parsed;
@@ -77,6 +78,12 @@ fn even_lines(s: &[u8], at: usize, first: Line) -> Even
         return Even::Not;
     }
     let next = at + first.width;
+    if lines::sequence_ends(s, next) {
+        return Even::Lines {
+            bases: first.bases,
+            next,
+        };
+    }
     let alike = lines::alike::lines_like(s, next, first);
     let i = next + alike * first.width;
     let n = first.bases + alike * first.bases;
@@ -84,7 +91,14 @@ fn even_lines(s: &[u8], at: usize, first: Line) -> Even
     if first.bases < last.bases {
         return Even::Not;
     }
-    let behind = past_blank_lines(s, i + last.width);
+    let e = i + last.width;
+    if lines::sequence_ends(s, e) {
+        return Even::Lines {
+            bases: n + last.bases,
+            next: e,
+        };
+    }
+    let behind = past_blank_lines(s, e);
     let after = behind.line;
     if after.bases != 0 {
         return Even::Not;
@@ -161,33 +175,6 @@ fn fit_lines(s: &[u8], at: usize, e: usize, d: Definition) -> Step
     }
 }
 
-// The record at `at`, whose definition line ends at `e` and says `d`.
-fn fit_sequence(s: &[u8], at: usize, e: usize, d: Definition) -> Step
-    requires { ⌜ (at < e) × (e ≤ length (now s)) × (d .name .start ≤ e - at) × (d .description .start ≤ e - at) ⌝ }
-    ensures { λ r. ⌜ r ≡ sequenceBy complete at (e - at) d (seqAt (now (s .entry)) e) ⌝ }
-{
-    let first = lines::sequence_line(s, e);
-    let found = even_lines(s, e, first);
-    match found {
-        Even::Lines { bases, next } => {
-            let name = d.name;
-            let text = d.description;
-            let x = Record::unnamed(
-                bases as u64,
-                Offset(e as u64),
-                first.bases as u64,
-                first.width as u64,
-            );
-            let y = x.named((at + name.start) as u64, name.length as u64);
-            Step {
-                answer: Indexed::Row(y.described((at + text.start) as u64, text.length as u64)),
-                next: Indexer { at: next },
-            }
-        }
-        Even::Not => fit_lines(s, at, e, d),
-    }
-}
-
 // The record at `at`.
 fn fit_at(s: &[u8], at: usize) -> Step
     ensures { λ r. ⌜ r ≡ recordBy complete (now (s .entry)) at ⌝ }
@@ -201,12 +188,18 @@ fn fit_at(s: &[u8], at: usize) -> Step
     let e = lines::ends::line_end(s, at);
     let d = definition::parse_line(&s[at..e]);
     match d {
-        Parsed::Named(x) => fit_sequence(s, at, e, x),
+        Parsed::Named(x) => fit_lines(s, at, e, x),
         Parsed::Bad(f) => Step {
             answer: Indexed::Refused(f.refusal((at + f.place()) as u64, 0)),
             next: Indexer { at },
         },
     }
+}
+
+// A record's row, and the place behind it, which is 0 where nothing is told.
+pub struct Told {
+    pub row: Record,
+    pub next: usize,
 }
 
 // The rule that a file is indexed by: the original's, or the complete one.
@@ -225,8 +218,8 @@ pub fn index_at(s: &[u8], at: usize, rule: Rule) -> Step
     }
 }
 
-// The next row of the file from `at` on, by a rule.
-pub(crate) fn next_row(s: &[u8], at: usize, rule: Rule) -> Next
+// The next row of the file from `at` on, by a rule, whatever the record there.
+pub(crate) fn slow_row(s: &[u8], at: usize, rule: Rule) -> Next
     ensures { λ r. ⌜ NextOf (rowsBy rule (now (s .entry)) at) (rowsBy rule (now (s .entry))) at (length (now (s .entry))) r ⌝ }
 {
     let step = index_at(s, at, rule);
@@ -236,6 +229,18 @@ pub(crate) fn next_row(s: &[u8], at: usize, rule: Rule) -> Next
         Indexed::End => Next::Stop(Stop::Ended),
         Indexed::Refused(f) => Next::Stop(Stop::Refused(f)),
     }
+}
+
+// The next row of the file from `at` on, by a rule.
+fn next_row(s: &[u8], at: usize, rule: Rule) -> Next
+    ensures { λ r. ⌜ NextOf (rowsBy rule (now (s .entry)) at) (rowsBy rule (now (s .entry))) at (length (now (s .entry))) r ⌝ }
+{
+    let told = quick::quick_at(s, at, rule);
+    if told.next == 0 {
+        return slow_row(s, at, rule);
+    }
+    let row = told.row;
+    Next::Row(row, told.next)
 }
 
 // A row for each record of the file, from the table's first row on.

@@ -40,8 +40,8 @@ parse-line-requires c κs = search needs
 enum-known-d : tie.Need-enum-known-d
 enum-known-d c = search needs
 
-fit-sequence-requires : tie.Need-fit-sequence-requires
-fit-sequence-requires c κs =
+fit-lines-requires : tie.Need-fit-lines-requires
+fit-lines-requires c κs =
     let p = c .before .before .before in
     let l = p .before .before in
     let a = l .before .before .before .args in
@@ -68,7 +68,7 @@ returns-2 : tie.Need-returns-2
 returns-2 c =
     let p = c .before .before .before .before in
     let l = p .before .before in
-    c .fit-sequence .ensures ∙ record-here _ _ _ _ _ _ (l .before .if1 .left) (l .line-end .ensures) (p .parse-line .ensures) (c .before .before .d .given .1)
+    c .fit-lines .ensures ∙ record-here _ _ _ _ _ _ (l .before .if1 .left) (l .line-end .ensures) (p .parse-line .ensures) (c .before .before .d .given .1)
 
 returns-3 : tie.Need-returns-3
 returns-3 c =
@@ -87,7 +87,7 @@ fit-at-spec =
     part-parse-line-end
     parse-line-requires
     enum-known-d
-    fit-sequence-requires
+    fit-lines-requires
     enum-known-d-2
     place-requires
     add-refusal

@@ -1,40 +1,27 @@
--- `fitting::next_row` meets its contract: the file from a record on is the row of that record, and the file behind it.
+-- `fitting::next_row` meets its contract: the row that is told, or the one of the slow way.
 -- Assumes nothing.
-use Rattle.table.specs.Laws.{next-row, next-stop}
-use Rattle.indexer.specs.RuleLaws.{file-row, file-end, file-refused}
 use borrow.Author.Needs.{needs}
+use Rattle.fitting.specs.Quick.{quick-next}
 use Rattle.fitting.proofs.next_row.Statement.{statement}
 use Rattle.fitting.proofs.next_row.Tie as tie
 
-index-at-requires : tie.Need-index-at-requires
-index-at-requires c κs = search needs
+quick-at-requires : tie.Need-quick-at-requires
+quick-at-requires c κs = search needs
 
-enum-known-answer : tie.Need-enum-known-answer
-enum-known-answer c = search needs
-
-enum-told : tie.Need-enum-told
-enum-told c = search needs
-
-enum-known-answer-2 : tie.Need-enum-known-answer-2
-enum-known-answer-2 c = search needs
+slow-row-requires : tie.Need-slow-row-requires
+slow-row-requires c κs = search needs
 
 returns : tie.Need-returns
-returns c = next-row _ _ _ _ _ _ (file-row _ _ _ _ (c .before .before .before .index-at .ensures) _ (c .before .answer .given .1))
+returns c = search needs
 
 returns-2 : tie.Need-returns-2
-returns-2 c = next-stop _ _ _ _ _ (file-end _ _ _ _ (c .before .before .index-at .ensures) (c .enum-told .given .1))
-
-returns-3 : tie.Need-returns-3
-returns-3 c = next-stop _ _ _ _ _ (file-refused _ _ _ _ (c .before .before .before .index-at .ensures) _ (c .before .answer2 .given .1))
+returns-2 c = quick-next _ _ _ _ (c .before .before .before .quick-at .ensures) (c .before .if1 .left)
 
 pub next-row-spec : {M : Type 1} → statement M
 next-row-spec =
     tie.close
     (tie.spec
-    index-at-requires
-    enum-known-answer
-    enum-told
-    enum-known-answer-2
+    quick-at-requires
+    slow-row-requires
     returns
-    returns-2
-    returns-3)
+    returns-2)

@@ -24,42 +24,39 @@ counted c = in-count _ _ _ _ _ (c .loop .inv .1)
 loop-holds : tie.Need-loop-holds Inv-loop μ-loop
 loop-holds c = (refl, in-start _ _)
 
-next-row-requires : tie.Need-next-row-requires Inv-loop μ-loop
-next-row-requires c κs = search needs
-
-keep-requires : tie.Need-keep-requires Inv-loop μ-loop
-keep-requires c κs = search needs
+turn-requires : tie.Need-turn-requires Inv-loop μ-loop
+turn-requires c κs = search needs
 
 enum-known-behind : tie.Need-enum-known-behind Inv-loop μ-loop
 enum-known-behind c = search needs
 
 -- a turn that goes on: what the file from its place on still gives is the row that was kept, and what the file behind it gives
-turn : (c : tie.After-behind Inv-loop μ-loop) → let k = c .before .before .before .before in let l = k .before .before .before in let a = l .before .before .before .args in let b = c .behind .given .0 .0 in
-    OnwardIn (a .table .now) (rowsBy (a .rule) (a .s .now) (a .from)) (l .loop .n + 1) (rowsBy (a .rule) (a .s .now) b) (k .keep .last .0)
+turn : (c : tie.After-behind Inv-loop μ-loop) → let k = c .before .before .before .before in let l = k .before .before in let a = l .before .before .before .args in let b = c .behind .given .0 .0 in
+    OnwardIn (a .table .now) (rowsBy (a .rule) (a .s .now) (a .from)) (l .loop .n + 1) (rowsBy (a .rule) (a .s .now) b) (k .turn .last .1 .1 .0)
     × (l .loop .at < length (a .s .now)) × (l .loop .at < b)
 turn c =
     let k = c .before .before .before .before in
-    in-on _ _ _ _ _ (k .before .before .before .loop .inv .1) _ _ _ _ (k .before .next-row .ensures) _ _ (k .keep .ensures) _ (c .behind .given .1)
+    in-on _ _ _ _ _ (k .before .before .loop .inv .1) _ _ _ _ (k .turn .ensures .found) _ _ (k .turn .ensures .kept) _ (c .behind .given .1)
 
 add-n : tie.Need-add-n Inv-loop μ-loop
-add-n c = omega (arith, counted (c .before .before .before .before .before .before .before .before))
+add-n c = omega (arith, counted (c .before .before .before .before .before .before .before))
 
 loop-less : tie.Need-loop-less Inv-loop μ-loop
 loop-less c = omega (arith, turn (c .before))
 
 loop-again : tie.Need-loop-again Inv-loop μ-loop
-loop-again c = let k = c .before .before .before .before .before in (k .keep .kept .0 ∙ k .before .before .before .loop .inv .0, turn (c .before) .0)
+loop-again c = let k = c .before .before .before .before .before in (k .turn .kept .1 .1 .0 ∙ k .before .before .loop .inv .0, turn (c .before) .0)
 
 enum-known-stop : tie.Need-enum-known-stop Inv-loop μ-loop
 enum-known-stop c = search needs
 
 same-length : tie.Need-same-length Inv-loop μ-loop
-same-length c = let k = c .before .before .before .before .before in k .keep .kept .0 ∙ k .before .before .before .loop .inv .0
+same-length c = let k = c .before .before .before .before .before in k .turn .kept .1 .1 .0 ∙ k .before .before .loop .inv .0
 
 returns : tie.Need-returns Inv-loop μ-loop
 returns c =
     let k = c .before .before .before .before .before in
-    in-stops _ _ _ _ _ (k .before .before .before .loop .inv .1) _ _ _ _ (k .before .next-row .ensures) _ _ (k .keep .ensures) _ (c .before .stop .given .1)
+    in-stops _ _ _ _ _ (k .before .before .loop .inv .1) _ _ _ _ (k .turn .ensures .found) _ _ (k .turn .ensures .kept) _ (c .before .stop .given .1)
 
 pub index-from-spec : {M : Type 1} → statement M
 index-from-spec =
@@ -68,8 +65,7 @@ index-from-spec =
     Inv-loop
     μ-loop
     loop-holds
-    next-row-requires
-    keep-requires
+    turn-requires
     enum-known-behind
     add-n
     loop-less
