@@ -1,4 +1,5 @@
 pub mod SixColumns
 pub mod Laws
 pub mod RoundTrip
+pub mod Standing
 pub mod Sound

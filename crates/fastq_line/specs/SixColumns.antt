@@ -1,11 +1,12 @@
 -- What an index line of six columns says, and how one is written (docs/RULES.md, R85, R86).
 use Prim.Native.Nat.{ℕ}
+use mathlib.Core.Path.{_≡_}
 use mathlib.Core.List.{List, [], _∷_}
 use mathlib.Core.Bool.{Bool, false, cond, _&&_}
 use lib.ListN.{length, getD}
 use Rattle.refusal.specs.declared.Refusal.the-variants.{TooLong, EmptyIndexLine}
 use Rattle.refusal.specs.Numbers.{overLimit}
-use Rattle.lines.specs.Lines.{contentOf}
+use Rattle.lines.specs.Lines.{part, lineEnd, contentOf}
 use Rattle.record.specs.declared.Record.{Record}
 use Rattle.record.specs.declared.Offset.{Offset}
 use Rattle.table.specs.declared.Held.{Held}
@@ -52,6 +53,11 @@ onlyIf p (read.Refused r) = read.Refused r
 -- what a line says: a final LF, and one CR before it, come off; plain is as for a line of five columns
 unfoldable pub sixLineSays : ℕ → List ℕ → LineRead
 sixLineSays line l = onlyIf (plainEnd l) (contentSays line (contentOf l))
+
+-- what the line at a place of a text says, and where it ends
+pub record SaidAt (line : ℕ) (text : List ℕ) (at : ℕ) (r : LineRead) (e : ℕ) : Type 0 where
+  pub end : e ≡ lineEnd text at
+  pub read : r ≡ sixLineSays line (part text at e)
 
 -- the name of a line: its first field
 unfoldable pub nameOf : List ℕ → List ℕ

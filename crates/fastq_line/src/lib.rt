@@ -14,7 +14,7 @@ ghost use mathlib.Core.Path.{_≡_};
 ghost use lib.ListN.{length};
 ghost use Rattle.output.specs.Outcome.{leaves};
 ghost use Rattle.table.specs.Rows.{namedOf};
-ghost use Rattle.fastq_line.specs.SixColumns.{contentSays, onlyIf, sixLineSays, readLine, lineWritten};
+ghost use Rattle.fastq_line.specs.SixColumns.{rowOf, contentSays, onlyIf, sixLineSays, SaidAt, readLine, lineWritten};
 
 // What a line says: a row, whose name's span counts from the line's start; and whether the line is plain, so that writing its row gives the
 // same bytes.
@@ -29,8 +29,28 @@ pub enum LineRead {
     Refused(Refusal),
 }
 
+// A line read where it stands in a text, and the place behind it.
+pub struct ReadAt {
+    pub read: LineRead,
+    pub end: usize,
+}
+
 // How many numbers a line has behind its name, each with a tab before it.
 const NUMBERS: usize = 5;
+
+// The row of a name of so many bytes, at the front of its line, and of a line's numbers.
+fn row_of(name: usize, numbers: &[u64; NUMBERS]) -> QualityRow
+    ensures { λ r. ⌜ r ≡ rowOf name (now (numbers .entry)) ⌝ }
+{
+    let position = numbers[1];
+    let qualities = numbers[4];
+    let unnamed = Record::unnamed(numbers[0], Offset(position), numbers[2], numbers[3]);
+    let record = unnamed.named(0, name as u64);
+    QualityRow {
+        record,
+        qualities: Offset(qualities),
+    }
+}
 
 // Reads the content of line number `line`, which has no end. Of content, plain means that no number has a needless leading zero or a plus.
 fn parse_record(content: &[u8], line: u64) -> LineRead
@@ -44,12 +64,7 @@ fn parse_record(content: &[u8], line: u64) -> LineRead
     match fields::read_numbers(content, name, line, &mut numbers) {
         NumbersRead::Refused(r) => LineRead::Refused(r),
         NumbersRead::All { plain } => {
-            let unnamed = Record::unnamed(numbers[0], Offset(numbers[1]), numbers[2], numbers[3]);
-            let record = unnamed.named(0, name as u64);
-            let row = QualityRow {
-                record,
-                qualities: Offset(numbers[4]),
-            };
+            let row = row_of(name, &numbers);
             LineRead::Row(Entry { row, plain })
         }
     }
@@ -79,6 +94,38 @@ pub fn parse_line(l: &[u8], line: u64) -> LineRead
     let length = lines::content_length(l);
     let ended = l.len() - length == 1;
     plain_if(ended, parse_record(&l[..length], line))
+}
+
+// Reads the line that begins at a place of a text, by its end, which is looked for first.
+fn parse_by_end(text: &[u8], at: usize, line: u64) -> ReadAt
+    ensures { λ r. ⌜ SaidAt line (now (text .entry)) at (r .read) (r .end) ⌝ }
+{
+    if text.len() <= at {
+        return ReadAt {
+            read: LineRead::Refused(Refusal::EmptyIndexLine { line }),
+            end: at,
+        };
+    }
+    let end = lines::ends::line_end(text, at);
+    let read = parse_line(&text[at..end], line);
+    ReadAt { read, end }
+}
+
+// Reads the line that begins at a place of a text, and tells where it ends; at or past the end of the text there is an empty line. Most lines are
+// as they are written, and are read in one walk.
+pub fn parse_at(text: &[u8], at: usize, line: u64) -> ReadAt
+    ensures { λ r. ⌜ SaidAt line (now (text .entry)) at (r .read) (r .end) ⌝ }
+{
+    let mut numbers: [u64; NUMBERS] = [0; NUMBERS];
+    let found = fields::line_at(text, at, &mut numbers);
+    if found.end == 0 {
+        return parse_by_end(text, at, line);
+    }
+    let row = row_of(found.name, &numbers);
+    ReadAt {
+        read: LineRead::Row(Entry { row, plain: true }),
+        end: found.end,
+    }
 }
 
 // Reads a line, with its end, that stands alone. An LF before its end is a byte like others, but then it is not plain: it is no line.

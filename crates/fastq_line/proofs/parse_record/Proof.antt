@@ -34,32 +34,14 @@ enum-known-r c = search needs
 enum-known-plain : tie.Need-enum-known-plain
 enum-known-plain c = search needs
 
-array-read-unnamed : tie.Need-array-read-unnamed
-array-read-unnamed c = search needs
-
-array-read-t22 : tie.Need-array-read-t22
-array-read-t22 c = search needs
-
-array-read-unnamed-2 : tie.Need-array-read-unnamed-2
-array-read-unnamed-2 c = search needs
-
-array-read-unnamed-3 : tie.Need-array-read-unnamed-3
-array-read-unnamed-3 c = search needs
-
-unnamed-requires : tie.Need-unnamed-requires
-unnamed-requires c κs = search needs
-
-named-requires : tie.Need-named-requires
-named-requires c κs = search needs
-
-array-read-t29 : tie.Need-array-read-t29
-array-read-t29 c = search needs
+row-of-requires : tie.Need-row-of-requires
+row-of-requires c κs = search needs
 
 returns-2 : tie.Need-returns-2
 returns-2 c = rw (said (c .before .before .before .before), c .before .r .given .1)
 
 returns-3 : tie.Need-returns-3
-returns-3 c = rw (said (c .before .before .before .before .before .before), c .before .before .before .plain .given .1, c .named .ensures, c .before .unnamed .ensures)
+returns-3 c = rw (said (c .before .before .before .before .before .before), c .before .before .before .plain .given .1, c .row-of .ensures)
 
 pub parse-record-spec : {M : Type 1} → statement M
 parse-record-spec =
@@ -71,12 +53,6 @@ parse-record-spec =
     read-numbers-requires
     enum-known-r
     enum-known-plain
-    array-read-unnamed
-    array-read-t22
-    array-read-unnamed-2
-    array-read-unnamed-3
-    unnamed-requires
-    named-requires
-    array-read-t29
+    row-of-requires
     returns-2
     returns-3)
