@@ -101,11 +101,11 @@ keptBy rule total (Lines d so z) rows t = record { rule = rule; total = total; r
 keptBy rule total Ended rows t = record { rule = rule; total = total; rows = rows; phase = Ended; waiting = t }
 
 abbrev pub keptIn : Rule → ℕ → FedSum Filling Waiting → With
-keptIn rule total x = with (keptBy rule total (x .state .phase) (x .state .rows) (x .held)) (x .state .table)
+keptIn rule total x = with (keptBy rule total (x .state .phase) (x .state .rows) (x .waiting)) (x .state .table)
 
 -- where a feeder stands
 abbrev pub fedOf : Feeder → List ℕ → FedSum Filling Waiting
-fedOf f t = record { state = filling (f .phase) (f .rows) t; held = f .waiting }
+fedOf f t = record { state = filling (f .phase) (f .rows) t; waiting = f .waiting }
 
 -- a piece: none changes nothing; then 26, then 1, then its lines
 unfoldable pub pieceOf : Feeder → List ℕ → List ℕ → With

@@ -236,15 +236,15 @@ module _ (out : Out) (n : ℕ) (t : List ℕ) where
 
 -- ---- a line behind what waits
 
-pub fed-same : {a b : Filling} {h k : Waiting} → a ≡ b → h ≡ k → _≡_ {A = FedSum Filling Waiting} (record { state = a; held = h }) (record { state = b; held = k })
+pub fed-same : {a b : Filling} {h k : Waiting} → a ≡ b → h ≡ k → _≡_ {A = FedSum Filling Waiting} (record { state = a; waiting = h }) (record { state = b; waiting = k })
 fed-same e q = rw (e, q)
 
 module _ (rule : Rule) (x : FedSum Filling Waiting) (l : List ℕ) where
-  absorb-whole : x .held .whole ≡ true → absorbSum (machine rule) x l ≡ record { state = stepBy rule (x .state) (x .held) (begins l); held = waitingOf l }
+  absorb-whole : x .waiting .whole ≡ true → absorbSum (machine rule) x l ≡ record { state = stepBy rule (x .state) (x .waiting) (begins l); waiting = waitingOf l }
   unfolding absorbSum
   absorb-whole w = rw w
 
-  absorb-open : x .held .whole ≡ false → absorbSum (machine rule) x l ≡ record { state = x .state; held = growBy (x .held) l }
+  absorb-open : x .waiting .whole ≡ false → absorbSum (machine rule) x l ≡ record { state = x .state; waiting = growBy (x .waiting) l }
   unfolding absorbSum
   absorb-open w = rw w
 

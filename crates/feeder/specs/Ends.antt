@@ -39,19 +39,19 @@ module _ (rule : Rule) (t : List ℕ) where
   finished : (s : List ℕ) → finishSum (machine rule) (feedSum (machine rule) (start rule t) s) ≡ judgeAll (stepLine rule) (first rule t) (lines s)
   finished s = one ∙ sums-whole (machine rule) (stepLine rule) (machine-law rule) (first rule t) (s ∷ []) ∙ ap (λ (a : List ℕ). judgeAll (stepLine rule) (first rule t) (lines a)) (unfold joined in append-nil s)
     where
-      one : finishSum (machine rule) (feedSum (machine rule) (start rule t) s) ≡ finishSum (machine rule) (feedSums (machine rule) (record { state = first rule t; held = waitingOf [] }) (s ∷ []))
+      one : finishSum (machine rule) (feedSum (machine rule) (start rule t) s) ≡ finishSum (machine rule) (feedSums (machine rule) (record { state = first rule t; waiting = waitingOf [] }) (s ∷ []))
       one = unfold feedSums waitingOf sumOf chop ends in refl
 
   module _ (s : List ℕ) (h : length s ≤ limit) where
     -- behind a refusal the end changes nothing
-    halted-ends : (m : refused.Numbers) (n : ℕ) (b : List ℕ) (u : Waiting) → feedSum (machine rule) (start rule t) s ≡ record { state = filling (Halted m) n b; held = u }
+    halted-ends : (m : refused.Numbers) (n : ℕ) (b : List ℕ) (u : Waiting) → feedSum (machine rule) (start rule t) s ≡ record { state = filling (Halted m) n b; waiting = u }
         → endOf (stateAt rule t s .feeder) (stateAt rule t s .table) ≡ closedIn rule (finishSum (machine rule) (feedSum (machine rule) (start rule t) s))
     halted-ends m n b u e = rw e (stays ∙ sym (ap (closedIn rule) (same (eqb (u .width) 0)) ∙ (unfold closedBy in refl)))
       where
         stays : endOf (keptBy rule (length s) (Halted m) n u) b ≡ with (stopped rule n (Halted m)) b
         stays = unfold endOf keptBy live stillStopped in refl
 
-        same : (z : Bool) → finishSum (machine rule) (record { state = filling (Halted m) n b; held = u }) ≡ filling (Halted m) n b
+        same : (z : Bool) → finishSum (machine rule) (record { state = filling (Halted m) n b; waiting = u }) ≡ filling (Halted m) n b
         same z = unfold finishSum in go (eqb (u .width) 0)
           where
             go : (z : Bool) → cond z (filling (Halted m) n b) (stepBy rule (filling (Halted m) n b) u true) ≡ filling (Halted m) n b
@@ -59,7 +59,7 @@ module _ (rule : Rule) (t : List ℕ) where
             go false = step-halted rule m n b u true
 
     -- else the line that waits is judged
-    live-ends : (q : Phase) (n : ℕ) (b : List ℕ) (u : Waiting) → live q ≡ true → feedSum (machine rule) (start rule t) s ≡ record { state = filling q n b; held = u }
+    live-ends : (q : Phase) (n : ℕ) (b : List ℕ) (u : Waiting) → live q ≡ true → feedSum (machine rule) (start rule t) s ≡ record { state = filling q n b; waiting = u }
         → keptBy rule (length s) q n u ≡ record { rule = rule; total = length s; rows = n; phase = q; waiting = u }
         → endOf (stateAt rule t s .feeder) (stateAt rule t s .table) ≡ closedIn rule (finishSum (machine rule) (feedSum (machine rule) (start rule t) s))
     live-ends q n b u l e k = rw (e, k) (judged (record { rule = rule; total = length s; rows = n; phase = q; waiting = u }) refl)
@@ -70,7 +70,7 @@ module _ (rule : Rule) (t : List ℕ) where
         sound : soundOf at ≡ true
         sound = fits-sound at (length s) h h (rw (zero-add (length s), e) at (fits-piece rule 0 (start rule t) s (fits-start rule t)))
 
-        judged : (f : Feeder) → f ≡ at → endOf at b ≡ closedIn rule (finishSum (machine rule) (record { state = filling q n b; held = u }))
+        judged : (f : Feeder) → f ≡ at → endOf at b ≡ closedIn rule (finishSum (machine rule) (record { state = filling q n b; waiting = u }))
         judged f x = unfold endOf finishSum in rw (l, sound)
 
     pub end-same : endOf (stateAt rule t s .feeder) (stateAt rule t s .table) ≡ closedIn rule (judgeAll (stepLine rule) (first rule t) (lines s))
@@ -79,13 +79,13 @@ module _ (rule : Rule) (t : List ℕ) where
         x : FedSum Filling Waiting
         x = feedSum (machine rule) (start rule t) s
 
-        put : (q : Phase) → x .state .phase ≡ q → x ≡ record { state = filling q (x .state .rows) (x .state .table); held = x .held }
-        put q e = ap (λ (q : Phase). record { state = filling q (x .state .rows) (x .state .table); held = x .held }) e
+        put : (q : Phase) → x .state .phase ≡ q → x ≡ record { state = filling q (x .state .rows) (x .state .table); waiting = x .waiting }
+        put q e = ap (λ (q : Phase). record { state = filling q (x .state .rows) (x .state .table); waiting = x .waiting }) e
 
         go : (q : Phase) → x .state .phase ≡ q → over (x .state .phase) ≡ false → endOf (stateAt rule t s .feeder) (stateAt rule t s .table) ≡ closedIn rule (finishSum (machine rule) x)
-        go (Definition o) e v = live-ends (Definition o) (x .state .rows) (x .state .table) (x .held) (unfold live in refl) (put (Definition o) e) (unfold keptBy in refl)
-        go (Lines d so z) e v = live-ends (Lines d so z) (x .state .rows) (x .state .table) (x .held) (unfold live in refl) (put (Lines d so z) e) (unfold keptBy in refl)
-        go (Halted m) e v = halted-ends m (x .state .rows) (x .state .table) (x .held) (put (Halted m) e)
+        go (Definition o) e v = live-ends (Definition o) (x .state .rows) (x .state .table) (x .waiting) (unfold live in refl) (put (Definition o) e) (unfold keptBy in refl)
+        go (Lines d so z) e v = live-ends (Lines d so z) (x .state .rows) (x .state .table) (x .waiting) (unfold live in refl) (put (Lines d so z) e) (unfold keptBy in refl)
+        go (Halted m) e v = halted-ends m (x .state .rows) (x .state .table) (x .waiting) (put (Halted m) e)
         go Ended e v = absurd (true≢false (rw e at v))
 
 -- ---- the whole file

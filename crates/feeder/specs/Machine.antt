@@ -154,7 +154,7 @@ machine rule = record { sum = waitingOf; judge = stepBy rule; whole = λ t. t .w
 -- ---- what each part of the code leaves
 
 abbrev pub fedIn : Fed → List ℕ → FedSum Filling Waiting
-fedIn f t = record { state = filling (f .phase) (f .rows) t; held = f .waiting }
+fedIn f t = record { state = filling (f .phase) (f .rows) t; waiting = f .waiting }
 
 pub record SettleDone (out : Out) (n : ℕ) (before : List ℕ) (r : Settled) (after : List ℕ) : Type 0 where
   pub is : filling (r .phase) (r .rows) (numbersIn after) ≡ applied n (numbersIn before) out

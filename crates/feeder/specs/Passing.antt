@@ -112,7 +112,7 @@ next-times k a = rw (← add-one k, add-mul k 1 a, one-mul a)
 
 module _ (rule : Rule) (n : Numbers) (some : 0 < n .width) (F : ℕ → Phase) (c : ℕ) (on : (k : ℕ) → k * n .width ≤ c → outOf rule (F k) (waitingLike n) false ≡ Keeps (F (suc k))) (r : ℕ) (b p : List ℕ) where
   abbrev pub fedAt : ℕ → FedSum Filling Waiting
-  fedAt k = record { state = filling (F k) r b; held = waitingLike n }
+  fedAt k = record { state = filling (F k) r b; waiting = waitingLike n }
 
   pub step-on : (k : ℕ) → k * n .width ≤ c → stepBy rule (filling (F k) r b) (waitingLike n) false ≡ filling (F (suc k)) r b
   unfolding stepBy applied

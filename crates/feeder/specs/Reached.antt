@@ -186,10 +186,10 @@ module _ (rule : Rule) where
   absorb-over : (ls : List (List ℕ)) (x : FedSum Filling Waiting) → over (x .state .phase) ≡ false → over (absorbSums (machine rule) x ls .state .phase) ≡ false
   unfolding absorbSums absorbSum
   absorb-over [] x h = h
-  absorb-over (l ∷ ls) x h = absorb-over ls (absorbSum (machine rule) x l) (go (x .held .whole))
+  absorb-over (l ∷ ls) x h = absorb-over ls (absorbSum (machine rule) x l) (go (x .waiting .whole))
     where
-      go : (w : Bool) → over (cond {A = FedSum Filling Waiting} w (record { state = stepBy rule (x .state) (x .held) (begins l); held = waitingOf l }) (record { state = x .state; held = growBy (x .held) l }) .state .phase) ≡ false
-      go true = step-over (x .state) (x .held) (begins l) h
+      go : (w : Bool) → over (cond {A = FedSum Filling Waiting} w (record { state = stepBy rule (x .state) (x .waiting) (begins l); waiting = waitingOf l }) (record { state = x .state; waiting = growBy (x .waiting) l }) .state .phase) ≡ false
+      go true = step-over (x .state) (x .waiting) (begins l) h
       go false = h
 
   pub feed-over : (x : FedSum Filling Waiting) (p : List ℕ) → over (x .state .phase) ≡ false → over (feedSum (machine rule) x p .state .phase) ≡ false
@@ -202,16 +202,16 @@ module _ (rule : Rule) where
   unfolding stepBy outOf applied
   step-halted m n b t last = refl
 
-  absorb-halted : (m : refused.Numbers) (n : ℕ) (b : List ℕ) (ls : List (List ℕ)) (t : Waiting) → absorbSums (machine rule) (record { state = filling (Halted m) n b; held = t }) ls .state ≡ filling (Halted m) n b
+  absorb-halted : (m : refused.Numbers) (n : ℕ) (b : List ℕ) (ls : List (List ℕ)) (t : Waiting) → absorbSums (machine rule) (record { state = filling (Halted m) n b; waiting = t }) ls .state ≡ filling (Halted m) n b
   unfolding absorbSums absorbSum
   absorb-halted m n b [] t = refl
   absorb-halted m n b (l ∷ ls) t = go (t .whole) (λ u. absorb-halted m n b ls u)
     where
-      go : (w : Bool) → ((u : Waiting) → absorbSums (machine rule) (record { state = filling (Halted m) n b; held = u }) ls .state ≡ filling (Halted m) n b)
-          → absorbSums (machine rule) (cond w (record { state = stepBy rule (filling (Halted m) n b) t (begins l); held = waitingOf l }) (record { state = filling (Halted m) n b; held = growBy t l })) ls .state ≡ filling (Halted m) n b
+      go : (w : Bool) → ((u : Waiting) → absorbSums (machine rule) (record { state = filling (Halted m) n b; waiting = u }) ls .state ≡ filling (Halted m) n b)
+          → absorbSums (machine rule) (cond w (record { state = stepBy rule (filling (Halted m) n b) t (begins l); waiting = waitingOf l }) (record { state = filling (Halted m) n b; waiting = growBy t l })) ls .state ≡ filling (Halted m) n b
       go true r = rw (step-halted m n b t (begins l)) (r (waitingOf l))
       go false r = r (growBy t l)
 
-  pub feed-halted : (m : refused.Numbers) (n : ℕ) (b : List ℕ) (t : Waiting) (p : List ℕ) → feedSum (machine rule) (record { state = filling (Halted m) n b; held = t }) p .state ≡ filling (Halted m) n b
+  pub feed-halted : (m : refused.Numbers) (n : ℕ) (b : List ℕ) (t : Waiting) (p : List ℕ) → feedSum (machine rule) (record { state = filling (Halted m) n b; waiting = t }) p .state ≡ filling (Halted m) n b
   unfolding feedSum
   feed-halted m n b t p = absorb-halted m n b (lines p) t

@@ -45,7 +45,7 @@ mayEnd l x = (ltb 0 (l .bases) && leb (l .bases) (x .bases)) && leb (l .width) (
 
 -- what is left of a piece from i on, if no line waits
 abbrev pub left : Rule → List ℕ → Filling → ℕ → FedSum Filling Waiting
-left rule p st i = absorbSums (machine rule) (record { state = st; held = noLine }) (lines (drop i p))
+left rule p st i = absorbSums (machine rule) (record { state = st; waiting = noLine }) (lines (drop i p))
 
 -- a sequence from e on: whatever its record, wherever it lies, and by either rule, it gives the row with its first line's numbers and its count
 -- of bases, and the next record begins at `next`
@@ -62,20 +62,20 @@ pub record SequenceAt (p : List ℕ) (e : ℕ) (r : Sequence) : Type 0 where
 module _ (rule : Rule) (p : List ℕ) where
   -- it waits
   pub left-line : (st : Filling) (i j : ℕ) (l : List ℕ) → 0 < length l → lines (drop i p) ≡ l ∷ lines (drop j p)
-      → left rule p st i ≡ absorbSums (machine rule) (record { state = st; held = waitingOf l }) (lines (drop j p))
-  left-line st i j l h e = ap (absorbSums (machine rule) (record { state = st; held = noLine })) e ∙ unfold absorbSums absorbSum in ap (λ (t : Waiting). absorbSums (machine rule) (record { state = st; held = t }) (lines (drop j p))) (sym (new-line l h))
+      → left rule p st i ≡ absorbSums (machine rule) (record { state = st; waiting = waitingOf l }) (lines (drop j p))
+  left-line st i j l h e = ap (absorbSums (machine rule) (record { state = st; waiting = noLine })) e ∙ unfold absorbSums absorbSum in ap (λ (t : Waiting). absorbSums (machine rule) (record { state = st; waiting = t }) (lines (drop j p))) (sym (new-line l h))
 
   -- a whole one is judged by its next byte
-  pub left-ready : (x : FedSum Filling Waiting) (j : ℕ) → x .held .whole ≡ true → j < length p
-      → absorbSums (machine rule) x (lines (drop j p)) ≡ left rule p (stepBy rule (x .state) (x .held) (eqb (getD p j 0) 62)) j
+  pub left-ready : (x : FedSum Filling Waiting) (j : ℕ) → x .waiting .whole ≡ true → j < length p
+      → absorbSums (machine rule) x (lines (drop j p)) ≡ left rule p (stepBy rule (x .state) (x .waiting) (eqb (getD p j 0) 62)) j
   left-ready x j w h =
       let b : eqb (getD p j 0) 62 ≡ begins (part p j (lineEnd p j)) = begins-part p j (lineEnd p j) (lineEnd-gt p j h) (lineEnd-le p j (omega arith)) in
       ap (absorbSums (machine rule) x) (linesAt-cut p j h)
       ∙ judged (part p j (lineEnd p j)) (lines (drop (lineEnd p j) p)) b
-      ∙ sym (left-line (stepBy rule (x .state) (x .held) (eqb (getD p j 0) 62)) j (lineEnd p j) (part p j (lineEnd p j)) (omega (arith, part-length p j (lineEnd p j) (lineEnd-le p j (omega arith)), lineEnd-gt p j h)) (linesAt-cut p j h))
+      ∙ sym (left-line (stepBy rule (x .state) (x .waiting) (eqb (getD p j 0) 62)) j (lineEnd p j) (part p j (lineEnd p j)) (omega (arith, part-length p j (lineEnd p j) (lineEnd-le p j (omega arith)), lineEnd-gt p j h)) (linesAt-cut p j h))
     where
       judged : (l : List ℕ) (ls : List (List ℕ)) → eqb (getD p j 0) 62 ≡ begins l
-          → absorbSums (machine rule) x (l ∷ ls) ≡ absorbSums (machine rule) (record { state = stepBy rule (x .state) (x .held) (eqb (getD p j 0) 62); held = waitingOf l }) ls
+          → absorbSums (machine rule) x (l ∷ ls) ≡ absorbSums (machine rule) (record { state = stepBy rule (x .state) (x .waiting) (eqb (getD p j 0) 62); waiting = waitingOf l }) ls
       judged l ls b = unfold absorbSums absorbSum in rw (w, b)
 
 -- a line with something behind it ends in LF
@@ -245,10 +245,10 @@ module _ (p : List ℕ) (e : ℕ) (h : e ≤ length p) (v : length p ≤ 2 ^ 40)
       F-on : (j : ℕ) → j * x .width ≤ 2 ^ 40 → outOf rule (F j) (waitingLike (numbersOfLine z x)) false ≡ Keeps (F (suc j))
       F-on j q = phase-on d x z some apart rule j (omega (arith, q, u, v, apart, w))
 
-      lines-before : left rule p (filling (Lines d Blank z) n t) e ≡ absorbSums (machine rule) (record { state = filling (F k) n t; held = waitingLike (numbersOfLine z x) }) (lines (drop behind p))
+      lines-before : left rule p (filling (Lines d Blank z) n t) e ≡ absorbSums (machine rule) (record { state = filling (F k) n t; waiting = waitingLike (numbersOfLine z x) }) (lines (drop behind p))
       lines-before =
           left-line rule p (filling (Lines d Blank z) n t) e (e + x .width) (first .bytes) (omega (arith, like-width x (first .bytes) (first .like), apart)) (first .here)
-          ∙ ap (λ (y : Waiting). absorbSums (machine rule) (record { state = filling (Lines d Blank z) n t; held = y }) (lines (drop (e + x .width) p))) (like-waiting (numbersOfLine z x) (first .bytes) (first .like) (first .starts))
+          ∙ ap (λ (y : Waiting). absorbSums (machine rule) (record { state = filling (Lines d Blank z) n t; waiting = y }) (lines (drop (e + x .width) p))) (like-waiting (numbersOfLine z x) (first .bytes) (first .like) (first .starts))
           ∙ sym (rw (← hk) at (all-on rule (numbersOfLine z x) (omega (arith, apart)) F (2 ^ 40) F-on n t p (e + x .width) (omega (arith, w)) v .is))
 
     so-many : suc k * x .bases ≡ x .bases + k * x .bases
@@ -272,7 +272,7 @@ module _ (p : List ℕ) (e : ℕ) (h : e ≤ length p) (v : length p ≤ 2 ^ 40)
       ahead = w;
       gives = λ rule d z n t u.
           lines-before rule d z n t u
-          ∙ left-ready rule p (record { state = filling (F rule d z n t u k) n t; held = waitingLike (numbersOfLine z x) }) behind refl w
+          ∙ left-ready rule p (record { state = filling (F rule d z n t u k) n t; waiting = waitingLike (numbersOfLine z x) }) behind refl w
           ∙ ap (λ (st : Filling). left rule p st behind) (judged-alike rule d z n t u g);
     }
 
@@ -290,14 +290,14 @@ module _ (p : List ℕ) (e : ℕ) (h : e ≤ length p) (v : length p ≤ 2 ^ 40)
 
       module _ (rule : Rule) (d : Opened) (z n : ℕ) (t : List ℕ) (u : z + length p < 2 ^ 61) where
         abbrev stood : FedSum Filling Waiting
-        stood = record { state = filling (F rule d z n t u k) n t; held = waitingLike (numbersOfLine z x) }
+        stood = record { state = filling (F rule d z n t u k) n t; waiting = waitingLike (numbersOfLine z x) }
 
         taken : absorbSums (machine rule) stood (lines (drop behind p))
-            ≡ absorbSums (machine rule) (record { state = filling (goesOn d x z some apart rule k) n t; held = waitingLike (numbersOfLine z y) }) (lines (drop (behind + y .width) p))
+            ≡ absorbSums (machine rule) (record { state = filling (goesOn d x z some apart rule k) n t; waiting = waitingLike (numbersOfLine z y) }) (lines (drop (behind + y .width) p))
         taken = ap (absorbSums (machine rule) stood) (last .here) ∙ line-taken (last .bytes) (lines (drop (behind + y .width) p)) (last .starts) (last .like)
           where
             line-taken : (l : List ℕ) (ls : List (List ℕ)) → begins l ≡ false → isLike y l ≡ true
-                → absorbSums (machine rule) stood (l ∷ ls) ≡ absorbSums (machine rule) (record { state = filling (goesOn d x z some apart rule k) n t; held = waitingLike (numbersOfLine z y) }) ls
+                → absorbSums (machine rule) stood (l ∷ ls) ≡ absorbSums (machine rule) (record { state = filling (goesOn d x z some apart rule k) n t; waiting = waitingLike (numbersOfLine z y) }) ls
             line-taken l ls b m = unfold absorbSums absorbSum in
                 rw (b, step-on rule (numbersOfLine z x) (omega (arith, apart)) (F rule d z n t u) (2 ^ 40) (F-on rule d z n t u) n t p k (omega (arith, w, v)), like-waiting (numbersOfLine z y) l m b)
 
@@ -313,7 +313,7 @@ module _ (p : List ℕ) (e : ℕ) (h : e ≤ length p) (v : length p ≤ 2 ^ 40)
         last-gives =
             lines-before rule d z n t u
             ∙ taken
-            ∙ left-ready rule p (record { state = filling (goesOn d x z some apart rule k) n t; held = waitingLike (numbersOfLine z y) }) (behind + y .width) refl q
+            ∙ left-ready rule p (record { state = filling (goesOn d x z some apart rule k) n t; waiting = waitingLike (numbersOfLine z y) }) (behind + y .width) refl q
             ∙ ap (λ (st : Filling). left rule p st (behind + y .width)) judged-last
 
       pub ends-last : SequenceAt p e (record { line = x; bases = x .bases + k * x .bases + y .bases; next = behind + y .width })

@@ -302,30 +302,30 @@ module _ (rule : Rule) where
   open-fits : (c m : ℕ) (p : Phase) (t : Waiting) (l : List ℕ) → 0 < length l → SmallPhase m p → SmallWaiting t → m + t .width ≤ c → FitsWithin (c + length l) p (growBy t l)
   open-fits c m p t l z s h k = record { most = m; phase = s; waiting = grow-small t l h z; both = omega (arith, k, grown-width t l h z) }
 
-  pub fits-absorb : (c : ℕ) (x : FedSum Filling Waiting) (l : List ℕ) → 0 < length l → FitsWithin c (x .state .phase) (x .held)
-      → FitsWithin (c + length l) (absorbSum (machine rule) x l .state .phase) (absorbSum (machine rule) x l .held)
+  pub fits-absorb : (c : ℕ) (x : FedSum Filling Waiting) (l : List ℕ) → 0 < length l → FitsWithin c (x .state .phase) (x .waiting)
+      → FitsWithin (c + length l) (absorbSum (machine rule) x l .state .phase) (absorbSum (machine rule) x l .waiting)
   unfolding absorbSum
-  fits-absorb c x l z f = go (x .held .whole) refl
+  fits-absorb c x l z f = go (x .waiting .whole) refl
     where
-      go : (t : Bool) → x .held .whole ≡ t
-          → FitsWithin (c + length l) (cond {A = FedSum Filling Waiting} t (record { state = stepBy rule (x .state) (x .held) (begins l); held = waitingOf l }) (record { state = x .state; held = growBy (x .held) l }) .state .phase)
-          (cond {A = FedSum Filling Waiting} t (record { state = stepBy rule (x .state) (x .held) (begins l); held = waitingOf l }) (record { state = x .state; held = growBy (x .held) l }) .held)
+      go : (t : Bool) → x .waiting .whole ≡ t
+          → FitsWithin (c + length l) (cond {A = FedSum Filling Waiting} t (record { state = stepBy rule (x .state) (x .waiting) (begins l); waiting = waitingOf l }) (record { state = x .state; waiting = growBy (x .waiting) l }) .state .phase)
+          (cond {A = FedSum Filling Waiting} t (record { state = stepBy rule (x .state) (x .waiting) (begins l); waiting = waitingOf l }) (record { state = x .state; waiting = growBy (x .waiting) l }) .waiting)
       go true e =
           rw (new-line l z)
-          (open-fits c (f .most + x .held .width) (stepBy rule (x .state) (x .held) (begins l) .phase) noLine l z
-          (step-small rule (f .most) (x .held) (begins l) (f .waiting) e (x .state) (f .phase)) none-small (omega (arith, f .both)))
-      go false e = open-fits c (f .most) (x .state .phase) (x .held) l z (f .phase) (f .waiting) (f .both)
+          (open-fits c (f .most + x .waiting .width) (stepBy rule (x .state) (x .waiting) (begins l) .phase) noLine l z
+          (step-small rule (f .most) (x .waiting) (begins l) (f .waiting) e (x .state) (f .phase)) none-small (omega (arith, f .both)))
+      go false e = open-fits c (f .most) (x .state .phase) (x .waiting) l z (f .phase) (f .waiting) (f .both)
 
-  fits-lines : (ls : List (List ℕ)) (s : List ℕ) → lines s ≡ ls → (c : ℕ) (x : FedSum Filling Waiting) → FitsWithin c (x .state .phase) (x .held)
-      → FitsWithin (c + sumWidths ls) (absorbSums (machine rule) x ls .state .phase) (absorbSums (machine rule) x ls .held)
+  fits-lines : (ls : List (List ℕ)) (s : List ℕ) → lines s ≡ ls → (c : ℕ) (x : FedSum Filling Waiting) → FitsWithin c (x .state .phase) (x .waiting)
+      → FitsWithin (c + sumWidths ls) (absorbSums (machine rule) x ls .state .phase) (absorbSums (machine rule) x ls .waiting)
   unfolding absorbSums sumWidths
   fits-lines [] s e c x f = record { most = f .most; phase = f .phase; waiting = f .waiting; both = omega (arith, f .both) }
   fits-lines (l ∷ ls) s e c x f =
       rw (sym (add-assoc c (length l) (sumWidths ls)))
       (fits-lines ls (drop (length l) s) (lines-behind s l ls e) (c + length l) (absorbSum (machine rule) x l) (fits-absorb c x l (lines-some s l ls e) f))
 
-  pub fits-piece : (c : ℕ) (x : FedSum Filling Waiting) (p : List ℕ) → FitsWithin c (x .state .phase) (x .held)
-      → FitsWithin (c + length p) (feedSum (machine rule) x p .state .phase) (feedSum (machine rule) x p .held)
+  pub fits-piece : (c : ℕ) (x : FedSum Filling Waiting) (p : List ℕ) → FitsWithin c (x .state .phase) (x .waiting)
+      → FitsWithin (c + length p) (feedSum (machine rule) x p .state .phase) (feedSum (machine rule) x p .waiting)
   unfolding feedSum
   fits-piece c x p f = rw (sym (widths-lines p)) (fits-lines (lines p) p refl c x f)
 

@@ -13,7 +13,7 @@ use Rattle.refusal.specs.declared.Numbers as refused
 use Rattle.refusal.specs.Numbers.{overLimit}
 use Rattle.refusal.specs.declared.Refusal.the-variants.{TooLong, AlreadyEnded}
 use Rattle.lines.specs.Lines.{lines, chop, ends}
-use Rattle.lines.specs.Feeding.{joined, Fed, FedSum, Sums, summed, judgeMost, feed, absorbSums, feedSum, feed-summed, feed-pieces, feed-none, fresh, fresh-none, fed-most, held-line}
+use Rattle.lines.specs.Feeding.{joined, Fed, FedSum, Sums, summed, judgeMost, feed, absorbSums, feedSum, feed-summed, feed-pieces, feed-none, fresh, fresh-none, fed-most, waiting-line}
 use Rattle.lines.specs.Pieces.{line}
 use Rattle.definition.specs.Definition.{run, keep}
 use Rattle.indexer.specs.LineSums.{sumOf}
@@ -52,7 +52,7 @@ module _ (rule : Rule) where
     first = filling (Definition 0) 0 t
 
     abbrev pub start : FedSum Filling Waiting
-    start = record { state = first; held = noLine }
+    start = record { state = first; waiting = noLine }
 
     start-summed : summed (machine rule) (fresh stepLine first) ≡ start
     start-summed = unfold waitingOf sumOf chop ends in refl
@@ -64,7 +64,7 @@ module _ (rule : Rule) where
     two-pieces : (a b : List ℕ) → feedSum (machine rule) (feedSum (machine rule) start a) b ≡ feedSum (machine rule) start (a ++ b)
     two-pieces a b =
         ap (λ (x : FedSum Filling Waiting). feedSum (machine rule) x b) (fed-as a)
-        ∙ sym (feed-summed (machine rule) stepLine machine-law (feed stepLine (fresh stepLine first) a) b (held-line stepLine (fresh stepLine first) a))
+        ∙ sym (feed-summed (machine rule) stepLine machine-law (feed stepLine (fresh stepLine first) a) b (waiting-line stepLine (fresh stepLine first) a))
         ∙ ap (summed (machine rule)) (feed-pieces stepLine (fresh stepLine first) a b)
         ∙ sym (fed-as (a ++ b))
 
@@ -91,8 +91,8 @@ module _ (rule : Rule) where
       total = length-append a p
 
       -- behind a refusal nothing changes
-      halted-same : (m : refused.Numbers) (n : ℕ) (b : List ℕ) (u : Waiting) → here ≡ record { state = filling (Halted m) n b; held = u } → pieceOf (stateAt a .feeder) p (stateAt a .table) ≡ stateAt (a ++ p)
-      halted-same m n b u e = rw (on-from, e) (kept ∙ sym (again (feedSum (machine rule) (record { state = filling (Halted m) n b; held = u }) p) (feed-halted rule m n b u p)))
+      halted-same : (m : refused.Numbers) (n : ℕ) (b : List ℕ) (u : Waiting) → here ≡ record { state = filling (Halted m) n b; waiting = u } → pieceOf (stateAt a .feeder) p (stateAt a .table) ≡ stateAt (a ++ p)
+      halted-same m n b u e = rw (on-from, e) (kept ∙ sym (again (feedSum (machine rule) (record { state = filling (Halted m) n b; waiting = u }) p) (feed-halted rule m n b u p)))
         where
           again : (x : FedSum Filling Waiting) → x .state ≡ filling (Halted m) n b → keptIn rule (length (a ++ p)) x ≡ with (stopped rule n (Halted m)) b
           again x q = rw q (unfold keptBy in refl)
@@ -105,7 +105,7 @@ module _ (rule : Rule) where
               go false = refl
 
     -- else the piece is read: here the machine stands at q
-    module _ (a : List ℕ) (q : Phase) (n : ℕ) (b : List ℕ) (u : Waiting) (l : live q ≡ true) (e : feedSum (machine rule) start a ≡ record { state = filling q n b; held = u })
+    module _ (a : List ℕ) (q : Phase) (n : ℕ) (b : List ℕ) (u : Waiting) (l : live q ≡ true) (e : feedSum (machine rule) start a ≡ record { state = filling q n b; waiting = u })
         (k : (c : ℕ) → keptBy rule c q n u ≡ record { rule = rule; total = c; rows = n; phase = q; waiting = u }) where
       abbrev at : Feeder
       at = record { rule = rule; total = length a; rows = n; phase = q; waiting = u }
@@ -113,19 +113,19 @@ module _ (rule : Rule) where
       sound-at : length a ≤ limit → soundOf at ≡ true
       sound-at h = fits-sound at (length a) h h (rw (zero-add (length a), e) at (fits-piece rule 0 start a fits-start))
 
-      read-none : pieceOf at [] b ≡ keptIn rule (length a) (feedSum (machine rule) (record { state = filling q n b; held = u }) [])
+      read-none : pieceOf at [] b ≡ keptIn rule (length a) (feedSum (machine rule) (record { state = filling q n b; waiting = u }) [])
       unfolding pieceOf feedSum absorbSums lines
       read-none = ap (λ (f : Feeder). with f b) (sym (k (length a)))
 
       read-some : (c : ℕ) (p : List ℕ) → length a + length (c ∷ p) ≤ limit
-          → pieceOf at (c ∷ p) b ≡ keptIn rule (length a + length (c ∷ p)) (feedSum (machine rule) (record { state = filling q n b; held = u }) (c ∷ p))
+          → pieceOf at (c ∷ p) b ≡ keptIn rule (length a + length (c ∷ p)) (feedSum (machine rule) (record { state = filling q n b; waiting = u }) (c ∷ p))
       unfolding pieceOf overLimit
       read-some c p h = rw (eqb·suc-zero (length p), l, sound-at (omega arith), le-ltb limit (length a + length (c ∷ p)) h)
 
       read-same : (p : List ℕ) → length (a ++ p) ≤ limit → pieceOf (stateAt a .feeder) p (stateAt a .table) ≡ stateAt (a ++ p)
       read-same [] h = rw (append-nil a) (rw (e, k (length a)) (read-none ∙ none-more))
         where
-          none-more : keptIn rule (length a) (feedSum (machine rule) (record { state = filling q n b; held = u }) []) ≡ with at b
+          none-more : keptIn rule (length a) (feedSum (machine rule) (record { state = filling q n b; waiting = u }) []) ≡ with at b
           none-more = sym read-none ∙ (unfold pieceOf in refl)
       read-same (c ∷ p) h = rw (sym (two-pieces a (c ∷ p)), e, k (length a), length-append a (c ∷ p)) (read-some c p (omega (arith, length-append a (c ∷ p))))
 
@@ -135,13 +135,13 @@ module _ (rule : Rule) where
         x : FedSum Filling Waiting
         x = feedSum (machine rule) start a
 
-        put : (q : Phase) → x .state .phase ≡ q → x ≡ record { state = filling q (x .state .rows) (x .state .table); held = x .held }
-        put q e = ap (λ (q : Phase). record { state = filling q (x .state .rows) (x .state .table); held = x .held }) e
+        put : (q : Phase) → x .state .phase ≡ q → x ≡ record { state = filling q (x .state .rows) (x .state .table); waiting = x .waiting }
+        put q e = ap (λ (q : Phase). record { state = filling q (x .state .rows) (x .state .table); waiting = x .waiting }) e
 
         go : (q : Phase) → x .state .phase ≡ q → over (x .state .phase) ≡ false → pieceOf (stateAt a .feeder) p (stateAt a .table) ≡ stateAt (a ++ p)
-        go (Definition o) e v = read-same a (Definition o) (x .state .rows) (x .state .table) (x .held) (unfold live in refl) (put (Definition o) e) (λ c. (unfold keptBy in refl)) p h
-        go (Lines d s z) e v = read-same a (Lines d s z) (x .state .rows) (x .state .table) (x .held) (unfold live in refl) (put (Lines d s z) e) (λ c. (unfold keptBy in refl)) p h
-        go (Halted m) e v = halted-same a p m (x .state .rows) (x .state .table) (x .held) (put (Halted m) e)
+        go (Definition o) e v = read-same a (Definition o) (x .state .rows) (x .state .table) (x .waiting) (unfold live in refl) (put (Definition o) e) (λ c. (unfold keptBy in refl)) p h
+        go (Lines d s z) e v = read-same a (Lines d s z) (x .state .rows) (x .state .table) (x .waiting) (unfold live in refl) (put (Lines d s z) e) (λ c. (unfold keptBy in refl)) p h
+        go (Halted m) e v = halted-same a p m (x .state .rows) (x .state .table) (x .waiting) (put (Halted m) e)
         go Ended e v = absurd (true≢false (rw e at v))
 
     -- ---- any pieces
@@ -192,7 +192,7 @@ module _ (rule : Rule) (t : List ℕ) where
     where
       told : (x : FedSum Filling Waiting) (st : Filling) → x .state ≡ st → ToldAs (keptIn rule (length (joined ps)) x) st
       told x st e =
-          let k = kept-told (length (joined ps)) (x .state .phase) (x .state .rows) (x .held) in
+          let k = kept-told (length (joined ps)) (x .state .phase) (x .state .rows) (x .waiting) in
           record {
             rows = k .0 ∙ ap (λ (y : Filling). y .rows) e;
             refusal = k .1 ∙ ap (λ (y : Filling). refusalIn (y .phase)) e;

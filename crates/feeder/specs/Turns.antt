@@ -49,7 +49,7 @@ use Rattle.feeder.specs.Records.{left, SequenceAt, left-line, left-ready
 
 -- a whole line that waits is judged as the last of its sequence
 unfoldable pub readied : Rule → FedSum Filling Waiting → FedSum Filling Waiting
-readied rule x = cond (x .held .whole) (record { state = stepBy rule (x .state) (x .held) true; held = noLine }) x
+readied rule x = cond (x .waiting .whole) (record { state = stepBy rule (x .state) (x .waiting) true; waiting = noLine }) x
 
 pub record ReadyDone (rule : Rule) (f : Fed) (before : List ℕ) (r : Fed) (after : List ℕ) : Type 0 where
   pub is : fedIn r (numbersIn after) ≡ readied rule (fedIn f (numbersIn before))
@@ -93,7 +93,7 @@ no-bytes t e =
 -- ---- a line that waits
 
 module _ (rule : Rule) (f : Fed) (t : List ℕ) where
-  readied-whole : (x : FedSum Filling Waiting) → x .held .whole ≡ true → readied rule x ≡ record { state = stepBy rule (x .state) (x .held) true; held = noLine }
+  readied-whole : (x : FedSum Filling Waiting) → x .waiting .whole ≡ true → readied rule x ≡ record { state = stepBy rule (x .state) (x .waiting) true; waiting = noLine }
   unfolding readied
   readied-whole x w = rw w
 
@@ -111,21 +111,21 @@ module _ (rule : Rule) (f : Fed) (t : List ℕ) where
   module _ (p : List ℕ) (i : ℕ) (h : i < length p) (b : eqb (getD p i 0) 62 ≡ true) (fits : FitsWithin (2 ^ 41 + i) (f .phase) (f .waiting)) where
     readied-is : (x : FedSum Filling Waiting) → absorbSums (machine rule) (readied rule x) (lines (drop i p)) ≡ absorbSums (machine rule) x (lines (drop i p))
     unfolding readied
-    readied-is x = go (x .held .whole) refl
+    readied-is x = go (x .waiting .whole) refl
       where
-        go : (w : Bool) → x .held .whole ≡ w
-            → absorbSums (machine rule) (cond w (record { state = stepBy rule (x .state) (x .held) true; held = noLine }) x) (lines (drop i p)) ≡ absorbSums (machine rule) x (lines (drop i p))
-        go true w = sym (left-ready rule p x i w h ∙ ap (λ (last : Bool). left rule p (stepBy rule (x .state) (x .held) last) i) b)
+        go : (w : Bool) → x .waiting .whole ≡ w
+            → absorbSums (machine rule) (cond w (record { state = stepBy rule (x .state) (x .waiting) true; waiting = noLine }) x) (lines (drop i p)) ≡ absorbSums (machine rule) x (lines (drop i p))
+        go true w = sym (left-ready rule p x i w h ∙ ap (λ (last : Bool). left rule p (stepBy rule (x .state) (x .waiting) last) i) b)
         go false w = refl
 
-    readied-fits : (c : ℕ) (x : FedSum Filling Waiting) → FitsWithin c (x .state .phase) (x .held) → FitsWithin c (readied rule x .state .phase) (readied rule x .held)
+    readied-fits : (c : ℕ) (x : FedSum Filling Waiting) → FitsWithin c (x .state .phase) (x .waiting) → FitsWithin c (readied rule x .state .phase) (readied rule x .waiting)
     unfolding readied
-    readied-fits c x g = go (x .held .whole) refl
+    readied-fits c x g = go (x .waiting .whole) refl
       where
-        go : (w : Bool) → x .held .whole ≡ w
-            → FitsWithin c (cond {A = FedSum Filling Waiting} w (record { state = stepBy rule (x .state) (x .held) true; held = noLine }) x .state .phase)
-            (cond {A = FedSum Filling Waiting} w (record { state = stepBy rule (x .state) (x .held) true; held = noLine }) x .held)
-        go true w = record { most = g .most + x .held .width; phase = step-small rule (g .most) (x .held) true (g .waiting) w (x .state) (g .phase); waiting = none-small; both = omega (arith, g .both) }
+        go : (w : Bool) → x .waiting .whole ≡ w
+            → FitsWithin c (cond {A = FedSum Filling Waiting} w (record { state = stepBy rule (x .state) (x .waiting) true; waiting = noLine }) x .state .phase)
+            (cond {A = FedSum Filling Waiting} w (record { state = stepBy rule (x .state) (x .waiting) true; waiting = noLine }) x .waiting)
+        go true w = record { most = g .most + x .waiting .width; phase = step-small rule (g .most) (x .waiting) true (g .waiting) w (x .state) (g .phase); waiting = none-small; both = omega (arith, g .both) }
         go false w = g
 
     pub ready-turn : (r : Fed) (u : List ℕ) → ReadyDone rule f t r u → TurnDone rule f p i t r i u
@@ -193,7 +193,7 @@ module _ (at rows : ℕ) (p : List ℕ) (i : ℕ) (h : i < length p) (t : List �
     opened : (s : Sequence) → SequenceAt p e s → (rule : Rule) (b : List ℕ) → left rule p (filling (Definition at) rows b) i ≡ left rule p (filling (Lines (openedAt at (e - i) said) Blank (at + (e - i))) rows b) e
     opened s o rule b =
         left-line rule p (filling (Definition at) rows b) i e l (omega (arith, long, behind)) (rw (← q) at (linesAt-cut p i h))
-        ∙ left-ready rule p (record { state = filling (Definition at) rows b; held = waitingOf l }) e ended (o .here)
+        ∙ left-ready rule p (record { state = filling (Definition at) rows b; waiting = waitingOf l }) e ended (o .here)
         ∙ ap (λ (st : Filling). left rule p st e) (ap (stepBy rule (filling (Definition at) rows b) (waitingOf l)) (o .starts) ∙ opens rule rows b)
       where
         ended : waitingOf l .whole ≡ true

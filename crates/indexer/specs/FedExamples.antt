@@ -22,7 +22,7 @@ record Answer : Type 0 where
   stop : Stop
 
 abbrev fed : ℕ → List String → FedSum State Sum
-fed all ps = feedSums (sums all) (record { state = start all; held = sumOf [] }) (map text ps)
+fed all ps = feedSums (sums all) (record { state = start all; waiting = sumOf [] }) (map text ps)
 
 abbrev answerOf : ℕ → List String → Answer
 answerOf all ps = record {

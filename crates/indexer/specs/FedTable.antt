@@ -19,16 +19,16 @@ use Rattle.indexer.specs.LineSums.{Sum, sumOf, sums, behind, pieces-foun
 -- what is kept between two calls: what it awaits, the sum of the line that waits, and how many rows are written
 pub record Kept : Type 0 where
   pub phase : Phase
-  pub held : Sum
+  pub waiting : Sum
   pub rows : ℕ
 
 abbrev pub begun : Kept
-begun = record { phase = wants-definition 0; held = sumOf []; rows = 0 }
+begun = record { phase = wants-definition 0; waiting = sumOf []; rows = 0 }
 
 module _ (all : ℕ) where
   -- the machine from there on, with some rows of its own
   abbrev pub fedWith : Kept → List Record → FedSum State Sum
-  fedWith g rs = record { state = state (g .phase) (all - g .rows) rs; held = g .held }
+  fedWith g rs = record { state = state (g .phase) (all - g .rows) rs; waiting = g .waiting }
 
   -- what a call with a piece leaves: its rows behind those before it
   pub record Eaten (f : Kept) (p before after : List ℕ) (g : Kept) : Type 0 where
@@ -57,7 +57,7 @@ module _ (all : ℕ) where
     rows : h .rows ≡ f .rows + length new
     table : v ≡ withRows t (f .rows) new
 
-  from-rows : (g : Kept) (rs : List Record) → fedWith g rs ≡ record { state = behind all rs (fedWith g [] .state); held = g .held }
+  from-rows : (g : Kept) (rs : List Record) → fedWith g rs ≡ record { state = behind all rs (fedWith g [] .state); waiting = g .waiting }
   from-rows g rs = rw (append-nil rs)
 
   twice : (t u v : List ℕ) (n m : ℕ) (xs ys : List Record) → u ≡ withRows t n xs → m ≡ n + length xs → v ≡ withRows u m ys → v ≡ withRows t n (xs ++ ys)
@@ -71,7 +71,7 @@ module _ (all : ℕ) where
         is =
             ap (λ (y : FedSum State Sum). feedSums (sums all) y ps) (e .is ∙ from-rows g (e .new))
             ∙ pieces-behind all (e .new) (fedWith g []) ps
-            ∙ ap (λ (y : FedSum State Sum). record { state = behind all (e .new) (y .state); held = y .held }) (r .is);
+            ∙ ap (λ (y : FedSum State Sum). record { state = behind all (e .new) (y .state); waiting = y .waiting }) (r .is);
         rows = omega (arith, e .rows, r .rows, length-append (e .new) (r .new));
         table = twice t u v (f .rows) (g .rows) (e .new) (r .new) (e .table) (e .rows) (r .table);
       }
@@ -93,10 +93,10 @@ module _ (all : ℕ) where
       r : Joined begun ps t u g
       r = calls-joined c
 
-      w : found (finishSum (sums all) (feedSums (sums all) (record { state = start all; held = sumOf [] }) ps))
+      w : found (finishSum (sums all) (feedSums (sums all) (record { state = start all; waiting = sumOf [] }) ps))
           ≡ record { rows = r .new ++ e .new; stop = stopOf (finishSum (sums all) (fedWith g []) .phase) }
       w =
-          ap (λ (n : ℕ). found (finishSum (sums all) (feedSums (sums all) (record { state = state (wants-definition 0) n []; held = sumOf [] }) ps))) (sym (sub-zero all))
+          ap (λ (n : ℕ). found (finishSum (sums all) (feedSums (sums all) (record { state = state (wants-definition 0) n []; waiting = sumOf [] }) ps))) (sym (sub-zero all))
           ∙ ap (λ (y : FedSum State Sum). found (finishSum (sums all) y)) (r .is ∙ from-rows g (r .new))
           ∙ ap found (end-behind all (r .new) (fedWith g []))
           ∙ ap (λ (rs : List Record). record { rows = r .new ++ rs; stop = stopOf (finishSum (sums all) (fedWith g []) .phase) }) (e .is)

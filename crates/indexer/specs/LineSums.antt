@@ -375,7 +375,7 @@ module _ (all : ℕ) where
       }
 
   -- R57 of docs/RULES.md, over definitions: a file that comes in any pieces, and then ends, gives the rows of the whole file, and why there are no more
-  pub pieces-found : (ps : List (List ℕ)) → found (finishSum sums (feedSums sums (record { state = start all; held = sumOf [] }) ps)) ≡ heldIn all all (fileAt (joined ps) 0)
+  pub pieces-found : (ps : List (List ℕ)) → found (finishSum sums (feedSums sums (record { state = start all; waiting = sumOf [] }) ps)) ≡ heldIn all all (fileAt (joined ps) 0)
   pieces-found ps = ap found (sums-whole sums (stepLine all) sums-law (start all) ps) ∙ by-lines all (joined ps)
 
   -- rows that were written before a piece stay in front of those that it gives
@@ -392,12 +392,12 @@ module _ (all : ℕ) where
       go (emits x z) (suc k) = ap (state (wants-definition z) k) (append-assoc rs (st .rows) (x ∷ []))
 
   pub piece-behind : (rs : List Record) (x : FedSum State Sum) (p : List ℕ)
-      → feedSum sums (record { state = behind rs (x .state); held = x .held }) p ≡ record { state = behind rs (feedSum sums x p .state); held = feedSum sums x p .held }
+      → feedSum sums (record { state = behind rs (x .state); waiting = x .waiting }) p ≡ record { state = behind rs (feedSum sums x p .state); waiting = feedSum sums x p .waiting }
   piece-behind rs x p = feed-moved sums (behind rs) (sum-behind rs) x p
 
   pub pieces-behind : (rs : List Record) (x : FedSum State Sum) (ps : List (List ℕ))
-      → feedSums sums (record { state = behind rs (x .state); held = x .held }) ps ≡ record { state = behind rs (feedSums sums x ps .state); held = feedSums sums x ps .held }
+      → feedSums sums (record { state = behind rs (x .state); waiting = x .waiting }) ps ≡ record { state = behind rs (feedSums sums x ps .state); waiting = feedSums sums x ps .waiting }
   pieces-behind rs x ps = feeds-moved sums (behind rs) (sum-behind rs) ps x
 
-  pub end-behind : (rs : List Record) (x : FedSum State Sum) → finishSum sums (record { state = behind rs (x .state); held = x .held }) ≡ behind rs (finishSum sums x)
+  pub end-behind : (rs : List Record) (x : FedSum State Sum) → finishSum sums (record { state = behind rs (x .state); waiting = x .waiting }) ≡ behind rs (finishSum sums x)
   end-behind rs x = finish-moved sums (behind rs) (sum-behind rs) x

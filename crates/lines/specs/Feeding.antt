@@ -1,5 +1,5 @@
 -- Judging the lines of a file while it arrives in pieces. Whatever judges a line, told whether its sequence ends behind it: a line is judged
--- once the next byte, or the end, has come, and till then it is held. However the file is cut, the end finds what the lines of the whole
+-- once the next byte, or the end, has come, and till then it waits. However the file is cut, the end finds what the lines of the whole
 -- file give: `fed-whole`. A piece of no bytes changes nothing: `feed-none`.
 use Prim.Native.Nat.{ℕ, _<_}
 use mathlib.Core.Path.{_≡_, refl, ap, sym, _∙_}
@@ -71,12 +71,12 @@ lines-ended (b ∷ s) l m ls h = go (ends 10 l) refl
         let z : _≡_ {A = ℕ} 0 1 = cc in
         absurd (omega arith)
 
--- ---- lines that are judged, and the one that is held
+-- ---- lines that are judged, and the one that waits
 
 -- what the lines judged so far gave, and the bytes of the line that waits for its next byte
 pub record Fed (S : Type 0) : Type 0 where
   pub state : S
-  pub held : List ℕ
+  pub waiting : List ℕ
 
 module _ {S : Type 0} (step : S → List ℕ → Bool → S) where
   -- the lines of a whole file, each judged and told whether its sequence ends behind it
@@ -86,20 +86,20 @@ module _ {S : Type 0} (step : S → List ℕ → Bool → S) where
 
   -- all but the last
   unfoldable pub judgeMost : S → List (List ℕ) → Fed S
-  judgeMost st [] = record { state = st; held = [] }
-  judgeMost st (l ∷ []) = record { state = st; held = l }
+  judgeMost st [] = record { state = st; waiting = [] }
+  judgeMost st (l ∷ []) = record { state = st; waiting = l }
   judgeMost st (l ∷ m ∷ ls) = judgeMost (step st l (begins m)) (m ∷ ls)
 
   -- a piece, and the end
   unfoldable pub feed : Fed S → List ℕ → Fed S
-  feed x p = judgeMost (x .state) (lines (x .held ++ p))
+  feed x p = judgeMost (x .state) (lines (x .waiting ++ p))
 
   abbrev ended : S → List ℕ → S
   ended st [] = st
   ended st (b ∷ l) = step st (b ∷ l) true
 
   unfoldable pub finish : Fed S → S
-  finish x = ended (x .state) (x .held)
+  finish x = ended (x .state) (x .waiting)
 
   -- ---- two pieces are one
 
@@ -132,7 +132,7 @@ module _ {S : Type 0} (step : S → List ℕ → Bool → S) where
       more h k = unfold glue judgeMost in k ∙ h
 
   pub feed-pieces : (x : Fed S) (a b : List ℕ) → feed (feed x a) b ≡ feed x (a ++ b)
-  feed-pieces x a b = unfold feed in sym (ap (judgeMost (x .state)) (ap lines (sym (append-assoc (x .held) a b)) ∙ lines-append (x .held ++ a) b) ∙ most-glue (lines (x .held ++ a)) (x .held ++ a) refl (x .state) b)
+  feed-pieces x a b = unfold feed in sym (ap (judgeMost (x .state)) (ap lines (sym (append-assoc (x .waiting) a b)) ∙ lines-append (x .waiting ++ a) b) ∙ most-glue (lines (x .waiting ++ a)) (x .waiting ++ a) refl (x .state) b)
 
   -- ---- the end
 
@@ -150,7 +150,7 @@ module _ {S : Type 0} (step : S → List ℕ → Bool → S) where
   -- ---- any pieces
 
   abbrev pub fresh : S → Fed S
-  fresh st = record { state = st; held = [] }
+  fresh st = record { state = st; waiting = [] }
 
   unfoldable pub feedAll : Fed S → List (List ℕ) → Fed S
   feedAll x [] = x
@@ -182,21 +182,21 @@ module _ {S : Type 0} (step : S → List ℕ → Bool → S) where
 
   -- ---- line by line, for a program that goes so
 
-  -- a line of a piece behind what is held: it shows where a whole line's sequence ends, and becomes the held one; an open line grows by it
+  -- a line of a piece behind what waits: it shows where a whole line's sequence ends, and waits in its place; an open line grows by it
   unfoldable pub absorb : Fed S → List ℕ → Fed S
-  absorb x l = cond (ends 10 (x .held)) (record { state = step (x .state) (x .held) (begins l); held = l }) (record { state = x .state; held = x .held ++ l })
+  absorb x l = cond (ends 10 (x .waiting)) (record { state = step (x .state) (x .waiting) (begins l); waiting = l }) (record { state = x .state; waiting = x .waiting ++ l })
 
   unfoldable pub absorbAll : Fed S → List (List ℕ) → Fed S
   absorbAll x [] = x
   absorbAll x (l ∷ ls) = absorbAll (absorb x l) ls
 
   -- from a first line on
-  most-absorbed : (ls : List (List ℕ)) (l s : List ℕ) → lines s ≡ l ∷ ls → (st : S) → judgeMost st (l ∷ ls) ≡ absorbAll (record { state = st; held = l }) ls
+  most-absorbed : (ls : List (List ℕ)) (l s : List ℕ) → lines s ≡ l ∷ ls → (st : S) → judgeMost st (l ∷ ls) ≡ absorbAll (record { state = st; waiting = l }) ls
   unfolding judgeMost absorbAll absorb
   most-absorbed [] l s e st = refl
   most-absorbed (m ∷ ls) l s e st = rw (lines-ended s l m ls e) (most-absorbed ls m (drop (length l) s) (lines-behind s l (m ∷ ls) e) (step st l (begins m)))
 
-  -- behind a held line that is whole, and behind one that is open
+  -- behind a waiting line that is whole, and behind one that is open
   glue-whole : (q : List ℕ) (ms : List (List ℕ)) → ends 10 q ≡ true → glue (line q) ms ≡ q ∷ ms
   unfolding glue ends
   glue-whole [] ms e = absurd (true≢false (sym e))
@@ -207,17 +207,17 @@ module _ {S : Type 0} (step : S → List ℕ → Bool → S) where
   glue-open [] l ms e = refl
   glue-open (b ∷ q) l ms e = rw e
 
-  glue-nothing : (st : S) (q : List ℕ) → judgeMost st (glue (line q) []) ≡ record { state = st; held = q }
+  glue-nothing : (st : S) (q : List ℕ) → judgeMost st (glue (line q) []) ≡ record { state = st; waiting = q }
   unfolding judgeMost glue
   glue-nothing st [] = refl
   glue-nothing st (b ∷ q) = go (ends 10 (b ∷ q))
     where
-      go : (t : Bool) → judgeMost st (cond t ((b ∷ q) ∷ []) ((b ∷ q) ∷ [])) ≡ record { state = st; held = b ∷ q }
+      go : (t : Bool) → judgeMost st (cond t ((b ∷ q) ∷ []) ((b ∷ q) ∷ [])) ≡ record { state = st; waiting = b ∷ q }
       go true = refl
       go false = refl
 
-  -- a piece is its lines, one after another, if what is held is one line or none
-  pub feed-lines : (st : S) (q p : List ℕ) → lines q ≡ line q → feed (record { state = st; held = q }) p ≡ absorbAll (record { state = st; held = q }) (lines p)
+  -- a piece is its lines, one after another, if what waits is one line or none
+  pub feed-lines : (st : S) (q p : List ℕ) → lines q ≡ line q → feed (record { state = st; waiting = q }) p ≡ absorbAll (record { state = st; waiting = q }) (lines p)
   unfolding feed absorbAll absorb
   feed-lines st q p one = go (lines p) refl
     where
@@ -225,34 +225,34 @@ module _ {S : Type 0} (step : S → List ℕ → Bool → S) where
       split ls e = lines-append q p ∙ ap (λ (k : List (List ℕ)). glue k (lines p)) one ∙ ap (glue (line q)) e
 
       turn : (l : List ℕ) (ls : List (List ℕ)) → lines p ≡ l ∷ ls → (t : Bool) → ends 10 q ≡ t
-          → judgeMost st (lines (q ++ p)) ≡ absorbAll (cond t (record { state = step st q (begins l); held = l }) (record { state = st; held = q ++ l })) ls
+          → judgeMost st (lines (q ++ p)) ≡ absorbAll (cond t (record { state = step st q (begins l); waiting = l }) (record { state = st; waiting = q ++ l })) ls
       turn l ls e true h = rw (split (l ∷ ls) e, glue-whole q (l ∷ ls) h) (unfold judgeMost in most-absorbed ls l p e (step st q (begins l)))
       turn l ls e false h = ap (judgeMost st) (split (l ∷ ls) e ∙ glue-open q l ls h) ∙ most-absorbed ls (q ++ l) (q ++ p) (split (l ∷ ls) e ∙ glue-open q l ls h) st
 
-      go : (ls : List (List ℕ)) → lines p ≡ ls → judgeMost st (lines (q ++ p)) ≡ absorbAll (record { state = st; held = q }) ls
+      go : (ls : List (List ℕ)) → lines p ≡ ls → judgeMost st (lines (q ++ p)) ≡ absorbAll (record { state = st; waiting = q }) ls
       go [] e = ap (judgeMost st) (split [] e) ∙ glue-nothing st q
       go (l ∷ ls) e = turn l ls e (ends 10 q) refl
 
   -- and so it stays
-  most-held : (ls : List (List ℕ)) (s : List ℕ) → lines s ≡ ls → (st : S) → lines (judgeMost st ls .held) ≡ line (judgeMost st ls .held)
+  most-waiting : (ls : List (List ℕ)) (s : List ℕ) → lines s ≡ ls → (st : S) → lines (judgeMost st ls .waiting) ≡ line (judgeMost st ls .waiting)
   unfolding judgeMost
-  most-held [] s e st = unfold lines in refl
-  most-held (l ∷ []) s e st = ap lines (sym (lines-one s l e)) ∙ e ∙ one l (lines-some s l [] e)
+  most-waiting [] s e st = unfold lines in refl
+  most-waiting (l ∷ []) s e st = ap lines (sym (lines-one s l e)) ∙ e ∙ one l (lines-some s l [] e)
     where
       one : (l : List ℕ) → 0 < length l → l ∷ [] ≡ line l
       one [] h = absurd (omega arith)
       one (b ∷ l) h = refl
-  most-held (l ∷ m ∷ ls) s e st = most-held (m ∷ ls) (drop (length l) s) (lines-behind s l (m ∷ ls) e) (step st l (begins m))
+  most-waiting (l ∷ m ∷ ls) s e st = most-waiting (m ∷ ls) (drop (length l) s) (lines-behind s l (m ∷ ls) e) (step st l (begins m))
 
-  pub held-line : (x : Fed S) (p : List ℕ) → lines (feed x p .held) ≡ line (feed x p .held)
+  pub waiting-line : (x : Fed S) (p : List ℕ) → lines (feed x p .waiting) ≡ line (feed x p .waiting)
   unfolding feed
-  held-line x p = most-held (lines (x .held ++ p)) (x .held ++ p) refl (x .state)
+  waiting-line x p = most-waiting (lines (x .waiting ++ p)) (x .waiting ++ p) refl (x .state)
 
--- ---- a sum in place of the bytes that are held
+-- ---- a sum in place of the bytes that wait
 
 pub record FedSum (S T : Type 0) : Type 0 where
   pub state : S
-  pub held : T
+  pub waiting : T
 
 -- a sum of a line's bytes; judging by it; whether the line's LF has come; whether there is no byte; the sum with further bytes
 pub record Summing (S T : Type 0) : Type 0 where
@@ -272,11 +272,11 @@ pub record Sums {S T : Type 0} (step : S → List ℕ → Bool → S) (m : Summi
 
 module _ {S T : Type 0} (m : Summing S T) where
   abbrev pub summed : Fed S → FedSum S T
-  summed x = record { state = x .state; held = m .sum (x .held) }
+  summed x = record { state = x .state; waiting = m .sum (x .waiting) }
 
   -- a line of a piece; a piece; any pieces; the end
   unfoldable pub absorbSum : FedSum S T → List ℕ → FedSum S T
-  absorbSum x l = cond (m .whole (x .held)) (record { state = m .judge (x .state) (x .held) (begins l); held = m .sum l }) (record { state = x .state; held = m .grow (x .held) l })
+  absorbSum x l = cond (m .whole (x .waiting)) (record { state = m .judge (x .state) (x .waiting) (begins l); waiting = m .sum l }) (record { state = x .state; waiting = m .grow (x .waiting) l })
 
   unfoldable pub absorbSums : FedSum S T → List (List ℕ) → FedSum S T
   absorbSums x [] = x
@@ -290,18 +290,18 @@ module _ {S T : Type 0} (m : Summing S T) where
   feedSums x (p ∷ ps) = feedSums (feedSum x p) ps
 
   unfoldable pub finishSum : FedSum S T → S
-  finishSum x = cond (m .empty (x .held)) (x .state) (m .judge (x .state) (x .held) true)
+  finishSum x = cond (m .empty (x .waiting)) (x .state) (m .judge (x .state) (x .waiting) true)
 
   module _ (step : S → List ℕ → Bool → S) (law : Sums step m) where
     absorb-summed : (x : Fed S) (l : List ℕ) → 0 < length l → summed (absorb step x l) ≡ absorbSum (summed x) l
     unfolding absorb absorbSum
-    absorb-summed x l h = rw (law .ended (x .held)) (go (ends 10 (x .held)) refl)
+    absorb-summed x l h = rw (law .ended (x .waiting)) (go (ends 10 (x .waiting)) refl)
       where
-        go : (t : Bool) → ends 10 (x .held) ≡ t
-            → summed (cond t (record { state = step (x .state) (x .held) (begins l); held = l }) (record { state = x .state; held = x .held ++ l }))
-            ≡ cond t (record { state = m .judge (x .state) (m .sum (x .held)) (begins l); held = m .sum l }) (record { state = x .state; held = m .grow (m .sum (x .held)) l })
-        go true e = ap (λ (st : S). record { state = st; held = m .sum l }) (law .judges (x .state) (x .held) (begins l))
-        go false e = ap (λ (t : T). record { state = x .state; held = t }) (law .grows (x .held) l e h)
+        go : (t : Bool) → ends 10 (x .waiting) ≡ t
+            → summed (cond t (record { state = step (x .state) (x .waiting) (begins l); waiting = l }) (record { state = x .state; waiting = x .waiting ++ l }))
+            ≡ cond t (record { state = m .judge (x .state) (m .sum (x .waiting)) (begins l); waiting = m .sum l }) (record { state = x .state; waiting = m .grow (m .sum (x .waiting)) l })
+        go true e = ap (λ (st : S). record { state = st; waiting = m .sum l }) (law .judges (x .state) (x .waiting) (begins l))
+        go false e = ap (λ (t : T). record { state = x .state; waiting = t }) (law .grows (x .waiting) l e h)
 
     lines-summed : (ls : List (List ℕ)) (s : List ℕ) → lines s ≡ ls → (x : Fed S) → summed (absorbAll step x ls) ≡ absorbSums (summed x) ls
     unfolding absorbAll absorbSums
@@ -311,41 +311,41 @@ module _ {S T : Type 0} (m : Summing S T) where
         ∙ ap (λ (y : FedSum S T). absorbSums y ls) (absorb-summed x l (lines-some s l ls e))
 
     -- a piece, by its lines and sums alone
-    pub feed-summed : (x : Fed S) (p : List ℕ) → lines (x .held) ≡ line (x .held) → summed (feed step x p) ≡ feedSum (summed x) p
+    pub feed-summed : (x : Fed S) (p : List ℕ) → lines (x .waiting) ≡ line (x .waiting) → summed (feed step x p) ≡ feedSum (summed x) p
     unfolding feedSum
-    feed-summed x p one = ap summed (feed-lines step (x .state) (x .held) p one) ∙ lines-summed (lines p) p refl x
+    feed-summed x p one = ap summed (feed-lines step (x .state) (x .waiting) p one) ∙ lines-summed (lines p) p refl x
 
-    all-summed : (ps : List (List ℕ)) (x : Fed S) → lines (x .held) ≡ line (x .held) → summed (feedAll step x ps) ≡ feedSums (summed x) ps
+    all-summed : (ps : List (List ℕ)) (x : Fed S) → lines (x .waiting) ≡ line (x .waiting) → summed (feedAll step x ps) ≡ feedSums (summed x) ps
     unfolding feedAll feedSums
     all-summed [] x one = refl
-    all-summed (p ∷ ps) x one = all-summed ps (feed step x p) (held-line step x p) ∙ ap (λ (y : FedSum S T). feedSums y ps) (feed-summed x p one)
+    all-summed (p ∷ ps) x one = all-summed ps (feed step x p) (waiting-line step x p) ∙ ap (λ (y : FedSum S T). feedSums y ps) (feed-summed x p one)
 
     finish-summed : (x : Fed S) → finish step x ≡ finishSum (summed x)
     unfolding finish finishSum
-    finish-summed x = go (x .held)
+    finish-summed x = go (x .waiting)
       where
         go : (q : List ℕ) → ended step (x .state) q ≡ cond (m .empty (m .sum q)) (x .state) (m .judge (x .state) (m .sum q) true)
         go [] = rw (law .none)
         go (b ∷ q) = rw (law .some b q) (law .judges (x .state) (b ∷ q) true)
 
     -- any pieces and the end, by sums: what the lines of the whole file give
-    pub sums-whole : (st : S) (ps : List (List ℕ)) → finishSum (feedSums (record { state = st; held = m .sum [] }) ps) ≡ judgeAll step st (lines (joined ps))
+    pub sums-whole : (st : S) (ps : List (List ℕ)) → finishSum (feedSums (record { state = st; waiting = m .sum [] }) ps) ≡ judgeAll step st (lines (joined ps))
     sums-whole st ps = sym (ap finishSum (all-summed ps (fresh step st) lines-none)) ∙ sym (finish-summed (feedAll step (fresh step st) ps)) ∙ fed-whole step st ps
 
 -- ---- what does not touch the judging, as what has been written already, may be put in before or after
 
 module _ {S T : Type 0} (m : Summing S T) (h : S → S) (same : (st : S) (t : T) (last : Bool) → m .judge (h st) t last ≡ h (m .judge st t last)) where
   abbrev pub moved : FedSum S T → FedSum S T
-  moved x = record { state = h (x .state); held = x .held }
+  moved x = record { state = h (x .state); waiting = x .waiting }
 
   absorb-moved : (ls : List (List ℕ)) (x : FedSum S T) → absorbSums m (moved x) ls ≡ moved (absorbSums m x ls)
   unfolding absorbSums absorbSum
   absorb-moved [] x = refl
-  absorb-moved (l ∷ ls) x = ap (λ (y : FedSum S T). absorbSums m y ls) (go (m .whole (x .held))) ∙ absorb-moved ls (absorbSum m x l)
+  absorb-moved (l ∷ ls) x = ap (λ (y : FedSum S T). absorbSums m y ls) (go (m .whole (x .waiting))) ∙ absorb-moved ls (absorbSum m x l)
     where
-      go : (t : Bool) → cond t (record { state = m .judge (h (x .state)) (x .held) (begins l); held = m .sum l }) (record { state = h (x .state); held = m .grow (x .held) l })
-          ≡ moved (cond t (record { state = m .judge (x .state) (x .held) (begins l); held = m .sum l }) (record { state = x .state; held = m .grow (x .held) l }))
-      go true = ap (λ (st : S). record { state = st; held = m .sum l }) (same (x .state) (x .held) (begins l))
+      go : (t : Bool) → cond t (record { state = m .judge (h (x .state)) (x .waiting) (begins l); waiting = m .sum l }) (record { state = h (x .state); waiting = m .grow (x .waiting) l })
+          ≡ moved (cond t (record { state = m .judge (x .state) (x .waiting) (begins l); waiting = m .sum l }) (record { state = x .state; waiting = m .grow (x .waiting) l }))
+      go true = ap (λ (st : S). record { state = st; waiting = m .sum l }) (same (x .state) (x .waiting) (begins l))
       go false = refl
 
   pub feed-moved : (x : FedSum S T) (p : List ℕ) → feedSum m (moved x) p ≡ moved (feedSum m x p)
@@ -359,8 +359,8 @@ module _ {S T : Type 0} (m : Summing S T) (h : S → S) (same : (st : S) (t : T)
 
   pub finish-moved : (x : FedSum S T) → finishSum m (moved x) ≡ h (finishSum m x)
   unfolding finishSum
-  finish-moved x = go (m .empty (x .held))
+  finish-moved x = go (m .empty (x .waiting))
     where
-      go : (t : Bool) → cond t (h (x .state)) (m .judge (h (x .state)) (x .held) true) ≡ h (cond t (x .state) (m .judge (x .state) (x .held) true))
+      go : (t : Bool) → cond t (h (x .state)) (m .judge (h (x .state)) (x .waiting) true) ≡ h (cond t (x .state) (m .judge (x .state) (x .waiting) true))
       go true = refl
-      go false = same (x .state) (x .held) true
+      go false = same (x .state) (x .waiting) true

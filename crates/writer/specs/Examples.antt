@@ -12,7 +12,7 @@ use Rattle.definition.specs.Definition.{isSpace}
 use Rattle.output.specs.declared.Written.{Written}
 use Rattle.output.specs.Outcome.{Outcome, leaves, refuses, pours}
 use Rattle.output.specs.declared.Written.the-variants.{Bytes}
-use Rattle.writer.specs.Text.{describedText, definitionText, rowsUpTo, rowsText, sequenceText, recordText, anyOf, nameUnfit, descriptionUnfit, barred, tooLong, recordWritten}
+use Rattle.writer.specs.Text.{describedText, definitionText, contentsUpTo, linesText, sequenceText, recordText, anyOf, nameUnfit, descriptionUnfit, barred, tooLong, recordWritten}
 
 -- a record without a description, and one with one, put in an output of some text
 abbrev plain : String → String → ℕ → String → Outcome Written
@@ -56,5 +56,5 @@ answers =
     ∷ []
 
 pub examples : asked ≡ answers
-unfolding asked answers recordWritten tooLong overLimit nameUnfit descriptionUnfit barred anyOf isSpace pours recordText definitionText describedText sequenceText rowsText rowsUpTo
+unfolding asked answers recordWritten tooLong overLimit nameUnfit descriptionUnfit barred anyOf isSpace pours recordText definitionText describedText sequenceText linesText contentsUpTo
 examples = refl

@@ -18,7 +18,7 @@ use Rattle.output.specs.Laws.{pours-short, pours-fits}
 use Rattle.output.specs.declared.Written.the-variants.{Bytes}
 use Rattle.refusal.specs.Numbers.{overLimit}
 use Rattle.refusal.specs.declared.Refusal.the-variants.{NoRoom}
-use Rattle.writer.specs.Text.{describedText, definitionText, rowsUpTo, rowsOf, lineOf, rowsText, sequenceText, recordText, tooLong, anyOf, Put}
+use Rattle.writer.specs.Text.{describedText, definitionText, contentsUpTo, contentsOf, lineOf, linesText, sequenceText, recordText, tooLong, anyOf, Put}
 
 -- ---- a test of some bytes
 
@@ -74,36 +74,36 @@ one-of p x = or-false (p x)
 pub any-next : (p : ℕ → Bool) (s : List ℕ) (i : ℕ) → i < length s → anyOf p (take (i + 1) s) ≡ (anyOf p (take i s) || p (getD s i 0))
 any-next p s i h = rw (add-one i, take-suc s i 0 h, any-append p (take i s) (getD s i 0 ∷ []), one-of p (getD s i 0))
 
--- ---- rows
+-- ---- contents
 
-rows-enough : (w : ℕ) → 0 < w → (n m : ℕ) (s : List ℕ) → length s ≤ n → length s ≤ m → rowsUpTo n w s ≡ rowsUpTo m w s
-unfolding rowsUpTo
-rows-enough w z zero zero s h k = refl
-rows-enough w z zero (suc m) [] h k = refl
-rows-enough w z zero (suc m) (b ∷ s) h k = absurd (omega arith)
-rows-enough w z (suc n) zero [] h k = refl
-rows-enough w z (suc n) zero (b ∷ s) h k = absurd (omega arith)
-rows-enough w z (suc n) (suc m) [] h k = refl
-rows-enough w z (suc n) (suc m) (b ∷ s) h k =
+contents-enough : (w : ℕ) → 0 < w → (n m : ℕ) (s : List ℕ) → length s ≤ n → length s ≤ m → contentsUpTo n w s ≡ contentsUpTo m w s
+unfolding contentsUpTo
+contents-enough w z zero zero s h k = refl
+contents-enough w z zero (suc m) [] h k = refl
+contents-enough w z zero (suc m) (b ∷ s) h k = absurd (omega arith)
+contents-enough w z (suc n) zero [] h k = refl
+contents-enough w z (suc n) zero (b ∷ s) h k = absurd (omega arith)
+contents-enough w z (suc n) (suc m) [] h k = refl
+contents-enough w z (suc n) (suc m) (b ∷ s) h k =
     ap (λ (rs : List (List ℕ)). take w (b ∷ s) ∷ rs)
-    (rows-enough w z n m (drop w (b ∷ s)) (simp length-drop (omega arith)) (simp length-drop (omega arith)))
+    (contents-enough w z n m (drop w (b ∷ s)) (simp length-drop (omega arith)) (simp length-drop (omega arith)))
 
-pub rows-step : (w : ℕ) → 0 < w → (s : List ℕ) → 0 < length s → rowsOf w s ≡ take w s ∷ rowsOf w (drop w s)
-unfolding rowsUpTo
-rows-step w z [] h = absurd (omega arith)
-rows-step w z (b ∷ s) h =
+pub contents-step : (w : ℕ) → 0 < w → (s : List ℕ) → 0 < length s → contentsOf w s ≡ take w s ∷ contentsOf w (drop w s)
+unfolding contentsUpTo
+contents-step w z [] h = absurd (omega arith)
+contents-step w z (b ∷ s) h =
     ap (λ (rs : List (List ℕ)). take w (b ∷ s) ∷ rs)
-    (rows-enough w z (length s) (length (drop w (b ∷ s))) (drop w (b ∷ s)) (simp length-drop (omega arith)) (omega arith))
+    (contents-enough w z (length s) (length (drop w (b ∷ s))) (drop w (b ∷ s)) (simp length-drop (omega arith)) (omega arith))
 
 pub text-none : (w : ℕ) (s : List ℕ) → length s ≡ 0 → sequenceText w s ≡ []
-unfolding sequenceText rowsText rowsUpTo
+unfolding sequenceText linesText contentsUpTo
 text-none w [] h = refl
 text-none w (b ∷ s) h = absurd (omega arith)
 
 -- the first line, and those behind it
 pub text-step : (w : ℕ) → 0 < w → (s : List ℕ) → 0 < length s → sequenceText w s ≡ lineOf (take w s) ++ sequenceText w (drop w s)
-unfolding sequenceText rowsText
-text-step w z s h = ap rowsText (rows-step w z s h)
+unfolding sequenceText linesText
+text-step w z s h = ap linesText (contents-step w z s h)
 
 -- ---- how long the texts are
 

@@ -1,6 +1,6 @@
 pub mod Text
 pub mod Laws
-pub mod Rows
+pub mod Contents
 pub mod Reads
 pub mod Answers
 pub mod Examples

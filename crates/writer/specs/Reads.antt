@@ -21,8 +21,8 @@ use Rattle.output.specs.Outcome.{leaves, refuses, pours}
 use Rattle.output.specs.Laws.{no-bytes, poured-known}
 use Rattle.output.specs.declared.Written.the-variants.{Bytes}
 use Rattle.refusal.specs.declared.Refusal.the-variants.{TooLong, ZeroWidth, NameUnfit, DescriptionUnfit, BaseUnfit, NoRoom}
-use Rattle.writer.specs.Text.{describedText, definitionText, rowsOf, lineOf, rowsText, sequenceText, recordText, anyOf, nameUnfit, descriptionUnfit, barred, tooLong, recordWritten}
-use Rattle.writer.specs.Rows.{either-false, none-both, none-at, none-less, lines-line, good-rows, rows-joined, good-lines, good-seq, good-bases}
+use Rattle.writer.specs.Text.{describedText, definitionText, contentsOf, lineOf, linesText, sequenceText, recordText, anyOf, nameUnfit, descriptionUnfit, barred, tooLong, recordWritten}
+use Rattle.writer.specs.Contents.{either-false, none-both, none-at, none-less, lines-line, good-contents, contents-joined, good-lines, good-seq, good-bases}
 
 -- what a call of writing does not refuse, but for room and the limit
 pub record Writable (name : List ℕ) (t : Bool) (d bases : List ℕ) (w : ℕ) : Type 0 where
@@ -186,21 +186,21 @@ module _ (name : List ℕ) (t : Bool) (d bases : List ℕ) (w : ℕ) (x : Writab
   its-description e = good-description d (rw e at (x .told))
 
   -- the lines of a record with whatever follows
-  pub record-lines : (rest : List ℕ) → lines (recordText name t d bases w ++ rest) ≡ definitionText name t d ∷ (map lineOf (rowsOf w bases) ++ lines rest)
+  pub record-lines : (rest : List ℕ) → lines (recordText name t d bases w ++ rest) ≡ definitionText name t d ∷ (map lineOf (contentsOf w bases) ++ lines rest)
   unfolding recordText sequenceText
   record-lines rest =
-      let rs : List (List ℕ) = rowsOf w bases in
-      rw (append-assoc (definitionText name t d) (rowsText rs) rest, definition-line name t d)
-      (lines-line (headOf name t d) (rowsText rs ++ rest) (head-clear name t d its-name its-description)
-      ∙ ap (λ (ls : List (List ℕ)). lineOf (headOf name t d) ∷ ls) (good-lines rs (good-rows w (x .wide) (length bases) bases (x .based)) rest))
+      let rs : List (List ℕ) = contentsOf w bases in
+      rw (append-assoc (definitionText name t d) (linesText rs) rest, definition-line name t d)
+      (lines-line (headOf name t d) (linesText rs ++ rest) (head-clear name t d its-name its-description)
+      ∙ ap (λ (ls : List (List ℕ)). lineOf (headOf name t d) ∷ ls) (good-lines rs (good-contents w (x .wide) (length bases) bases (x .based)) rest))
 
   -- the bases of its sequence lines
-  pub record-bases : allBases (map lineOf (rowsOf w bases)) ≡ bases
-  record-bases = good-bases (rowsOf w bases) (good-rows w (x .wide) (length bases) bases (x .based)) ∙ rows-joined w (x .wide) (length bases) bases (omega arith)
+  pub record-bases : allBases (map lineOf (contentsOf w bases)) ≡ bases
+  record-bases = good-bases (contentsOf w bases) (good-contents w (x .wide) (length bases) bases (x .based)) ∙ contents-joined w (x .wide) (length bases) bases (omega arith)
 
-pub text-behind : (name : List ℕ) (t : Bool) (d bases : List ℕ) (w : ℕ) → drop (length (definitionText name t d)) (recordText name t d bases w) ≡ rowsText (rowsOf w bases)
+pub text-behind : (name : List ℕ) (t : Bool) (d bases : List ℕ) (w : ℕ) → drop (length (definitionText name t d)) (recordText name t d bases w) ≡ linesText (contentsOf w bases)
 unfolding recordText sequenceText
-text-behind name t d bases w = drop-at (definitionText name t d) (rowsText (rowsOf w bases)) (length (definitionText name t d)) refl
+text-behind name t d bases w = drop-at (definitionText name t d) (linesText (contentsOf w bases)) (length (definitionText name t d)) refl
 
 described-bytes : (name d : List ℕ) → take (length d) (drop (length name + 2) (definitionText name true d)) ≡ d
 unfolding definitionText describedText
@@ -224,7 +224,7 @@ no-more = refl
 
 -- what a written record is read as
 pub record ReadsBack (name : List ℕ) (t : Bool) (d bases : List ℕ) (w : ℕ) : Type 0 where
-  pub first : lines (recordText name t d bases w) ≡ definitionText name t d ∷ map lineOf (rowsOf w bases)
+  pub first : lines (recordText name t d bases w) ≡ definitionText name t d ∷ map lineOf (contentsOf w bases)
   pub says : definitionSays (definitionText name t d) ≡ Named (definitionOf name t d)
   pub name-bytes : take (length name) (drop 1 (definitionText name t d)) ≡ name
   pub description-bytes : t ≡ true → take (length d) (drop (length name + 2) (definitionText name t d)) ≡ d
@@ -234,7 +234,7 @@ pub written-reads : (name : List ℕ) (t : Bool) (d bases : List ℕ) (w : ℕ) 
 unfolding seqAt
 written-reads name t d bases w x =
     record {
-      first = rw (append-nil (recordText name t d bases w), append-nil (map lineOf (rowsOf w bases))) at (rw lines-none at (record-lines name t d bases w x []));
+      first = rw (append-nil (recordText name t d bases w), append-nil (map lineOf (contentsOf w bases))) at (rw lines-none at (record-lines name t d bases w x []));
       says = line-says name t d (its-name name t d bases w x) (its-description name t d bases w x);
       name-bytes = named-bytes name t d;
       description-bytes = λ e. rw e (described-bytes name d);
@@ -243,10 +243,10 @@ written-reads name t d bases w x =
   where
     rest : allBases (seqOf (lines (drop (length (definitionText name t d)) (recordText name t d bases w)))) ≡ bases
     rest =
-        let rs : List (List ℕ) = rowsOf w bases in
-        let g = good-rows w (x .wide) (length bases) bases (x .based) in
-        let a : drop (length (definitionText name t d)) (recordText name t d bases w) ≡ rowsText rs ++ [] = text-behind name t d bases w ∙ sym (append-nil (rowsText rs)) in
-        let b : seqOf (lines (rowsText rs ++ [])) ≡ map lineOf rs = ap seqOf (good-lines rs g []) ∙ good-seq rs g (lines []) ∙ ap (λ (ls : List (List ℕ)). map lineOf rs ++ ls) no-more ∙ append-nil (map lineOf rs) in
+        let rs : List (List ℕ) = contentsOf w bases in
+        let g = good-contents w (x .wide) (length bases) bases (x .based) in
+        let a : drop (length (definitionText name t d)) (recordText name t d bases w) ≡ linesText rs ++ [] = text-behind name t d bases w ∙ sym (append-nil (linesText rs)) in
+        let b : seqOf (lines (linesText rs ++ [])) ≡ map lineOf rs = ap seqOf (good-lines rs g []) ∙ good-seq rs g (lines []) ∙ ap (λ (ls : List (List ℕ)). map lineOf rs ++ ls) no-more ∙ append-nil (map lineOf rs) in
         ap (λ (l : List ℕ). allBases (seqOf (lines l))) a ∙ ap allBases b ∙ record-bases name t d bases w x
 
 -- ---- the call

@@ -23,28 +23,28 @@ describedText true d = 32 ∷ d
 unfoldable pub definitionText : List ℕ → Bool → List ℕ → List ℕ
 definitionText name described d = 62 ∷ (name ++ (describedText described d ++ (10 ∷ [])))
 
--- bases cut into rows of a width; the last has what is left. At most n rows are made
-unfoldable pub rowsUpTo : ℕ → ℕ → List ℕ → List (List ℕ)
-rowsUpTo zero w s = []
-rowsUpTo (suc n) w [] = []
-rowsUpTo (suc n) w (b ∷ s) = take w (b ∷ s) ∷ rowsUpTo n w (drop w (b ∷ s))
+-- bases cut into the contents of lines of a width; the last has what is left. At most n are made
+unfoldable pub contentsUpTo : ℕ → ℕ → List ℕ → List (List ℕ)
+contentsUpTo zero w s = []
+contentsUpTo (suc n) w [] = []
+contentsUpTo (suc n) w (b ∷ s) = take w (b ∷ s) ∷ contentsUpTo n w (drop w (b ∷ s))
 
--- all of them: there are no more rows than bases
-abbrev pub rowsOf : ℕ → List ℕ → List (List ℕ)
-rowsOf w s = rowsUpTo (length s) w s
+-- all of them: there are no more contents than bases
+abbrev pub contentsOf : ℕ → List ℕ → List (List ℕ)
+contentsOf w s = contentsUpTo (length s) w s
 
--- a row as a line
+-- a content as a line
 abbrev pub lineOf : List ℕ → List ℕ
 lineOf r = r ++ (10 ∷ [])
 
--- some rows, each with LF
-unfoldable pub rowsText : List (List ℕ) → List ℕ
-rowsText [] = []
-rowsText (r ∷ rs) = lineOf r ++ rowsText rs
+-- some contents, each with LF
+unfoldable pub linesText : List (List ℕ) → List ℕ
+linesText [] = []
+linesText (r ∷ rs) = lineOf r ++ linesText rs
 
 -- bases in lines of a width, each with LF
 unfoldable pub sequenceText : ℕ → List ℕ → List ℕ
-sequenceText w s = rowsText (rowsOf w s)
+sequenceText w s = linesText (contentsOf w s)
 
 -- a record
 unfoldable pub recordText : List ℕ → Bool → List ℕ → List ℕ → ℕ → List ℕ

@@ -14,10 +14,10 @@ use Rattle.record.specs.declared.Record.{Record}
 use Rattle.indexer.specs.Rule.{sequenceBy, recordBy}
 use Rattle.indexer.specs.Index.{recordAt}
 use Rattle.indexer.specs.declared.Indexed.the-variants as indexed
-use Rattle.writer.specs.Text.{definitionText, rowsOf, rowsText, sequenceText, recordText}
-use Rattle.writer.specs.Rows.{good-rows, good-seq}
+use Rattle.writer.specs.Text.{definitionText, contentsOf, linesText, sequenceText, recordText}
+use Rattle.writer.specs.Contents.{good-contents, good-seq}
 use Rattle.writer.specs.Reads.{Writable, definitionOf, line-says, its-name, its-description, record-lines, no-more}
-use Rattle.written.specs.RowLines.{linesOf, widths-text, bases-count, first-is, judged-good}
+use Rattle.written.specs.ContentLines.{linesOf, widths-text, bases-count, first-is, judged-good}
 
 -- the row of a record that is written at an offset
 unfoldable pub rowWorked : ℕ → List ℕ → Bool → List ℕ → List ℕ → ℕ → Record
@@ -33,9 +33,9 @@ rowWorked at name t d bases w =
       «description_length» = cond t (length d) 0;
     }
 
-pub text-long : (name : List ℕ) (t : Bool) (d bases : List ℕ) (w : ℕ) → length (recordText name t d bases w) ≡ length (definitionText name t d) + length (rowsText (rowsOf w bases))
+pub text-long : (name : List ℕ) (t : Bool) (d bases : List ℕ) (w : ℕ) → length (recordText name t d bases w) ≡ length (definitionText name t d) + length (linesText (contentsOf w bases))
 unfolding recordText sequenceText
-text-long name t d bases w = length-append (definitionText name t d) (rowsText (rowsOf w bases))
+text-long name t d bases w = length-append (definitionText name t d) (linesText (contentsOf w bases))
 
 pub name-said : (name : List ℕ) (t : Bool) (d : List ℕ) → definitionOf name t d .name ≡ record { start = 1; length = length name }
 name-said name true d = refl
@@ -61,10 +61,10 @@ module _ (name : List ℕ) (t : Bool) (d bases : List ℕ) (w : ℕ) (x : Writab
       → recordAt s at ≡ record { answer = indexed.Row (rowWorked at name t d bases w); next = record { at = at + length (recordText name t d bases w) } }
   unfolding recordBy sequenceBy rowWorked
   indexed-at s at rest e n =
-      let ls : List (List ℕ) = linesOf (rowsOf w bases) in
-      let seq : seqOf (ls ++ lines rest) ≡ ls = good-seq (rowsOf w bases) (good-rows w (x .wide) (length bases) bases (x .based)) (lines rest) ∙ ap (λ (k : List (List ℕ)). ls ++ k) n ∙ append-nil ls in
+      let ls : List (List ℕ) = linesOf (contentsOf w bases) in
+      let seq : seqOf (ls ++ lines rest) ≡ ls = good-seq (contentsOf w bases) (good-contents w (x .wide) (length bases) bases (x .based)) (lines rest) ∙ ap (λ (k : List (List ℕ)). ls ++ k) n ∙ append-nil ls in
       let said = description-said name t d at (λ q. its-description name t d bases w x q .some) in
-      let behind : at + length (recordText name t d bases w) ≡ at + length (definitionText name t d) + sumWidths ls = omega (arith, text-long name t d bases w, widths-text (rowsOf w bases)) in
+      let behind : at + length (recordText name t d bases w) ≡ at + length (definitionText name t d) + sumWidths ls = omega (arith, text-long name t d bases w, widths-text (contentsOf w bases)) in
       rw (e, record-lines name t d bases w x rest, line-says name t d (its-name name t d bases w x) (its-description name t d bases w x), seq, judged-good w (x .wide) bases some (x .based) (at + length (definitionText name t d)), behind, bases-count w (x .wide) bases (x .based), first-is w (x .wide) bases some (x .based), name-said name t d, said .0, said .1)
 
   -- the record by itself: one row, then the end

@@ -1,4 +1,4 @@
-pub mod RowLines
+pub mod ContentLines
 pub mod Indexed
 pub mod Scans
 pub mod Files

@@ -11,10 +11,10 @@ use Rattle.sequence.specs.Scan.{scanAll}
 use Rattle.sequence.specs.Clean.{has, Clean}
 use Rattle.sequence.specs.Agree.{rules-agree}
 use Rattle.columns.specs.Bytes.{is}
-use Rattle.writer.specs.Text.{definitionText, rowsOf, lineOf, rowsText, recordText, anyOf, barred}
-use Rattle.writer.specs.Rows.{none-both, none-less, base-no-cr, base-no-prefix, bases-line, Good, row, good-rows, good-lines, good-seq}
+use Rattle.writer.specs.Text.{definitionText, contentsOf, lineOf, linesText, recordText, anyOf, barred}
+use Rattle.writer.specs.Contents.{none-both, none-less, base-no-cr, base-no-prefix, bases-line, Good, a-content, good-contents, good-lines, good-seq}
 use Rattle.writer.specs.Reads.{Writable, text-behind, record-bases, no-more}
-use Rattle.written.specs.RowLines.{linesOf, widths-text}
+use Rattle.written.specs.ContentLines.{linesOf, widths-text}
 use Rattle.written.specs.Indexed.{text-long}
 
 has-any : (c : ℕ) (s : List ℕ) → anyOf (is c) s ≡ false → has c s ≡ false
@@ -30,26 +30,26 @@ lf-alone : anyOf (is 62) (10 ∷ []) ≡ false
 unfolding anyOf
 lf-alone = refl
 
--- the lines of rows hold no '>' and no CR
-clean-rows : (rs : List (List ℕ)) → Good rs → Clean (linesOf rs)
+-- the lines of contents hold no '>' and no CR
+clean-contents : (rs : List (List ℕ)) → Good rs → Clean (linesOf rs)
 unfolding Clean
-clean-rows [] g = tt
-clean-rows (r ∷ rs) (row h e g) = (
+clean-contents [] g = tt
+clean-contents (r ∷ rs) (a-content h e g) = (
   record {
     no-prefix = has-any 62 (lineOf r) (none-both (is 62) r (10 ∷ []) (none-less barred (is 62) base-no-prefix r e) lf-alone);
     no-return = rw (bases-line r e) (has-any 13 r (none-less barred (is 13) base-no-cr r e));
   },
-  clean-rows rs g,
+  clean-contents rs g,
 )
 
 module _ (name : List ℕ) (t : Bool) (d bases : List ℕ) (w : ℕ) (x : Writable name t d bases w) where
-  -- the sequence lines of a record are its rows'
-  pub its-lines : seqAt (recordText name t d bases w) (length (definitionText name t d)) ≡ linesOf (rowsOf w bases)
+  -- the sequence lines of a record are those of its contents
+  pub its-lines : seqAt (recordText name t d bases w) (length (definitionText name t d)) ≡ linesOf (contentsOf w bases)
   unfolding seqAt
   its-lines =
-      let rs : List (List ℕ) = rowsOf w bases in
-      let g = good-rows w (x .wide) (length bases) bases (x .based) in
-      ap (λ (l : List ℕ). seqOf (lines l)) (text-behind name t d bases w ∙ sym (append-nil (rowsText rs)))
+      let rs : List (List ℕ) = contentsOf w bases in
+      let g = good-contents w (x .wide) (length bases) bases (x .based) in
+      ap (λ (l : List ℕ). seqOf (lines l)) (text-behind name t d bases w ∙ sym (append-nil (linesText rs)))
       ∙ ap seqOf (good-lines rs g [])
       ∙ good-seq rs g (lines [])
       ∙ ap (λ (ls : List (List ℕ)). linesOf rs ++ ls) no-more
@@ -57,6 +57,6 @@ module _ (name : List ℕ) (t : Bool) (d bases : List ℕ) (w : ℕ) (x : Writab
 
   pub written-scans : scanAll (recordText name t d bases w) (length (definitionText name t d)) ≡ record { bases = bases; place = length (recordText name t d bases w) }
   written-scans =
-      let end : length (definitionText name t d) + sumWidths (linesOf (rowsOf w bases)) ≡ length (recordText name t d bases w) = omega (arith, text-long name t d bases w, widths-text (rowsOf w bases)) in
-      rules-agree (recordText name t d bases w) (length (definitionText name t d)) (rw its-lines (clean-rows (rowsOf w bases) (good-rows w (x .wide) (length bases) bases (x .based))))
+      let end : length (definitionText name t d) + sumWidths (linesOf (contentsOf w bases)) ≡ length (recordText name t d bases w) = omega (arith, text-long name t d bases w, widths-text (contentsOf w bases)) in
+      rules-agree (recordText name t d bases w) (length (definitionText name t d)) (rw its-lines (clean-contents (contentsOf w bases) (good-contents w (x .wide) (length bases) bases (x .based))))
       ∙ rw (its-lines, record-bases name t d bases w x, end)

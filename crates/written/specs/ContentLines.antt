@@ -14,41 +14,41 @@ use Rattle.record.specs.EvenLines as even
 use Rattle.indexer.specs.Rule.{good}
 use Rattle.indexer.specs.Index.{fitsLast, restOf, judge}
 use Rattle.indexer.specs.Index as index
-use Rattle.writer.specs.Text.{rowsUpTo, rowsOf, lineOf, rowsText, anyOf, barred}
-use Rattle.writer.specs.Laws.{rows-step}
-use Rattle.writer.specs.Rows.{none-of, bases-line, good-rows, rows-joined, good-bases}
+use Rattle.writer.specs.Text.{contentsUpTo, contentsOf, lineOf, linesText, anyOf, barred}
+use Rattle.writer.specs.Laws.{contents-step}
+use Rattle.writer.specs.Contents.{none-of, bases-line, good-contents, contents-joined, good-bases}
 
--- the lines of rows
+-- the lines of contents
 abbrev pub linesOf : List (List ℕ) → List (List ℕ)
 linesOf rs = map lineOf rs
 
--- a line has its row's bases, and one byte more
+-- a line has its content's bases, and one byte more
 pub line-long : (r : List ℕ) → length (lineOf r) ≡ length r + 1
 line-long r = length-append r (10 ∷ [])
 
-pub widths-text : (rs : List (List ℕ)) → sumWidths (linesOf rs) ≡ length (rowsText rs)
-unfolding sumWidths rowsText
+pub widths-text : (rs : List (List ℕ)) → sumWidths (linesOf rs) ≡ length (linesText rs)
+unfolding sumWidths linesText
 widths-text [] = refl
-widths-text (r ∷ rs) = rw (length-append (lineOf r) (rowsText rs), widths-text rs)
+widths-text (r ∷ rs) = rw (length-append (lineOf r) (linesText rs), widths-text rs)
 
 module _ (w : ℕ) (z : 0 < w) where
-  pub bases-count : (s : List ℕ) → anyOf barred s ≡ false → sumBases (linesOf (rowsOf w s)) ≡ length s
+  pub bases-count : (s : List ℕ) → anyOf barred s ≡ false → sumBases (linesOf (contentsOf w s)) ≡ length s
   bases-count s e =
-      sym (length-allBases (linesOf (rowsOf w s)))
-      ∙ ap length (good-bases (rowsOf w s) (good-rows w z (length s) s e) ∙ rows-joined w z (length s) s (omega arith))
+      sym (length-allBases (linesOf (contentsOf w s)))
+      ∙ ap length (good-bases (contentsOf w s) (good-contents w z (length s) s e) ∙ contents-joined w z (length s) s (omega arith))
 
-  -- rows of nothing are no rows
-  rows-nothing : (n : ℕ) (s : List ℕ) → length s ≡ 0 → rowsUpTo n w s ≡ []
-  unfolding rowsUpTo
-  rows-nothing zero s h = refl
-  rows-nothing (suc n) [] h = refl
-  rows-nothing (suc n) (b ∷ s) h = absurd (omega arith)
+  -- nothing has no contents
+  contents-nothing : (n : ℕ) (s : List ℕ) → length s ≡ 0 → contentsUpTo n w s ≡ []
+  unfolding contentsUpTo
+  contents-nothing zero s h = refl
+  contents-nothing (suc n) [] h = refl
+  contents-nothing (suc n) (b ∷ s) h = absurd (omega arith)
 
-  rows-something : (n : ℕ) (s : List ℕ) → none (linesOf (rowsUpTo n w s)) ≡ false → 0 < length s
-  rows-something n s e = go (length s) refl
+  contents-something : (n : ℕ) (s : List ℕ) → none (linesOf (contentsUpTo n w s)) ≡ false → 0 < length s
+  contents-something n s e = go (length s) refl
     where
       go : (m : ℕ) → length s ≡ m → 0 < length s
-      go zero h = absurd (true≢false (rw (rows-nothing n s h) at e))
+      go zero h = absurd (true≢false (rw (contents-nothing n s h) at e))
       go (suc m) h = omega arith
 
   -- ---- the indexer's rule
@@ -59,8 +59,8 @@ module _ (w : ℕ) (z : 0 < w) where
   rest-step first l [] h k f g = rw (le-leb _ _ h, le-leb _ _ k)
   rest-step first l (m ∷ ls) h k f g = rw (eq-eqb _ _ (f refl .1), eq-eqb _ _ (f refl .0)) g
 
-  rest-good : (n : ℕ) (s : List ℕ) → anyOf barred s ≡ false → restOf (record { width = w + 1; bases = w }) (linesOf (rowsUpTo n w s)) ≡ good
-  unfolding rowsUpTo restOf
+  rest-good : (n : ℕ) (s : List ℕ) → anyOf barred s ≡ false → restOf (record { width = w + 1; bases = w }) (linesOf (contentsUpTo n w s)) ≡ good
+  unfolding contentsUpTo restOf
   rest-good zero s e = refl
   rest-good (suc n) [] e = refl
   rest-good (suc n) (b ∷ s) e =
@@ -69,9 +69,9 @@ module _ (w : ℕ) (z : 0 < w) where
       let p : length (basesOf (lineOf (take w t))) ≡ length (take w t) = ap length (bases-line (take w t) (x .0)) in
       let q : length (lineOf (take w t)) ≡ length (take w t) + 1 = line-long (take w t) in
       let m : length (take w t) ≡ min w (length t) = length-take w t in
-      rest-step (record { width = w + 1; bases = w }) (lineOf (take w t)) (linesOf (rowsUpTo n w (drop w t))) (omega arith) (omega arith)
+      rest-step (record { width = w + 1; bases = w }) (lineOf (take w t)) (linesOf (contentsUpTo n w (drop w t))) (omega arith) (omega arith)
       (λ f.
-      let j : 0 < length (drop w t) = rows-something n (drop w t) f in
+      let j : 0 < length (drop w t) = contents-something n (drop w t) f in
       let k : w < length t = omega (arith, length-drop w t) in
       (omega arith, omega arith))
       (rest-good n (drop w t) (x .1))
@@ -89,18 +89,18 @@ module _ (w : ℕ) (z : 0 < w) where
     first-width = omega (arith, line-long (take w s), length-take w s)
 
     -- the first line: the smaller of count and width, and one byte more
-    pub first-is : firstLine (linesOf (rowsOf w s)) ≡ record { width = min (length s) w + 1; bases = min (length s) w }
-    first-is = ap (λ (rs : List (List ℕ)). firstLine (linesOf rs)) (rows-step w z s h) ∙ rw (first-bases, first-width)
+    pub first-is : firstLine (linesOf (contentsOf w s)) ≡ record { width = min (length s) w + 1; bases = min (length s) w }
+    first-is = ap (λ (rs : List (List ℕ)). firstLine (linesOf rs)) (contents-step w z s h) ∙ rw (first-bases, first-width)
 
-    pub judged-good : (at : ℕ) → judge at (linesOf (rowsOf w s)) ≡ good
+    pub judged-good : (at : ℕ) → judge at (linesOf (contentsOf w s)) ≡ good
     unfolding judge
-    judged-good at = ap (λ (rs : List (List ℕ)). judge at (linesOf rs)) (rows-step w z s h) ∙ rw (first-bases, first-width, ne-eqb (min (length s) w) 0 (omega arith)) (go (ltb w (length s)) refl)
+    judged-good at = ap (λ (rs : List (List ℕ)). judge at (linesOf rs)) (contents-step w z s h) ∙ rw (first-bases, first-width, ne-eqb (min (length s) w) 0 (omega arith)) (go (ltb w (length s)) refl)
       where
-        go : (t : Bool) → ltb w (length s) ≡ t → restOf (record { width = min (length s) w + 1; bases = min (length s) w }) (linesOf (rowsOf w (drop w s))) ≡ good
+        go : (t : Bool) → ltb w (length s) ≡ t → restOf (record { width = min (length s) w + 1; bases = min (length s) w }) (linesOf (contentsOf w (drop w s))) ≡ good
         go true l =
             let k : w < length s = ltb-true _ _ l in
             let m : min (length s) w ≡ w = omega arith in
             rw m (rest-good (length (drop w s)) (drop w s) (parts .1))
         go false l =
             let k : length s ≤ w = ltb-false _ _ l in
-            ap (λ (rs : List (List ℕ)). restOf (record { width = min (length s) w + 1; bases = min (length s) w }) (linesOf rs)) (rows-nothing (length (drop w s)) (drop w s) (omega (arith, length-drop w s))) ∙ unfold restOf in refl
+            ap (λ (rs : List (List ℕ)). restOf (record { width = min (length s) w + 1; bases = min (length s) w }) (linesOf rs)) (contents-nothing (length (drop w s)) (drop w s) (omega (arith, length-drop w s))) ∙ unfold restOf in refl

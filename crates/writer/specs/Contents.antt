@@ -1,4 +1,4 @@
--- The rows that bases are written in, and the lines that they are read as.
+-- The contents of the lines that bases are written in, and the lines that they are read as.
 use Prim.Native.Nat.{ℕ, zero, suc, _≤_, _<_}
 use mathlib.Core.Path.{_≡_, refl, ap, sym, _∙_}
 use mathlib.Core.List.{List, [], _∷_, _++_, map, append-assoc}
@@ -10,7 +10,7 @@ use native.Mathlib.Omega.{arith}
 use Rattle.lines.specs.Lines.{lines, lineByte, chop, basesOf, begins, seqOf, allBases}
 use Rattle.lines.specs.Laws.{chop-hit, chop-keep}
 use Rattle.columns.specs.Bytes.{is}
-use Rattle.writer.specs.Text.{rowsUpTo, lineOf, rowsText, anyOf, barred}
+use Rattle.writer.specs.Text.{contentsUpTo, lineOf, linesText, anyOf, barred}
 use Rattle.writer.specs.Laws.{any-append}
 
 -- ---- tests that no byte passes
@@ -59,7 +59,7 @@ lines-line (b ∷ l) rest e =
     let x = either-false (eqb b 10) (anyOf (is 10) l) e in
     ap (lineByte b) (lines-line l rest (x .1)) ∙ rw (x .0)
 
--- the bases of a line are the row, which does not end in CR
+-- the bases of a line are its content, which does not end in CR
 pub bases-line : (r : List ℕ) → anyOf barred r ≡ false → basesOf (lineOf r) ≡ r
 bases-line r e = ap (chop 13) (chop-hit 10 r 10 refl) ∙ go r e
   where
@@ -67,56 +67,56 @@ bases-line r e = ap (chop 13) (chop-hit 10 r 10 refl) ∙ go r e
     go [] e = unfold chop in refl
     go (b ∷ r) e = chop-keep 13 (b ∷ r) (length r) (omega arith) (λ q. true≢false (sym (eq-eqb _ _ q) ∙ base-no-cr _ (none-at barred (b ∷ r) (length r) e (omega arith))))
 
--- ---- rows
+-- ---- contents
 
--- some rows: none is empty, and all bytes are bases
+-- some contents: none is empty, and all bytes are bases
 pub data Good : List (List ℕ) → Type 0 where
-  no-row : Good []
-  row : {r : List ℕ} {rs : List (List ℕ)} → 0 < length r → anyOf barred r ≡ false → Good rs → Good (r ∷ rs)
+  no-content : Good []
+  a-content : {r : List ℕ} {rs : List (List ℕ)} → 0 < length r → anyOf barred r ≡ false → Good rs → Good (r ∷ rs)
 
-pub good-rows : (w : ℕ) → 0 < w → (n : ℕ) (s : List ℕ) → anyOf barred s ≡ false → Good (rowsUpTo n w s)
-unfolding rowsUpTo
-good-rows w z zero s e = no-row
-good-rows w z (suc n) [] e = no-row
-good-rows w z (suc n) (b ∷ s) e =
+pub good-contents : (w : ℕ) → 0 < w → (n : ℕ) (s : List ℕ) → anyOf barred s ≡ false → Good (contentsUpTo n w s)
+unfolding contentsUpTo
+good-contents w z zero s e = no-content
+good-contents w z (suc n) [] e = no-content
+good-contents w z (suc n) (b ∷ s) e =
     let x = none-of barred (take w (b ∷ s)) (drop w (b ∷ s)) (rw (take-append-drop w (b ∷ s)) e) in
     let l : 0 < length (take w (b ∷ s)) = omega (arith, length-take w (b ∷ s)) in
-    row l (x .0) (good-rows w z n (drop w (b ∷ s)) (x .1))
+    a-content l (x .0) (good-contents w z n (drop w (b ∷ s)) (x .1))
 
--- the rows joined are the bases
+-- the contents joined are the bases
 unfoldable pub joined : List (List ℕ) → List ℕ
 joined [] = []
 joined (r ∷ rs) = r ++ joined rs
 
-pub rows-joined : (w : ℕ) → 0 < w → (n : ℕ) (s : List ℕ) → length s ≤ n → joined (rowsUpTo n w s) ≡ s
-unfolding rowsUpTo joined
-rows-joined w z zero [] h = refl
-rows-joined w z zero (b ∷ s) h = absurd (omega arith)
-rows-joined w z (suc n) [] h = refl
-rows-joined w z (suc n) (b ∷ s) h =
-    ap (λ (l : List ℕ). take w (b ∷ s) ++ l) (rows-joined w z n (drop w (b ∷ s)) (omega (arith, length-drop w (b ∷ s)))) ∙ take-append-drop w (b ∷ s)
+pub contents-joined : (w : ℕ) → 0 < w → (n : ℕ) (s : List ℕ) → length s ≤ n → joined (contentsUpTo n w s) ≡ s
+unfolding contentsUpTo joined
+contents-joined w z zero [] h = refl
+contents-joined w z zero (b ∷ s) h = absurd (omega arith)
+contents-joined w z (suc n) [] h = refl
+contents-joined w z (suc n) (b ∷ s) h =
+    ap (λ (l : List ℕ). take w (b ∷ s) ++ l) (contents-joined w z n (drop w (b ∷ s)) (omega (arith, length-drop w (b ∷ s)))) ∙ take-append-drop w (b ∷ s)
 
 -- their text is read as their lines
-pub good-lines : (rs : List (List ℕ)) → Good rs → (rest : List ℕ) → lines (rowsText rs ++ rest) ≡ map lineOf rs ++ lines rest
-unfolding rowsText
+pub good-lines : (rs : List (List ℕ)) → Good rs → (rest : List ℕ) → lines (linesText rs ++ rest) ≡ map lineOf rs ++ lines rest
+unfolding linesText
 good-lines [] g rest = refl
-good-lines (r ∷ rs) (row h e g) rest =
-    ap lines (append-assoc (lineOf r) (rowsText rs) rest)
-    ∙ lines-line r (rowsText rs ++ rest) (none-less barred (is 10) base-no-lf r e)
+good-lines (r ∷ rs) (a-content h e g) rest =
+    ap lines (append-assoc (lineOf r) (linesText rs) rest)
+    ∙ lines-line r (linesText rs ++ rest) (none-less barred (is 10) base-no-lf r e)
     ∙ ap (λ (ls : List (List ℕ)). lineOf r ∷ ls) (good-lines rs g rest)
 
-begins-row : (r : List ℕ) → 0 < length r → anyOf barred r ≡ false → begins (lineOf r) ≡ false
-begins-row [] h e = absurd (omega arith)
-begins-row (b ∷ r) h e = base-no-prefix b (none-at barred (b ∷ r) 0 e (omega arith))
+begins-content : (r : List ℕ) → 0 < length r → anyOf barred r ≡ false → begins (lineOf r) ≡ false
+begins-content [] h e = absurd (omega arith)
+begins-content (b ∷ r) h e = base-no-prefix b (none-at barred (b ∷ r) 0 e (omega arith))
 
 -- these are all sequence lines
 pub good-seq : (rs : List (List ℕ)) → Good rs → (ls : List (List ℕ)) → seqOf (map lineOf rs ++ ls) ≡ map lineOf rs ++ seqOf ls
 unfolding seqOf
 good-seq [] g ls = refl
-good-seq (r ∷ rs) (row h e g) ls = rw (begins-row r h e) (ap (λ (k : List (List ℕ)). lineOf r ∷ k) (good-seq rs g ls))
+good-seq (r ∷ rs) (a-content h e g) ls = rw (begins-content r h e) (ap (λ (k : List (List ℕ)). lineOf r ∷ k) (good-seq rs g ls))
 
--- and their bases are the rows'
+-- and their bases are the contents'
 pub good-bases : (rs : List (List ℕ)) → Good rs → allBases (map lineOf rs) ≡ joined rs
 unfolding allBases joined
 good-bases [] g = refl
-good-bases (r ∷ rs) (row h e g) = rw (bases-line r e, good-bases rs g)
+good-bases (r ∷ rs) (a-content h e g) = rw (bases-line r e, good-bases rs g)
