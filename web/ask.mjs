@@ -96,6 +96,7 @@ const FAMILIES = {
     exd: ["read_exercise", ["bytes"], ifOk((a, [bytes]) => `${hex(bytes.part(Number(a.name_start), Number(a.name_length)))} ${a.start} ${a.end} ${a.edition}`)],
     sco: ["score_typed", ["bytes", "bytes", "number"], bare((a) => `${a.right} ${a.wrong} ${a.missing} ${a.surplus} ${a.score}`)],
     fqi: ["fastq_index", ["bytes", "table"], counted],
+    fqp: ["fastq_index_part", ["bytes", "number", "number", "table"], sequence],
     fqt: ["fastq_read_index", ["bytes", "table"], counted],
     fql: ["fastq_read_line", ["bytes"], ifOk((a) => `${index(a)},${a.quality_position}`)],
     fqw: ["fastq_write_line", ["bytes", "rows", "number", "number", "output"], counted],

@@ -192,6 +192,10 @@ impl Speaker for Library {
                 told(score.no(), score.numbers())
             }
             ("fqi", [Bytes(file), Table(table)]) => filled(table, |table| entry::fastq_index(file, table)),
+            ("fqp", [Bytes(file), Number(from), Number(to), Table(table)]) => {
+                let answer = lent(table, |table| entry::fastq_index_part(file, *from, *to, table));
+                told(answer.no(), answer.numbers())
+            }
             ("fqt", [Bytes(index), Table(table)]) => filled(table, |table| entry::fastq_read_index(index, table)),
             ("fql", [Bytes(line)]) => {
                 let line = entry::fastq_read_line(line);

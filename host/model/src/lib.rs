@@ -138,6 +138,7 @@ impl Speaker for Model {
                 course::score_exercise(exercise, typed, file, names, rows, key).into()
             }
             ("fqi", [Bytes(file), Table(table)]) => file_rows(file, table, fastq::record).into(),
+            ("fqp", [Bytes(file), Number(from), Number(to), Table(table)]) => fastq::part(file, *from..*to, table),
             ("fqt", [Bytes(index), Table(table)]) => index_rows(index, table, fastq::line).into(),
             ("fql", [Bytes(line)]) => fastq::line(content(line), 0, 1).map(|row| vec![Numbers(row.to_vec())]).into(),
             ("fqw", [Bytes(names), Rows(rows), Number(row), Output(out)]) => {

@@ -140,6 +140,8 @@ pub const FAMILIES: &[Family] = &[
     ),
     // FASTQ: rows of a file and of an index text; a row; the bytes of a written line and of a region; the checker
     asks("fqi", &[Bytes, Table], Always(&[Number]), &[2, 3, 4, 5, 6, 7, 8, 38, 39], Lacks),
+    // the same of a part: from and to; rows, and where it stopped
+    asks("fqp", &[Bytes, Number, Number, Table], Always(&[Number, Number]), &[2, 3, 4, 5, 6, 7, 8, 38, 39], Lacks),
     asks("fqt", &[Bytes, Table], Always(&[Number]), &[8, 9, 10, 11, 12], Lacks),
     asks("fql", &[Bytes], IfOk(&[Numbers]), &[9, 10, 11, 12], Lacks),
     asks("fqw", &[Bytes, Rows, Number, Output], Always(&[Number]), &[13, 14, 25], Lacks),
@@ -276,6 +278,12 @@ fqi x40730a41430a2b0a49490d0a t7,7,7,7,7,7,7 => no 39 2 2 0 t7,7,7,7,7,7,7
 fqi x40730a2b0a t7,7,7,7,7,7,7 => no 5 3 0 0 t7,7,7,7,7,7,7
 fqi x40730a410a2b0a490a0a t7,7,7,7,7,7,7 => no 2 9 0 1 t1,1,1,3,1,2,7
 fqi x40730a410a2b0a49 t => no 8 0 0 0 t
+fqp x40730a410a2b0a490a40740a430a2b0a490a 0 1 t7,7,7,7,7,7,7 => ok 1 9 t1,1,1,3,1,2,7
+fqp x40730a410a2b0a490a40740a430a2b0a490a 9 99 t7,7,7,7,7,7,7 => ok 1 18 t10,1,1,12,1,2,16
+fqp x40730a410a2b0a490a40740a430a2b0a490a 0 99 t7,7,7,7,7,7,7 => no 8 1 0 1 9 t1,1,1,3,1,2,7
+fqp x40730a410a2b0a490a40740a430a2b0a490a 9 9 t => ok 0 9 t
+fqp x40730a410a2b0a490a40740a430a2b0a490a 7 8 t => no 3 7 0 0 7 t
+fqp x40730a410a2b0a490a 10 99 t => ok 0 10 t
 fqt x7309340933093409350931300a t7,7,7,7,7,7,7 => ok 1 t0,1,4,3,4,5,10
 fqt x7309340933093409350a t7,7,7,7,7,7,7 => no 10 1 6 0 t7,7,7,7,7,7,7
 fql x730934093309340935092b31300a => ok t0,1,4,3,4,5,10

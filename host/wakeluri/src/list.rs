@@ -156,6 +156,10 @@ macro_rules! entry_points {
             /// by record 2 to 7, 38, 39, 8.
             fn fastq_index(file: bytes, table: fastq_table) -> Answer;
 
+            /// The same of the records from `from` on, where one begins, that begin before `to`; `next` is the offset behind the last row, after a
+            /// refusal too. Refuses 1 for the whole file, and as `fastq_index` does.
+            fn fastq_index_part(file: bytes, from: number, to: number, table: fastq_table) -> Answer;
+
             /// A row for each line of an index of six columns, from the table's first on; names are spans of the index. Refuses 1, 9 to 12, 8.
             fn fastq_read_index(index: bytes, table: fastq_table) -> Answer;
 

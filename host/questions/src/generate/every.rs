@@ -244,6 +244,22 @@ pub(super) fn fastq_qualities() -> Source {
     Box::new(files.flat_map(|file| [1, 2].map(|rows| vec![Bytes(file.clone()), Table(table(FASTQ_WORDS * rows))])))
 }
 
+/// Every part of some files of two records.
+pub(super) fn fastq_part() -> Source {
+    const FRONTS: [&[u8]; 3] =
+        [b"@s\nA\n+\nI\n@t\nA\n+\n", b"@s\nA\nA\n+\nI\n@\n@t\nA\n", b"@s\r\nA\r\n+\r\nI\r\n@t\nA\n+"];
+    let files = FRONTS.into_iter().flat_map(|front| after(front, b"@\n+", 2));
+    Box::new(files.flat_map(|file| {
+        let n = file.len() as u64 + 2;
+        let parts = (0..n).flat_map(|from| (from.saturating_sub(1)..n).map(move |to| (from, to)));
+        parts
+            .flat_map(|(from, to)| {
+                [1, 2].map(|rows| vec![Bytes(file.clone()), Number(from), Number(to), Table(table(FASTQ_WORDS * rows))])
+            })
+            .collect::<Vec<_>>()
+    }))
+}
+
 pub(super) fn fastq_line() -> Source {
     // the last two fields go through the numerals together with each of those before them
     let many = (0..5 * NUMERALS_FOR_ALL.pow(2)).map(|k| {

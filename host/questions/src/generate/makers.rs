@@ -67,6 +67,7 @@ pub(super) const MAKERS: &[Maker] = &[
     maker("sco", 32, typed, &[every::typed]),
     maker("scr", 48, scored_exercise, &[every::scored_exercise]),
     maker("fqi", 64, fastq_file_and_table, &[every::fastq_file, every::fastq_qualities]),
+    maker("fqp", 64, fastq_part_and_table, &[every::fastq_part]),
     maker("fqt", 32, fastq_index, &[every::fastq_index]),
     maker("fql", 16, fastq_line, &[every::fastq_line]),
     maker("fqw", 16, fastq_written_line, &[every::fastq_written_line]),
@@ -586,6 +587,19 @@ fn fastq_file_and_table(chance: &mut Chance) -> Vec<Value> {
     let sample = fastq_file(chance);
     let table = some_table_of(chance, FASTQ_WORDS, sample.rows.len());
     vec![Bytes(sample.text), Table(table)]
+}
+
+/// A part from where a record begins, mostly.
+fn fastq_part_and_table(chance: &mut Chance) -> Vec<Value> {
+    let sample = fastq_file(chance);
+    let table = some_table_of(chance, FASTQ_WORDS, sample.rows.len());
+    let [mut from, to] = some_part(chance, &sample.text);
+    if !chance.once_in(3) {
+        // a name begins behind its '@'
+        let starts = sample.rows.iter().map(|row| row[0].saturating_sub(1)).chain([0]).collect::<Vec<_>>();
+        from = chance.one_of(&starts);
+    }
+    vec![Bytes(sample.text), Number(from), Number(to), Table(table)]
 }
 
 fn fastq_index(chance: &mut Chance) -> Vec<Value> {
