@@ -246,6 +246,16 @@ impl Input {
         fastq::is_said() || self.length() > 0 && self.part(0..1).is_ok_and(|first| *first == *b"@")
     }
 
+    /// Lets go of the pages of a mapped file, which takes a while for a large one. They are the file's: whoever asks for one again gets it again.
+    pub fn let_go(&self) {
+        if let Bytes::Mapped(mapped) = &self.bytes {
+            // SAFETY: nobody writes to these pages, so that they are in the file as they were here.
+            unsafe {
+                libc::madvise(mapped.as_ptr().cast_mut().cast(), mapped.len(), libc::MADV_DONTNEED);
+            }
+        }
+    }
+
     /// How many bytes there are.
     pub fn length(&self) -> u64 {
         match (&self.bytes, &self.opened) {

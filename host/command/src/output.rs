@@ -82,6 +82,37 @@ impl Write for Noting<'_> {
 /// Writes a file, piece by piece.
 pub type Fill<'f> = &'f mut dyn FnMut(&mut dyn Write) -> io::Result<()>;
 
+/// Why a file was not filled.
+#[derive(Debug)]
+pub enum Unfilled {
+    /// It could not be written.
+    System(io::Error),
+    /// There is nothing to write.
+    Failed(Failure),
+}
+
+impl Unfilled {
+    /// As a failure of what was to be written of a file.
+    pub fn told(self, file: &str) -> Failure {
+        match self {
+            Self::System(error) => Failure::system("it can't be written", file, &error, ""),
+            Self::Failed(failure) => failure,
+        }
+    }
+}
+
+impl From<io::Error> for Unfilled {
+    fn from(error: io::Error) -> Self {
+        Self::System(error)
+    }
+}
+
+impl From<Failure> for Unfilled {
+    fn from(failure: Failure) -> Self {
+        Self::Failed(failure)
+    }
+}
+
 /// Where a file is written to.
 #[derive(Debug)]
 pub enum Output {
@@ -164,9 +195,36 @@ impl Output {
         self.fill("index", &mut |to| to.write_all(text))
     }
 
-    /// Writes all of an index that is at hand in parts.
-    pub fn write_parts(&self, parts: &[Vec<u8>]) -> Result<(), Failure> {
-        self.fill("index", &mut |to| parts.iter().try_for_each(|part| to.write_all(part)))
+    /// Whether it is a file that is put in its place in one step, once it is whole.
+    pub fn is_replaced(&self) -> bool {
+        matches!(self, Self::File(_))
+    }
+
+    /// Writes all of a file by what may fail by itself, and gives what that gives. Then nothing is put in its place.
+    pub fn fill_by<T>(
+        &self,
+        what: &str,
+        fill: impl FnOnce(&mut dyn Write) -> Result<T, Unfilled>,
+    ) -> Result<T, Failure> {
+        let (mut fill, mut given) = (Some(fill), None);
+        let filled = self.fill(what, &mut |to| match fill.take().map(|fill| fill(to)) {
+            Some(Err(Unfilled::System(error))) => Err(error),
+            Some(Err(Unfilled::Failed(failure))) => {
+                given = Some(Err(failure));
+                Err(io::Error::other("there is no answer"))
+            }
+            Some(Ok(done)) => {
+                given = Some(Ok(done));
+                Ok(())
+            }
+            // a file is filled once
+            None => Err(io::Error::other("it is filled again")),
+        });
+        match given {
+            Some(Err(failure)) => Err(failure),
+            Some(Ok(done)) => filled.map(|()| done),
+            None => Err(filled.err().unwrap_or(Failure::Gone)),
+        }
     }
 
     /// Fails if something is there that nobody means to be replaced by answers.
@@ -365,9 +423,50 @@ fn write_named(place: &Path, fill: Fill<'_>) -> io::Result<PathBuf> {
     Ok(path)
 }
 
+/// So many bytes are sent to the disk at once, while more are made.
+const SENT: u64 = 4 << 20;
+
+/// A file whose bytes are sent to the disk as they come, and not all of them at the end.
+struct Sending<'f> {
+    file: &'f mut File,
+    sent: u64,
+    written: u64,
+}
+
+impl Sending<'_> {
+    /// Asks the system to write what came, without waiting for it. A system that can't do that writes it at the end.
+    fn send(&mut self) {
+        let [from, bytes] = [self.sent, self.written - self.sent].map(|n| i64::try_from(n).unwrap_or(0));
+        // SAFETY: it only says to the system when to write what it has already.
+        unsafe {
+            libc::sync_file_range(self.file.as_raw_fd(), from, bytes, libc::SYNC_FILE_RANGE_WRITE);
+        }
+        self.sent = self.written;
+    }
+}
+
+impl Write for Sending<'_> {
+    fn write(&mut self, bytes: &[u8]) -> io::Result<usize> {
+        let written = self.file.write(bytes)?;
+        self.written += written as u64;
+        if self.written - self.sent >= SENT {
+            self.send();
+        }
+        Ok(written)
+    }
+
+    /// What is left of a large file is sent too. A small one is on the disk at once when it is asked for.
+    fn flush(&mut self) -> io::Result<()> {
+        if self.sent > 0 {
+            self.send();
+        }
+        self.file.flush()
+    }
+}
+
 /// Writes all of a file, to the disk.
 fn put(file: &mut File, fill: Fill<'_>) -> io::Result<()> {
-    let mut to = io::BufWriter::with_capacity(1 << 16, &mut *file);
+    let mut to = io::BufWriter::with_capacity(1 << 16, Sending { file, sent: 0, written: 0 });
     fill(&mut to).and_then(|()| to.flush())?;
     drop(to);
     file.sync_all()

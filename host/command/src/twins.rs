@@ -38,20 +38,25 @@ impl Seen {
         self.0.push(mixed(name));
     }
 
+    /// How many.
+    pub fn len(&self) -> usize {
+        self.0.len()
+    }
+
     /// Adds those of the records behind them.
     pub fn extend(&mut self, later: Self) {
         self.0.extend(later.0);
     }
 
     /// The first two records of each name that several have, in their order; the names are those that were seen.
-    pub fn twins<'n>(self, names: impl Iterator<Item = &'n [u8]>) -> Vec<Twins<'n>> {
-        if are_some_alike(&self.0) { among(names) } else { vec![] }
+    pub fn twins<'n, N: Iterator<Item = &'n [u8]>>(self, names: impl FnOnce() -> N) -> Vec<Twins<'n>> {
+        if are_some_alike(&self.0) { among(names()) } else { vec![] }
     }
 }
 
 /// The first two records of each name that several have, in their order.
 pub fn of<'n, N: Iterator<Item = &'n [u8]>>(names: impl Fn() -> N) -> Vec<Twins<'n>> {
-    Seen(names().map(mixed).collect()).twins(names())
+    Seen(names().map(mixed).collect()).twins(names)
 }
 
 /// The same, where there likely are some.
@@ -72,11 +77,12 @@ fn among<'n>(names: impl Iterator<Item = &'n [u8]>) -> Vec<Twins<'n>> {
 }
 
 /// Whether two numbers are alike: once they are sorted, two such stand side by side. A table of places, one look for each number, takes four times as
-/// long, since nearly every look is at memory far away. Each core sorts a share: the numbers that leave the same rest.
+/// long, since nearly every look is at memory far away. Each core sorts a share: the numbers of one size.
 fn are_some_alike(numbers: &[u64]) -> bool {
     let shares = cores::count().min(8) as u64;
     let shares = cores::at_once(shares as usize, |share| {
-        let is_own = |number: &u64| *number % shares == share as u64;
+        // of all numbers each share has as many, and a product is faster than a rest
+        let is_own = |number: &u64| (*number >> 32) * shares >> 32 == share as u64;
         let mut own: Vec<u64> = numbers.iter().copied().filter(is_own).collect();
         own.sort_unstable();
         own.windows(2).any(|two| two[0] == two[1])

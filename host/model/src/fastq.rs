@@ -3,16 +3,18 @@
 use crate::checker::base_offsets;
 use crate::lines::{bases, content, first_line, from, marked_definition};
 use crate::reads::{self, offset, put};
-use crate::rows::{columns, file_rows, index_rows, named_row};
+use crate::rows::{columns, file_rows, index_rows, named_row, put_row};
 use crate::{n, no};
 use questions::form::{Answer, Bounds, No, Value};
 use questions::row::{FASTQ_WORDS, FastqRow, Row, Rows, row};
+use std::ops::Range;
 
 /// The answers of this file's families.
 pub(crate) fn answer(family: &str, arguments: &mut [Value]) -> Option<Answer> {
     use questions::form::Value::{Bounds, Bytes, Number, Numbers, Output, Rows, Table};
     Some(match (family, arguments) {
         ("fqi", [Bytes(file), Table(table)]) => file_rows(file, table, record).into(),
+        ("fqp", [Bytes(file), Number(from), Number(to), Table(table)]) => part(file, *from..*to, table),
         ("fqt", [Bytes(index), Table(table)]) => index_rows(index, table, line).into(),
         ("fql", [Bytes(text)]) => line(content(text), 0, 1).map(|row| vec![Numbers(row.to_vec())]).into(),
         ("fqw", [Bytes(names), Rows(rows), Number(row), Output(out)]) => write_line(names, rows, *row, out).into(),
@@ -99,6 +101,23 @@ pub(crate) fn record(file: &[u8], at: u64) -> Result<Option<(FastqRow, u64)>, No
     let qualities = position + bytes(&parts.sequence) + n(plus.len());
     let row = [at + name_start, name_length, length, position, n(bases(first).len()), n(first.len()), qualities];
     Ok(Some((row, qualities + bytes(&parts.qualities))))
+}
+
+/// A row for each record from one offset on that begins before another, and the offset behind the last row.
+fn part(file: &[u8], part: Range<u64>, table: &mut [u64]) -> Answer {
+    let (mut at, mut count) = (part.start, 0);
+    let mut stopped = None;
+    while at < part.end && stopped.is_none() {
+        match record(file, at) {
+            Ok(None) => break,
+            Ok(Some((row, next))) => match put_row(table, count, row) {
+                Ok(()) => (at, count) = (next, count + 1),
+                Err(no) => stopped = Some(no),
+            },
+            Err(no) => stopped = Some(no),
+        }
+    }
+    Answer { no: stopped, told: vec![Value::Number(n(count)), Value::Number(at)] }
 }
 
 // ---- index lines ----

@@ -1,8 +1,10 @@
-//! Files of many records on several cores: parts of a file are indexed, or checked, at the same time.
+//! Files of many records on several cores: parts of a file are indexed, or checked, at the same time. [`reads`] has FASTQ.
 //!
 //! The answer is the same whatever the number of threads. Each part is a proved call of its own, and parts whose numbers rise from 0 to
 //! the end of the file give the whole: that is proved for any numbers. So where a file is cut is a matter of speed alone. The numbers
 //! that are chosen here lie where records begin, near equal shares of the bytes.
+
+mod reads;
 
 use crate::refusal::Call;
 use crate::table::{check_whole, filled, index_strict_whole, index_whole};
@@ -47,7 +49,7 @@ impl Default for Cores {
     }
 }
 
-/// Uses so many threads from now on in [`index`](crate::index), [`check`](crate::check) and whatever calls them; 0 for as many as there
+/// Uses so many threads from now on in [`index`](crate::index), [`check`](crate::check), [`fastq::index`](crate::fastq::index) and whatever calls them; 0 for as many as there
 /// are cores, which is so from the start. A small file, and one with few records, takes fewer. This changes no answer.
 ///
 /// ```

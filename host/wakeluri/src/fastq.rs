@@ -135,9 +135,23 @@ pub fn index(fastq: &[u8]) -> Result<Table<'_>, Refusal> {
 /// let (table, refusal) = wakeluri::fastq::index_until_refused(b"@s\nAC\n+\n!!\n@t\nAC\n");
 /// assert_eq!((table.len(), refusal.map(|refusal| refusal.number)), (1, Some(38)));
 /// ```
+///
+/// Large files are indexed on all cores, or on as many as [`use_threads`](crate::use_threads) says.
 pub fn index_until_refused(fastq: &[u8]) -> (Table<'_>, Option<Refusal>) {
-    // no record has fewer than eight bytes: "@s\nA\n+\n!"
-    filled(fastq, fastq.len() / 8 + 1, Call::FastqIndex, entry::fastq_index)
+    #[cfg(feature = "std")]
+    return crate::Cores::default().index_fastq_until_refused(fastq);
+    #[cfg(not(feature = "std"))]
+    index_whole(fastq)
+}
+
+/// The same on one core.
+pub(crate) fn index_whole(fastq: &[u8]) -> (Table<'_>, Option<Refusal>) {
+    filled(fastq, most_records(fastq), Call::FastqIndex, entry::fastq_index)
+}
+
+/// No file has more records: none has fewer than eight bytes, "@s\nA\n+\n!".
+pub(crate) fn most_records(fastq: &[u8]) -> usize {
+    fastq.len() / 8 + 1
 }
 
 /// A row for each line of an index of six columns, whose names are parts of that text. Refuses 1, 9 to 12.

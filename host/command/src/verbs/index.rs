@@ -1,12 +1,12 @@
 //! `wakeluri index`: the index of a file that is at hand, or that arrives.
 
+mod reads;
+
 use crate::apart::Outputs;
 use crate::arriving;
 use crate::beside::{index_of, named_index};
-use crate::cores;
 use crate::failure::Failure;
 use crate::faults;
-use crate::index_text;
 use crate::input::{self, Input, Stream, is_placeless, is_standard};
 use crate::json::Object;
 use crate::letters::Odd;
@@ -15,13 +15,12 @@ use crate::place::{self, count};
 use crate::shelf::{self, Item, Named, Shelf, Work};
 use crate::twins;
 use crate::unusual::Unusual;
-use crate::verbs::remarks::{Glance, Remarks};
 use crate::words::{Common, path, report, said};
 use crate::work::{self, Rule};
 use clap::ArgMatches;
 use std::os::unix::ffi::OsStrExt;
 use std::path::Path;
-use wakeluri::{Call, Refusal};
+use wakeluri::Refusal;
 
 /// Indexes a file, or each of a list.
 pub fn index(words: &ArgMatches, common: Common) -> Result<(), Failure> {
@@ -103,11 +102,30 @@ fn with_index<'o>(common: Common<'o>, output: &'o Output) -> Outputs<'o> {
 
 /// Indexes a file that is at hand whole.
 fn index_whole(fasta: &Input, output: &Output, strict: bool, common: Common) -> Result<String, Failure> {
-    let made = if fasta.is_fastq() { of_fastq(fasta, strict)? } else { of_fasta(fasta, strict)? };
-    fasta.unchanged()?;
-    // the name may mean another file by now
-    fasta.apart_from(&with_index(common, output))?;
-    output.write_parts(&made.text)?;
+    let as_it_was = || {
+        fasta.unchanged()?;
+        // the name may mean another file by now
+        fasta.apart_from(&with_index(common, output))
+    };
+    let made = if fasta.is_fastq() && output.is_replaced() {
+        // it is written as it is made: the old one is replaced once all of it is there
+        output.fill_by("index", |to| {
+            let made = reads::index(fasta, strict, to)?;
+            as_it_was()?;
+            fasta.let_go();
+            Ok(made)
+        })?
+    } else {
+        let mut text = vec![];
+        let made = if fasta.is_fastq() {
+            reads::index(fasta, strict, &mut text).map_err(|unfilled| unfilled.told(&fasta.shown))?
+        } else {
+            of_fasta(fasta, strict, &mut text)?
+        };
+        as_it_was()?;
+        output.write(&text)?;
+        made
+    };
     Ok(indexed(&fasta.shown, output, &made, common.json))
 }
 
@@ -135,45 +153,26 @@ fn index_arriving(
     output.write(&text)?;
     let file = save.and_then(Output::path).map_or(shown, input::shown);
     let (records, bases) = (rows.len() as u64, rows.records().map(|record| record.length).sum());
-    let made = Made { text: vec![text], records, bases, unusual: Some(arrived.unusual) };
+    let made = Made { records, bases, unusual: Some(arrived.unusual) };
     Ok(indexed(&file, output, &made, common.json))
 }
 
-/// An index that was made, in parts, and what the line says of it. FASTQ has no unusual records.
+/// What the line says of an index that was made. FASTQ has no unusual records.
 struct Made {
-    text: Vec<Vec<u8>>,
     records: u64,
     bases: u64,
     unusual: Option<Unusual>,
 }
 
 /// The index of a FASTA file.
-fn of_fasta(fasta: &Input, strict: bool) -> Result<Made, Failure> {
+fn of_fasta(fasta: &Input, strict: bool, text: &mut Vec<u8>) -> Result<Made, Failure> {
     let rows = work::index(fasta, if strict { Rule::Strict } else { Rule::Complete })?;
-    let text = rows.write_index().map_err(|refusal| not_written(&fasta.shown, refusal))?;
+    *text = rows.write_index().map_err(|refusal| not_written(&fasta.shown, refusal))?;
     Odd::of_file(fasta.bytes()).tell(fasta, strict)?;
     twins::warn(&fasta.shown, &twins::of(|| rows.records().map(|record| record.name)));
     let unusual = Some(Unusual::of(fasta.bytes(), &rows));
     let bases = rows.records().map(|record| record.length).sum();
-    Ok(Made { text: vec![text], records: rows.len() as u64, bases, unusual })
-}
-
-/// The index of a FASTQ file, of six columns. While a core writes the lines of some records, it looks at these.
-fn of_fastq(fastq: &Input, strict: bool) -> Result<Made, Failure> {
-    let rows = work::reads(fastq)?;
-    // a row that isn't there is refused with 25
-    let write = |number: usize, out: &mut [u8]| match rows.row(number) {
-        Some(row) => rows.write_line_into(row, out),
-        None => Err(Refusal::new(Call::WriteIndex, 25, number as u64, 0)),
-    };
-    let parts =
-        cores::in_parts(rows.len(), |part| (index_text::lines(part.clone(), write), Glance::at(fastq, &rows, part)));
-    let (texts, glances): (Vec<_>, Vec<_>) = parts.into_iter().unzip();
-    let text: Result<_, _> = texts.into_iter().collect();
-    let text = text.map_err(|refusal| not_written(&fastq.shown, refusal))?;
-    Remarks::seen(&rows, glances).say(fastq, strict)?;
-    let bases = rows.records().map(|record| record.length).sum();
-    Ok(Made { text, records: rows.len() as u64, bases, unusual: None })
+    Ok(Made { records: rows.len() as u64, bases, unusual })
 }
 
 /// An index that can't be written.

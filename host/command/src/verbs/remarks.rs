@@ -36,17 +36,26 @@ impl Glance {
 impl<'f> Remarks<'f> {
     /// Looks at all records.
     pub fn of(fastq: &Input, rows: &Table<'f>) -> Self {
-        Self::seen(rows, cores::in_parts(rows.len(), |part| Glance::at(fastq, rows, part)))
+        let glances = cores::in_parts(rows.len(), |part| Glance::at(fastq, rows, part));
+        Self::seen(glances, || rows.records().map(|record| record.name))
     }
 
-    /// Puts together what was seen of all records, in their order.
-    pub fn seen(rows: &Table<'f>, glances: Vec<Glance>) -> Self {
-        let (mut odd, mut names) = (Odd::default(), Seen::none(rows.len()));
+    /// Puts together what was seen of all records, in their order, while their rows were at hand. Only where a name likely occurs twice are
+    /// they indexed once more.
+    pub fn in_parts(fastq: &'f Input, glances: Vec<Glance>) -> Self {
+        Self::seen(glances, || {
+            let (rows, _) = wakeluri::fastq::index_until_refused(fastq.bytes());
+            rows.records().map(|record| record.name).collect::<Vec<_>>().into_iter()
+        })
+    }
+
+    fn seen<N: Iterator<Item = &'f [u8]>>(glances: Vec<Glance>, all_names: impl FnOnce() -> N) -> Self {
+        let (mut odd, mut names) = (Odd::default(), Seen::none(glances.iter().map(|glance| glance.names.len()).sum()));
         for glance in glances {
             odd = odd.and(glance.odd);
             names.extend(glance.names);
         }
-        Self { odd, twins: names.twins(rows.records().map(|record| record.name)) }
+        Self { odd, twins: names.twins(all_names) }
     }
 
     /// Warns of them; strictly, bytes that are no letters are a failure.

@@ -1,10 +1,10 @@
-//! FASTQ: rows of a file and of an index text, one row, a line written, a region read, and the checker.
+//! FASTQ: rows of a file, of a part of it and of an index text, one row, a line written, a region read, and the checker.
 
 use crate::family::{Family, Group};
 use crate::form::Value::{self, Bounds, Bytes, Number, Output, Rows, Table};
 use crate::generate::by_chance::{
-    a_row, damage, fastq_damage, fastq_file, fastq_sample, index_text_of, name, numeral, room, some_bounds, some_room,
-    some_rows, some_table_of, table, wanted,
+    a_row, damage, fastq_damage, fastq_file, fastq_sample, index_text_of, name, numeral, room, some_bounds, some_part,
+    some_room, some_rows, some_table_of, table, wanted,
 };
 use crate::generate::chance::{NUMERALS, NUMERALS_FOR_ALL};
 use crate::generate::short::{after, strings};
@@ -17,6 +17,9 @@ const FAMILIES: &[Family] = {
     &[
         asks("fqi", Entry("fastq_index"), &[Bytes, Table], Always(COUNT), &[2, 3, 4, 5, 6, 7, 8, 38, 39], Lacks,
             made(64, fastq_file_and_table, &[every_fastq_file, every_fastq_qualities])),
+        // the same of a part: from and to; rows, and where it stopped
+        asks("fqp", Entry("fastq_index_part"), &[Bytes, Number, Number, Table], Always(&[Field("count"), Field("next")]),
+            &[2, 3, 4, 5, 6, 7, 8, 38, 39], Lacks, made(64, fastq_part_and_table, &[every_fastq_part])),
         asks("fqt", Entry("fastq_read_index"), &[Bytes, Table], Always(COUNT), &[8, 9, 10, 11, 12], Lacks,
             made(32, fastq_index, &[every_fastq_index])),
         asks("fql", Entry("fastq_read_line"), &[Bytes], IfOk(&[Row(FASTQ_FIELDS)]), &[9, 10, 11, 12], Lacks,
@@ -44,6 +47,12 @@ fqi x40730a41430a2b0a49490d0a t7,7,7,7,7,7,7 => no 39 2 2 0 t7,7,7,7,7,7,7
 fqi x40730a2b0a t7,7,7,7,7,7,7 => no 5 3 0 0 t7,7,7,7,7,7,7
 fqi x40730a410a2b0a490a0a t7,7,7,7,7,7,7 => no 2 9 0 1 t1,1,1,3,1,2,7
 fqi x40730a410a2b0a49 t => no 8 0 0 0 t
+fqp x40730a410a2b0a490a40740a430a2b0a490a 0 1 t7,7,7,7,7,7,7 => ok 1 9 t1,1,1,3,1,2,7
+fqp x40730a410a2b0a490a40740a430a2b0a490a 9 99 t7,7,7,7,7,7,7 => ok 1 18 t10,1,1,12,1,2,16
+fqp x40730a410a2b0a490a40740a430a2b0a490a 0 99 t7,7,7,7,7,7,7 => no 8 1 0 1 9 t1,1,1,3,1,2,7
+fqp x40730a410a2b0a490a40740a430a2b0a490a 9 9 t => ok 0 9 t
+fqp x40730a410a2b0a490a40740a430a2b0a490a 7 8 t => no 3 7 0 0 7 t
+fqp x40730a410a2b0a490a 10 99 t => ok 0 10 t
 fqt x7309340933093409350931300a t7,7,7,7,7,7,7 => ok 1 t0,1,4,3,4,5,10
 fqt x7309340933093409350a t7,7,7,7,7,7,7 => no 10 1 6 0 t7,7,7,7,7,7,7
 fql x730934093309340935092b31300a => ok t0,1,4,3,4,5,10
@@ -65,6 +74,19 @@ fn fastq_file_and_table(chance: &mut Chance) -> Vec<Value> {
     let sample = fastq_file(chance);
     let table = some_table_of(chance, FASTQ_WORDS, sample.rows.len());
     vec![Bytes(sample.text), Table(table)]
+}
+
+/// A part from where a record begins, mostly.
+fn fastq_part_and_table(chance: &mut Chance) -> Vec<Value> {
+    let sample = fastq_file(chance);
+    let table = some_table_of(chance, FASTQ_WORDS, sample.rows.len());
+    let [mut from, to] = some_part(chance, &sample.text);
+    if !chance.once_in(3) {
+        // a name begins behind its '@'
+        let starts = sample.rows.iter().map(|row| row[0].saturating_sub(1)).chain([0]).collect::<Vec<_>>();
+        from = chance.one_of(&starts);
+    }
+    vec![Bytes(sample.text), Number(from), Number(to), Table(table)]
 }
 
 fn fastq_index(chance: &mut Chance) -> Vec<Value> {
@@ -125,6 +147,22 @@ fn every_fastq_qualities() -> Source {
         [b"@s\nA\n+\n", b"@s\r\nA\r\n+\r\n", b"@s\nAA\nA\n+x\n", b"@s\nA\n+\nI\n@t\nAA\n+\n", b"@s\nA\nA\r\n+\n"];
     let files = FRONTS.into_iter().flat_map(|front| after(front, b"@\n\r+", 5));
     Box::new(files.flat_map(|file| [1, 2].map(|rows| vec![Bytes(file.clone()), Table(table(FASTQ_WORDS * rows))])))
+}
+
+/// Every part of some files of two records.
+fn every_fastq_part() -> Source {
+    const FRONTS: [&[u8]; 3] =
+        [b"@s\nA\n+\nI\n@t\nA\n+\n", b"@s\nA\nA\n+\nI\n@\n@t\nA\n", b"@s\r\nA\r\n+\r\nI\r\n@t\nA\n+"];
+    let files = FRONTS.into_iter().flat_map(|front| after(front, b"@\n+", 2));
+    Box::new(files.flat_map(|file| {
+        let n = file.len() as u64 + 2;
+        let parts = (0..n).flat_map(|from| (from.saturating_sub(1)..n).map(move |to| (from, to)));
+        parts
+            .flat_map(|(from, to)| {
+                [1, 2].map(|rows| vec![Bytes(file.clone()), Number(from), Number(to), Table(table(FASTQ_WORDS * rows))])
+            })
+            .collect::<Vec<_>>()
+    }))
 }
 
 fn every_fastq_index() -> Source {

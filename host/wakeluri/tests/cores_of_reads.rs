@@ -1,0 +1,154 @@
+//! Several threads give what one gives of a FASTQ file: rows and refusals, on made files with faults in every part, with lines of qualities that
+//! look like other lines, so that guesses of where a record begins are wrong too.
+
+use wakeluri::fastq::{self, Table};
+use wakeluri::{Cores, Refusal, entry};
+
+/// Numbers by chance, the same at each run.
+struct Chance(u64);
+
+impl Chance {
+    fn below(&mut self, n: usize) -> usize {
+        self.0 ^= self.0 << 13;
+        self.0 ^= self.0 >> 7;
+        self.0 ^= self.0 << 17;
+        (self.0 % n as u64) as usize
+    }
+
+    fn once_in(&mut self, n: usize) -> bool {
+        self.below(n) == 0
+    }
+}
+
+/// A record of one line of bases, or of several, at times with CR LF, or with a fault. Lines of qualities begin with '@' and '+' as often as not, and
+/// are at times the lines of another record.
+fn record(chance: &mut Chance, number: usize, faults: bool) -> Vec<u8> {
+    let end: &[u8] = if chance.once_in(4) { b"\r\n" } else { b"\n" };
+    let mut text = format!("@r{}", number % 10).into_bytes();
+    if faults && chance.once_in(20) {
+        text = [&b"@"[..], b"@ ", b">r", b""][chance.below(4)].to_vec();
+    }
+    text.extend(end);
+    let (width, lines) = ([3, 3, 1, 7][chance.below(4)], [1, 1, 1, 2, 5][chance.below(5)]);
+    let last = 1 + chance.below(width);
+    let bases = |line: usize| if line + 1 == lines { last } else { width };
+    for line in 0..lines {
+        text.extend((0..bases(line)).map(|_| b"ACGTN"[chance.below(5)]));
+        text.extend(end);
+    }
+    if !(faults && chance.once_in(20)) {
+        text.extend([&b"+"[..], b"+r1", b"+@"][chance.below(3)]);
+        text.extend(end);
+    }
+    for line in 0..lines {
+        // "@r1", "+r1" and "ACG" are lines of another record
+        let one = [&b"@r1@r1@"[..], b"+r1+r1+", b"ACGACGA", b"I@I@I@I"][chance.below(4)];
+        let count = if faults && chance.once_in(30) { bases(line) - 1 } else { bases(line) };
+        text.extend(&one[..count]);
+        text.extend(end);
+    }
+    text
+}
+
+fn file(chance: &mut Chance, faults: bool) -> Vec<u8> {
+    let records = 1 + chance.below(24);
+    let mut text: Vec<u8> = (0..records).flat_map(|number| record(chance, number, faults)).collect();
+    if faults && chance.once_in(9) {
+        text.splice(..0, *b"AC\n");
+    }
+    if chance.once_in(3) {
+        text.pop();
+    }
+    text
+}
+
+/// By one call of the entry point.
+fn whole(fastq: &[u8]) -> (Table<'_>, Option<[u64; 3]>) {
+    let mut table = vec![0; 64 * fastq::ROW_BYTES];
+    let answer = entry::fastq_index(fastq, &mut table);
+    table.truncate(answer.count as usize * fastq::ROW_BYTES);
+    let refusal = (answer.refusal != 0).then_some([answer.refusal, answer.first, answer.second]);
+    (Table::from_bytes(fastq, table, answer.count as usize), refusal)
+}
+
+fn numbers(refusal: Option<Refusal>) -> Option<[u64; 3]> {
+    refusal.map(|refusal| [refusal.number, refusal.first, refusal.second])
+}
+
+/// The parts that are taken, put together.
+fn in_parts(cores: Cores, fastq: &[u8]) -> (Vec<u8>, Option<[u64; 3]>) {
+    let mut rows = vec![];
+    let refusal = cores.index_fastq_in_parts(fastq, Table::into_bytes, |part| rows.extend(part));
+    (rows, numbers(refusal))
+}
+
+#[test]
+fn as_one_thread() {
+    let mut chance = Chance(0x9e37_79b9_7f4a_7c15);
+    let (mut refused, mut taken, mut cut) = (0, 0, 0);
+    for round in 0..4000 {
+        let fastq = file(&mut chance, round % 2 == 0);
+        let (rows, refusal) = whole(&fastq);
+        let count = if refusal.is_some() { &mut refused } else { &mut taken };
+        *count += 1;
+        for threads in [1, 2, 3, 8] {
+            for worth in [1, 7, 40] {
+                let cores = Cores::new(threads).with_parts_of(worth);
+                let told = || format!("{threads} {worth} {:?}", fastq.escape_ascii());
+                cut += usize::from(fastq.len() > 2 * worth && threads > 1);
+                let (table, stopped) = cores.index_fastq_until_refused(&fastq);
+                assert_eq!((&table, numbers(stopped)), (&rows, refusal), "{}", told());
+                assert_eq!(in_parts(cores, &fastq), (rows.as_bytes().to_vec(), refusal), "{}", told());
+            }
+        }
+    }
+    assert!(refused > 1000 && taken > 1000 && cut > 20_000, "{refused} {taken} {cut}");
+}
+
+/// A refusal in each of the records, so in every part.
+#[test]
+fn a_fault_in_every_part() {
+    let record = |number: usize| format!("@r{number}\nACGTACGT\nACG\n+\n@IIIIIII\n@II\n");
+    for fault in 0..40 {
+        let bad: String =
+            (0..40).map(|number| if number == fault { "@s\nAC\n+\nI\n".to_owned() } else { record(number) }).collect();
+        let one = Cores::new(1).index_fastq_until_refused(bad.as_bytes());
+        assert_eq!((one.0.len(), one.1.map(|refusal| refusal.number)), (fault, Some(39)));
+        for threads in [2, 3, 8, 100] {
+            let cores = Cores::new(threads).with_parts_of(32);
+            assert_eq!(cores.index_fastq_until_refused(bad.as_bytes()), one);
+        }
+    }
+}
+
+/// Records that are longer than parts, and many short ones: a part's table grows, and goes on where it was full.
+#[test]
+fn long_records_and_many() {
+    let long = |number: usize| {
+        let (bases, qualities) = ("ACGT\n".repeat(1000 * (number % 3)), "@+I!\n".repeat(1000 * (number % 3)));
+        format!("@l{number}\n{bases}A\n+\n{qualities}@\n")
+    };
+    let short = |number: usize| format!("@{number}\nA\n+\n@\n");
+    let fastq: String = (0..30).flat_map(|number| [long(number), (0..2000).map(short).collect::<String>()]).collect();
+    let one = Cores::new(1).index_fastq_until_refused(fastq.as_bytes());
+    assert_eq!((one.0.len(), one.1), (30 * 2001, None));
+    for worth in [2000, 30_000, 100_000] {
+        for threads in [2, 3, 8] {
+            let cores = Cores::new(threads).with_parts_of(worth);
+            assert_eq!(cores.index_fastq_until_refused(fastq.as_bytes()), one, "{threads} {worth}");
+        }
+    }
+}
+
+/// A whole file is one record, and a file has no record.
+#[test]
+fn one_record_and_none() {
+    let one = format!("@s\n{}\n+\n{}\n", "A".repeat(5000), "@".repeat(5000));
+    for fastq in ["", "\n", "@", &one] {
+        let cores = Cores::new(8).with_parts_of(100);
+        assert_eq!(
+            cores.index_fastq_until_refused(fastq.as_bytes()),
+            Cores::new(1).index_fastq_until_refused(fastq.as_bytes())
+        );
+    }
+}
