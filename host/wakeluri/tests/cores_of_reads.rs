@@ -86,7 +86,7 @@ fn in_parts(cores: Cores, fastq: &[u8]) -> (Vec<u8>, Option<[u64; 3]>) {
 fn as_one_thread() {
     let mut chance = Chance(0x9e37_79b9_7f4a_7c15);
     let (mut refused, mut taken, mut cut) = (0, 0, 0);
-    for round in 0..4000 {
+    for round in 0..1500 {
         let fastq = file(&mut chance, round % 2 == 0);
         let (rows, refusal) = whole(&fastq);
         let count = if refusal.is_some() { &mut refused } else { &mut taken };
@@ -102,7 +102,7 @@ fn as_one_thread() {
             }
         }
     }
-    assert!(refused > 1000 && taken > 1000 && cut > 20_000, "{refused} {taken} {cut}");
+    assert!(refused > 300 && taken > 300 && cut > 10_000, "{refused} {taken} {cut}");
 }
 
 /// A refusal in each of the records, so in every part.

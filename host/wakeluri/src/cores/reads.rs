@@ -176,7 +176,8 @@ impl<'f, T, W: Fn(Table<'f>) -> T> Parts<'f, W> {
 /// The rows of the records from one offset on that begin before another, where that stopped, and why, if it was refused.
 fn index_part(fastq: &[u8], part: Range<usize>) -> (Table<'_>, usize, Option<Refusal>) {
     let (mut bytes, mut in_use, mut at) = (vec![], 0, part.start);
-    let mut rows = FIRST_ROWS;
+    // a record has eight bytes or more
+    let mut rows = FIRST_ROWS.min(part.len() / 8 + 1);
     loop {
         bytes.resize(rows * ROW_BYTES, 0);
         let free = bytes.get_mut(in_use * ROW_BYTES..).unwrap_or_default();
