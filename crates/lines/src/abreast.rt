@@ -173,7 +173,7 @@ fn lines_by_rows(
 
 // How many lines from `at` on are like `like` and do not begin with `mark`, as far as many at once tell, and at most `most`: by 1,024 lines, then by
 // 256. Only lines of 33 to 129 bytes are looked at so.
-pub fn lines_abreast(s: &[u8], at: usize, like: Line, mark: u8, most: usize) -> usize
+pub(crate) fn lines_abreast(s: &[u8], at: usize, like: Line, mark: u8, most: usize) -> usize
     ensures { λ r. ⌜ (r ≤ most) × (alike like (take r (upToAt (now (s .entry)) mark at)) ≡ r) ⌝ }
 {
     if s.len() < at {
