@@ -69,7 +69,7 @@ struct wakeluri_feed {
     uint64_t rows, complete, total, stage, next;
     uint64_t at, end, name_start, name_length, description_start, description_length;
     uint64_t lines, position, line_bases, line_width, bases;
-    uint64_t held_width, held_bases, held_whole, held_starts, held_name, held_text, held_kept;
+    uint64_t waiting_width, waiting_bases, waiting_whole, waiting_starts, waiting_name, waiting_text, waiting_kept;
 };
 
 /* The places of a key that are right, wrong and missing, the typed bytes past it, and the score in tenths of a percent of what was asked. */

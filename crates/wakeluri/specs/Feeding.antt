@@ -36,13 +36,13 @@ ruleNumber Complete = 1
 
 unfoldable pub waitingBy : Feed → Waiting
 waitingBy f = record {
-  width = f .«held_width»;
-  bases = f .«held_bases»;
-  whole = not (eqb (f .«held_whole») 0);
-  starts = not (eqb (f .«held_starts») 0);
-  name = f .«held_name»;
-  text = f .«held_text»;
-  kept = f .«held_kept»;
+  width = f .«waiting_width»;
+  bases = f .«waiting_bases»;
+  whole = not (eqb (f .«waiting_whole») 0);
+  starts = not (eqb (f .«waiting_starts») 0);
+  name = f .«waiting_name»;
+  text = f .«waiting_text»;
+  kept = f .«waiting_kept»;
 }
 
 abbrev pub openedBy : Feed → Opened
@@ -102,13 +102,13 @@ flatOf f n stage next d t = record {
   «line_bases» = t .numbers .bases;
   «line_width» = t .numbers .width;
   bases = t .bases;
-  «held_width» = f .waiting .width;
-  «held_bases» = f .waiting .bases;
-  «held_whole» = flagOf (f .waiting .whole);
-  «held_starts» = flagOf (f .waiting .starts);
-  «held_name» = f .waiting .name;
-  «held_text» = f .waiting .text;
-  «held_kept» = f .waiting .kept;
+  «waiting_width» = f .waiting .width;
+  «waiting_bases» = f .waiting .bases;
+  «waiting_whole» = flagOf (f .waiting .whole);
+  «waiting_starts» = flagOf (f .waiting .starts);
+  «waiting_name» = f .waiting .name;
+  «waiting_text» = f .waiting .text;
+  «waiting_kept» = f .waiting .kept;
 }
 
 abbrev pub feedIn : Feeder → Phase → Feed

@@ -38,13 +38,13 @@ pub struct Feed {
     pub line_bases: u64,
     pub line_width: u64,
     pub bases: u64,
-    pub held_width: u64,
-    pub held_bases: u64,
-    pub held_whole: u64,
-    pub held_starts: u64,
-    pub held_name: u64,
-    pub held_text: u64,
-    pub held_kept: u64,
+    pub waiting_width: u64,
+    pub waiting_bases: u64,
+    pub waiting_whole: u64,
+    pub waiting_starts: u64,
+    pub waiting_name: u64,
+    pub waiting_text: u64,
+    pub waiting_kept: u64,
 }
 
 // The rule by its number: 0 for the original's, else the complete one.
@@ -72,13 +72,13 @@ fn waiting_by(f: Feed) -> Waiting
     ensures { λ r. ⌜ r ≡ waitingBy f ⌝ }
 {
     Waiting {
-        width: f.held_width as usize,
-        bases: f.held_bases as usize,
-        whole: f.held_whole != 0,
-        starts: f.held_starts != 0,
-        name: f.held_name as usize,
-        text: f.held_text as usize,
-        kept: f.held_kept as usize,
+        width: f.waiting_width as usize,
+        bases: f.waiting_bases as usize,
+        whole: f.waiting_whole != 0,
+        starts: f.waiting_starts != 0,
+        name: f.waiting_name as usize,
+        text: f.waiting_text as usize,
+        kept: f.waiting_kept as usize,
     }
 }
 
@@ -243,13 +243,13 @@ fn flat(f: Feeder, n: refusal::Numbers, stage: u64, next: usize, d: Opened, t: T
         line_bases: numbers.bases as u64,
         line_width: numbers.width as u64,
         bases: t.bases as u64,
-        held_width: waiting.width as u64,
-        held_bases: waiting.bases as u64,
-        held_whole: answer::flag(waiting.whole),
-        held_starts: answer::flag(waiting.starts),
-        held_name: waiting.name as u64,
-        held_text: waiting.text as u64,
-        held_kept: waiting.kept as u64,
+        waiting_width: waiting.width as u64,
+        waiting_bases: waiting.bases as u64,
+        waiting_whole: answer::flag(waiting.whole),
+        waiting_starts: answer::flag(waiting.starts),
+        waiting_name: waiting.name as u64,
+        waiting_text: waiting.text as u64,
+        waiting_kept: waiting.kept as u64,
     }
 }
 

@@ -125,8 +125,8 @@ impl Feeder {
     /// Where the definition line of the record on its way lies, as far as it has come: the line that waits, if it begins with '>', or the one
     /// that the record was opened with. A row is written with the '>' behind its record, so that there is one at most.
     fn definition(&self) -> [u64; 2] {
-        let Feed { at, end, held_starts, held_width, .. } = self.feed;
-        if held_starts == 0 { [at, end] } else { [self.total.saturating_sub(held_width), self.total] }
+        let Feed { at, end, waiting_starts, waiting_width, .. } = self.feed;
+        if waiting_starts == 0 { [at, end] } else { [self.total.saturating_sub(waiting_width), self.total] }
     }
 
     /// Keeps what a piece has of that line; the piece begins at an offset.

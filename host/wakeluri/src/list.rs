@@ -263,8 +263,8 @@ macro_rules! answers {
             /// refused with 1.
             struct Feed {
                 rows, complete, total, stage, next, at, end, name_start, name_length, description_start,
-                description_length, lines, position, line_bases, line_width, bases, held_width, held_bases, held_whole,
-                held_starts, held_name, held_text, held_kept
+                description_length, lines, position, line_bases, line_width, bases, waiting_width, waiting_bases,
+                waiting_whole, waiting_starts, waiting_name, waiting_text, waiting_kept
             }
 
             /// The places of a key that are right, wrong and missing, the typed bytes past it, and the score in tenths

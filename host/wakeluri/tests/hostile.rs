@@ -196,13 +196,13 @@ fn state(chance: &mut Chance) -> entry::Feed {
     some(&mut feed.line_bases);
     some(&mut feed.line_width);
     some(&mut feed.bases);
-    some(&mut feed.held_width);
-    some(&mut feed.held_bases);
-    some(&mut feed.held_whole);
-    some(&mut feed.held_starts);
-    some(&mut feed.held_name);
-    some(&mut feed.held_text);
-    some(&mut feed.held_kept);
+    some(&mut feed.waiting_width);
+    some(&mut feed.waiting_bases);
+    some(&mut feed.waiting_whole);
+    some(&mut feed.waiting_starts);
+    some(&mut feed.waiting_name);
+    some(&mut feed.waiting_text);
+    some(&mut feed.waiting_kept);
     feed
 }
 
