@@ -17,6 +17,7 @@ ghost use Prim.Native.Nat.{_+_, _≤_, _<_};
 ghost use lib.ListN.{length, drop};
 ghost use Rattle.lines.specs.Lines.{lines};
 ghost use Rattle.index_line.specs.IndexLine.{nameIn};
+ghost use Rattle.fastq_line.specs.SixColumns.{sixLineSays};
 ghost use Rattle.checker.specs.Steps.{onlyLine};
 ghost use Rattle.checker.specs.declared.Verdict.the-variants.{Accepted, Refused};
 ghost use Rattle.fastq_index.specs.File.{rowsAt};
@@ -79,15 +80,15 @@ fn judge_entry(fastq: &[u8], x: QualityRow, line: &[u8], y: QualityRow, record: 
     judge_parts(x, y, record)
 }
 
-// A record against its index line, which has no bytes where there is none: 19, 9 to 12, then what it says.
-fn judge_record(fastq: &[u8], x: QualityRow, line: &[u8], record: u64) -> Verdict
-    requires { ⌜ Taken (now fastq) x ⌝ }
+// A record against its index line, which has no bytes where there is none, and what was read of it: 19, 9 to 12, then what it says.
+fn judge_record(fastq: &[u8], x: QualityRow, line: &[u8], read: LineRead, record: u64) -> Verdict
+    requires { ⌜ Taken (now fastq) x × (read ≡ sixLineSays «record» (now line)) ⌝ }
     ensures { λ r. ⌜ r ≡ recordSays «record» (now (fastq .entry)) x (onlyLine (now (line .entry))) ⌝ }
 {
     if line.len() == 0 {
         return Verdict::Refused(Refusal::LineAbsent { record });
     }
-    match fastq_line::parse_line(line, record) {
+    match read {
         LineRead::Refused(r) => Verdict::Refused(r),
         LineRead::Row(e) => {
             let y = e.row;
@@ -103,9 +104,11 @@ impl Place {
         ensures { λ r. ⌜ r ≡ judgedAs (recordSays (self .records + 1) (now (fastq .entry)) x (lines (drop (self .index) (now (index .entry))))) (placeBehind (now (index .entry)) self behind) ⌝ }
     {
         let line = self.index;
-        let end = lines::ends::line_end(index, line);
         let record = self.records + 1;
-        match judge_record(fastq, x, &index[line..end], record) {
+        let found = fastq_line::parse_at(index, line, record);
+        let end = found.end;
+        let read = found.read;
+        match judge_record(fastq, x, &index[line..end], read, record) {
             Verdict::Refused(r) => Step::Refused(r),
             Verdict::Accepted => Step::Next(Place {
                 fastq: behind,
