@@ -82,7 +82,7 @@ fn are_some_alike(numbers: &[u64]) -> bool {
     let shares = cores::count().min(8) as u64;
     let shares = cores::at_once(shares as usize, |share| {
         // of all numbers each share has as many, and a product is faster than a rest
-        let is_own = |number: &u64| (*number >> 32) * shares >> 32 == share as u64;
+        let is_own = |number: &u64| ((*number >> 32) * shares) >> 32 == share as u64;
         let mut own: Vec<u64> = numbers.iter().copied().filter(is_own).collect();
         own.sort_unstable();
         own.windows(2).any(|two| two[0] == two[1])

@@ -72,7 +72,7 @@ impl Cores {
                 if part >= parts.count {
                     return;
                 }
-                let found = parts.from_a_guess(part);
+                let found = parts.guessed(part);
                 locked(&waiting).insert(part, found);
                 // if another thread puts parts together just now, that one or a later one takes this too
                 let is_over = joining.try_lock().is_ok_and(|mut joining| parts.join(&mut joining, &waiting));
@@ -153,7 +153,7 @@ impl<'f, T, W: Fn(Table<'f>) -> T> Parts<'f, W> {
     }
 
     /// A part from where its first record likely begins.
-    fn from_a_guess(&self, part: usize) -> Option<Made<T>> {
+    fn guessed(&self, part: usize) -> Option<Made<T>> {
         let guess = if part == 0 { Some(0) } else { start_in(self.fastq, self.size * part..self.end(part)) };
         guess.map(|from| self.from(from, part))
     }
