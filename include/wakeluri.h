@@ -234,7 +234,7 @@ struct wakeluri_answer wakeluri_fastq_index(const uint8_t *file, size_t file_len
 
 /* The same of a part of a FASTQ file, for a host that has several cores: a row for each record from `from` on that begins before `to`; answers how
  * many, and in `next`, after a refusal too, the offset behind the last of them, where the first record begins that has no row. A record has to
- * begin at `from`: at 0, or at the `next` of a part before it. Such parts that go on from each other up to file_length or more give the rows of
+ * begin at `from`: at 0, or at the `next` of a part before it. Such parts that go on from each other up to the file's length or more give the rows of
  * the file, and its refusal, wherever they are cut; and so after 8, from `next` on with a longer table. What was found from another offset, a
  * guess, counts only where the part before it stopped there. Offsets and spans are those of the whole file. Refuses 1 for the whole file,
  * and as wakeluri_fastq_index does. */
