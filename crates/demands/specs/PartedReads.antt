@@ -2,7 +2,7 @@
 -- call before it stopped, up to any offsets and with any tables. `reads-indexed`: if the last call does not answer 8, and goes up to the length or more or
 -- is refused, what they tell, the rows of one call behind those of the other, and why there are no more, is what wakeluri_fastq_index tells with a
 -- table that has room for it.
-use Prim.Native.Nat.{ℕ, _+_, _≤_}
+use Prim.Native.Nat.{ℕ, _+_, _≤_, _<_}
 use mathlib.Core.Path.{_≡_, refl, ap, sym, _∙_}
 use mathlib.Core.List.{List, _++_}
 use mathlib.Core.Bool.{Bool, true, false, cond}
@@ -19,6 +19,7 @@ use Rattle.table.specs.Numbers.{numbersIn}
 use Rattle.table.specs.declared.Stop.{Stop}
 use Rattle.table.specs.declared.Stop.the-variants as stop
 use Rattle.output.specs.Outcome.{Outcome, leaves}
+use Rattle.fastq.specs.declared.QualityRow.{QualityRow}
 use Rattle.fastq_table.specs.Rows.{rowCount}
 use Rattle.fastq_table.specs.Fill.{Found, heldIn}
 use Rattle.fastq_index.specs.File.{rowsAt, fileIn}
@@ -49,8 +50,9 @@ held-front n f = go (ltb n (length (f .rows))) refl
 
     go : (t : Bool) → ltb n (length (f .rows)) ≡ t → (length (held t .rows) ≤ length (f .rows)) × (held t .rows ≡ take (length (held t .rows)) (f .rows))
     go true h =
-        let e = length-take-le n (f .rows) (omega (arith, ltb-true _ _ h)) in
-        (omega (arith, e, ltb-true _ _ h), ap (λ (k : ℕ). take k (f .rows)) (sym e))
+        let l : n < length (f .rows) = ltb-true n (length (f .rows)) h in
+        let e = length-take-le n (f .rows) (omega arith) in
+        (omega (arith, e), ap (λ (k : ℕ). take k (f .rows)) (sym e))
     go false h = (omega arith, sym (take-all (length (f .rows)) (f .rows) (omega arith)))
 
 -- an answer that is no refusal ended
@@ -92,7 +94,7 @@ module _ (file : List ℕ) (small : overLimit (length file) ≡ false) where
       let e : g ≡ rowsAt file (behind file k from) = q ∙ ap (rowsAt file) (p ∙ ap (λ (r : Found). behind file (length (r .rows)) from) h) in
       ap (λ (r : Found). record { rows = r .rows ++ g .rows; stop = g .stop }) h
       ∙ ap (λ (r : Found). record { rows = heldIn n n f .rows ++ r .rows; stop = r .stop }) e
-      ∙ ap (λ (xs : List _). record { rows = xs ++ rowsAt file (behind file k from) .rows; stop = rowsAt file (behind file k from) .stop }) (v .1)
+      ∙ ap (λ (xs : List QualityRow). record { rows = xs ++ rowsAt file (behind file k from) .rows; stop = rowsAt file (behind file k from) .stop }) (v .1)
       ∙ sym (file-resumed file to k from (v .0))
 
   -- a part that was refused is the file's
