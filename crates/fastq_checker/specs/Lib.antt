@@ -6,4 +6,7 @@ pub mod Named
 pub mod Steps
 pub mod JudgeLaws
 pub mod WalkLaws
+pub mod Part
+pub mod PartLaws
+pub mod Joined
 pub mod Examples

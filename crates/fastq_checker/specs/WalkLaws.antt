@@ -135,6 +135,9 @@ module _ (f i : List ℕ) (w : Place) where
   pub check-stopped : (y : Refusal) → stepOf f i w ≡ step.Stopped y → Refused y ≡ checkAt f i w
   check-stopped y e = sym (check-step ∙ ap (after f i w) e)
 
+  pub check-on : (n : Place) → stepOf f i w ≡ step.Next n → checkAt f i n ≡ checkAt f i w
+  check-on n e = sym (check-step ∙ ap (after f i w) e)
+
   pub check-over : stepOf f i w ≡ step.End → recordsSay (w .records) [] [] (lines (drop (w .index) i)) ≡ checkAt f i w
   check-over e = sym (check-step ∙ ap (after f i w) e)
 
@@ -147,7 +150,7 @@ pub record Moved (f i : List ℕ) (w n : Place) : Type 0 where
   pub leads : checkAt f i n ≡ checkAt f i w
 
 -- a step that goes on is over a record
-stepped : (f i : List ℕ) (w n : Place) → stepOf f i w ≡ step.Next n → (w .fastq < length f) × (w .fastq < n .fastq) × (n ≡ placeBehind i w (n .fastq))
+pub stepped : (f i : List ℕ) (w n : Place) → stepOf f i w ≡ step.Next n → (w .fastq < length f) × (w .fastq < n .fastq) × (n ≡ placeBehind i w (n .fastq))
 unfolding stepOf judgedAs
 stepped f i w n e = go (recordAt f (w .fastq) .answer) refl e
   where
@@ -172,7 +175,7 @@ check-next f i w n h e =
       on = s .1;
       inside = omega (arith, ap (λ (m : Place). m .index) (s .2), lineEnd-le i (w .index) h);
       records = ap (λ (m : Place). m .records) (s .2);
-      leads = sym (check-step f i w ∙ ap (after f i w) e);
+      leads = check-on f i w n e;
     }
 
 pub check-start : (f i : List ℕ) → checkAt f i (record { fastq = 0; index = 0; records = 0 }) ≡ fileSays f (lines i) (rowsAt f 0 .rows) (rowsAt f 0 .stop)

@@ -24,12 +24,25 @@ ghost use Rattle.fastq_index.specs.File.{rowsAt};
 ghost use Rattle.fastq_checker.specs.Check.{entrySays, recordSays, recordsSay, fileSays, checkOf};
 ghost use Rattle.fastq_checker.specs.Taken.{Taken};
 ghost use Rattle.fastq_checker.specs.Steps.{partSaysOf, partsSay, stopThen, placeBehind, judgedAs, stepOf};
+ghost use Rattle.fastq_checker.specs.Part.{walked, partChecked};
 
 // The place behind some records: in the file and in the index, and how many they are.
 struct Place {
     fastq: usize,
     index: usize,
     records: u64,
+}
+
+// Where a part of a check stopped: in the file and in the index.
+pub struct Stopped {
+    pub fastq: usize,
+    pub index: usize,
+}
+
+// A part walked up to where it stopped; or why it was not begun.
+pub enum PartChecked {
+    Reached(Stopped),
+    Refused(Refusal),
 }
 
 // The place behind one record more; or that there is none; or what the indexer refuses there; or why the line is refused.
@@ -201,6 +214,69 @@ fn check_records(fastq: &[u8], index: &[u8]) -> Verdict
             }
         }
     }
+}
+
+// Walks from a place over the records that begin before `to`, as far as each is accepted.
+fn walk(fastq: &[u8], index: &[u8], place: Place, to: usize) -> Place
+    requires { ⌜ (place .records ≤ place .fastq) × (place .index ≤ length (now index)) ⌝ }
+    ensures { λ r. ⌜ r ≡ walked (now (fastq .entry)) (now (index .entry)) to place ⌝ }
+{
+    let mut w = place;
+    loop {
+        if to <= w.fastq {
+            return w;
+        }
+        match w.check_record(fastq, index) {
+            Step::Next(next) => {
+                w = next;
+            }
+            Step::End => {
+                return w;
+            }
+            Step::Stopped(_) => {
+                return w;
+            }
+            Step::Refused(_) => {
+                return w;
+            }
+        }
+    }
+}
+
+// Checks a part of a file: the records from `from` on, where one begins, that begin before `to`, against the index lines from `first` on, up to the
+// first that is not accepted. Example: in `@a\nA\n+\n!\n@b\nC\n+\n!\n` records begin at 0 and 9. With the index that its indexer makes, of lines of
+// 14 bytes, the part from 0 to 4 stops at 9 and at 14. A part never refuses a record: it stops before it.
+pub fn check_part(
+    fastq: &[u8],
+    from: usize,
+    to: usize,
+    index: &[u8],
+    first: usize,
+) -> PartChecked
+    ensures { λ r. ⌜ r ≡ partChecked (now (fastq .entry)) from to (now (index .entry)) first ⌝ }
+{
+    if refusal::over_limit(fastq.len()) {
+        return PartChecked::Refused(Refusal::TooLong);
+    }
+    if refusal::over_limit(index.len()) {
+        return PartChecked::Refused(Refusal::TooLong);
+    }
+    if index.len() < first {
+        return PartChecked::Reached(Stopped {
+            fastq: from,
+            index: first,
+        });
+    }
+    let start = Place {
+        fastq: from,
+        index: first,
+        records: 0,
+    };
+    let w = walk(fastq, index, start, to);
+    PartChecked::Reached(Stopped {
+        fastq: w.fastq,
+        index: w.index,
+    })
 }
 
 // Checks an index against its file. What the indexer refuses comes first, wherever in the file it is.

@@ -95,6 +95,19 @@ unfolding fieldsOf
 fields-cut [] f fs e = let z : _≡_ {A = ℕ} 0 1 = cc in absurd (omega arith)
 fields-cut (b ∷ l) f fs e = e
 
+content-said : (line : ℕ) (l : List ℕ) (e : Entry) → ContentRead l e → contentSays line l ≡ read.Row e
+unfolding contentSays
+content-said line l e x = rw (x .cut, reads-say line (x .reads), ← x .same)
+
+-- a line that reads does so whatever its number is
+pub line-any : (line other : ℕ) (l : List ℕ) (e : Entry) → sixLineSays line l ≡ read.Row e → sixLineSays other l ≡ read.Row e
+unfolding sixLineSays
+line-any line other l e h = go (contentSays line (contentOf l)) refl h
+  where
+    go : (r : LineRead) → contentSays line (contentOf l) ≡ r → onlyIf (plainEnd l) r ≡ read.Row e → onlyIf (plainEnd l) (contentSays other (contentOf l)) ≡ read.Row e
+    go (read.Refused r) c k = let z : _≡_ {A = ℕ} 0 1 = cc in absurd (omega arith)
+    go (read.Row x) c k = rw (content-said other (contentOf l) x (content-known line (contentOf l) x c)) k
+
 -- a line that reads, by its content
 pub record LineIs (l : List ℕ) (e : Entry) : Type 0 where
   pub content : Entry
