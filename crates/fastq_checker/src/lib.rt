@@ -246,13 +246,7 @@ fn walk(fastq: &[u8], index: &[u8], place: Place, to: usize) -> Place
 // Checks a part of a file: the records from `from` on, where one begins, that begin before `to`, against the index lines from `first` on, up to the
 // first that is not accepted. Example: in `@a\nA\n+\n!\n@b\nC\n+\n!\n` records begin at 0 and 9. With the index that its indexer makes, of lines of
 // 14 bytes, the part from 0 to 4 stops at 9 and at 14. A part never refuses a record: it stops before it.
-pub fn check_part(
-    fastq: &[u8],
-    from: usize,
-    to: usize,
-    index: &[u8],
-    first: usize,
-) -> PartChecked
+pub fn check_part(fastq: &[u8], from: usize, to: usize, index: &[u8], first: usize) -> PartChecked
     ensures { λ r. ⌜ r ≡ partChecked (now (fastq .entry)) from to (now (index .entry)) first ⌝ }
 {
     if refusal::over_limit(fastq.len()) {

@@ -24,9 +24,11 @@ use Rattle.fastq_index.specs.declared.PartFilled.{PartFilled}
 use Rattle.fastq_line.specs.declared.LineRead.{LineRead}
 use Rattle.fastq_line.specs.declared.LineRead.the-variants as read
 use Rattle.fastq_line.specs.SixColumns.{lineWritten}
+use Rattle.fastq_checker.specs.declared.PartChecked.{PartChecked}
+use Rattle.fastq_checker.specs.declared.PartChecked.the-variants as part
 use Rattle.wakeluri.specs.declared.answer.Answer.{Answer}
 use Rattle.wakeluri.specs.declared.qualities.FastqAnswer.{FastqAnswer}
-use Rattle.wakeluri.specs.Answer.{fine, noRecord, flagOf, filledAnswer}
+use Rattle.wakeluri.specs.Answer.{fine, noRecord, flagOf, answerOf, filledAnswer}
 
 -- ---- what a host gives
 
@@ -83,6 +85,11 @@ pub part-told : (a b : Answer) (s : List ℕ) (from : ℕ) (before after : List 
 unfolding partTold
 part-told a b s from before after f r t p q =
     rw (q, p, t .next, t .filled .filled .rows, t .filled .filled .stop, ← t .filled .filled .table, ← t .filled .bytes)
+
+-- where a part of a check stopped: the place in the index as the count, and the offset in the file
+unfoldable pub passedAnswer : PartChecked → Answer
+passedAnswer (part.Reached s) = answerOf fine (s .index) (s .fastq)
+passedAnswer (part.Refused f) = answerOf (numbersOf f) 0 0
 
 -- ---- by row, of a table with n rows in use
 

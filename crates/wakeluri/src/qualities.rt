@@ -1,10 +1,11 @@
-// Entry points on FASTQ: a file, or a part of one, indexed, an index of six columns read whole and checked against its file, a line of it read and written, and
+// Entry points on FASTQ: a file, or a part of one, indexed, an index of six columns read whole and checked against its file or a part of it, a line of it read and written, and
 // bases or qualities read by row. A table is bytes, as it is elsewhere, with seven numbers to a row: the quality position is last.
 use crate::answer;
 use crate::answer::Answer;
 use crate::rows;
 use fastq::Part;
 use fastq::QualityRow;
+use fastq_checker::PartChecked;
 use fastq_line::LineRead;
 use record::Offset;
 use refusal::Numbers;
@@ -17,9 +18,10 @@ ghost use Rattle.fastq_index.specs.File.{fileIn};
 ghost use Rattle.fastq_index.specs.Part.{partIn};
 ghost use Rattle.fastq_index.specs.Text.{indexIn};
 ghost use Rattle.fastq_checker.specs.Check.{checkOf};
+ghost use Rattle.fastq_checker.specs.Part.{partChecked};
 ghost use Rattle.wakeluri.specs.Answer.{boundOf, verdictAnswer};
 ghost use Rattle.wakeluri.specs.Told.{writtenTold};
-ghost use Rattle.wakeluri.specs.Qualities.{partGiven, noRow, fastqTold, fastqAnswer, rowsTold, stoppedAt, partTold, lineFrom, partRead};
+ghost use Rattle.wakeluri.specs.Qualities.{partGiven, noRow, fastqTold, fastqAnswer, rowsTold, stoppedAt, partTold, passedAnswer, lineFrom, partRead};
 
 // The row of an index line of six columns, and whether the line is plain.
 #[repr(C)]
@@ -191,4 +193,34 @@ pub extern "C" fn wakeluri_fastq_check(fastq: &[u8], index: &[u8]) -> Answer
     ensures { λ a. ⌜ a ≡ verdictAnswer (checkOf (now (fastq .entry)) (now (index .entry))) ⌝ }
 {
     answer::verdict_answer(fastq_checker::check(fastq, index))
+}
+
+// Where a part of a check stopped: the place in the index as the count, and the offset in the file.
+fn passed_answer(r: PartChecked) -> Answer
+    ensures { λ a. ⌜ a ≡ passedAnswer r ⌝ }
+{
+    match r {
+        PartChecked::Reached(s) => answer::count_answer(answer::fine(), s.index, s.fastq),
+        PartChecked::Refused(f) => answer::count_answer(f.numbers(), 0, 0),
+    }
+}
+
+// How far the records of a FASTQ file from `from` on, where one begins, that begin before `to` are accepted with the index lines from `first` on.
+#[no_mangle]
+pub extern "C" fn wakeluri_fastq_check_part(
+    fastq: &[u8],
+    from: u64,
+    to: u64,
+    index: &[u8],
+    first: u64,
+) -> Answer
+    ensures { λ a. ⌜ a ≡ passedAnswer (partChecked (now (fastq .entry)) from to (now (index .entry)) first) ⌝ }
+{
+    passed_answer(fastq_checker::check_part(
+        fastq,
+        from as usize,
+        to as usize,
+        index,
+        first as usize,
+    ))
 }
