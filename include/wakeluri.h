@@ -257,6 +257,14 @@ struct wakeluri_answer wakeluri_fastq_read(const uint8_t *file, size_t file_leng
  * 12, 21, 22, and 23 for a base or else a quality; last 20. */
 struct wakeluri_answer wakeluri_fastq_check(const uint8_t *fastq, size_t fastq_length, const uint8_t *index, size_t index_length);
 
+/* How far a part of a FASTQ file is accepted with a part of its index, for a host that has several cores: the records from `from` on that begin
+ * before `to`, each against its index line, from the line at place `first` on, up to the first that is not accepted. Answers where it stopped: in `next`
+ * the offset in the file, in `count` the place in the index. A record has to begin at `from` and its line at `first`: both at 0, or where a part
+ * before it stopped. If such parts that go on from each other stop at the end of both, wakeluri_fastq_check accepts the whole, wherever they are cut.
+ * Where they don't, ask wakeluri_fastq_check: it tells why. What was walked from a guess counts only where the part before it stopped there.
+ * Refuses 1 for the whole file and the whole index, and no record. */
+struct wakeluri_answer wakeluri_fastq_check_part(const uint8_t *fastq, size_t fastq_length, uint64_t from, uint64_t to, const uint8_t *index, size_t index_length, uint64_t first);
+
 /* Uses the code for a level of x86-64 (1, 3 or 4), or for the best that the processor has if that is less; 0 asks for the best, which is in
  * use from the start. Returns the level in use. Every level gives the same answers: this is for tests and timings. */
 uint64_t wakeluri_use_level(uint64_t level);

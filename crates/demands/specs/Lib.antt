@@ -19,3 +19,4 @@ pub mod MendedScores
 pub mod Fed
 pub mod Parted
 pub mod PartedReads
+pub mod PartedChecks

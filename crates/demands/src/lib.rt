@@ -1,6 +1,6 @@
 // Demand 3 at the entry points, looking up and reading as two calls (request K8), just the needed bytes fetched and read (K7), a written record
 // read back (K3), a written exercise scored (K5), a file that arrives in pieces (K1), and a file in parts on several cores. The theorems are in
-// specs/AtTheEdge.antt, LookUp.antt, Fetching.antt, Writing.antt, Scoring.antt, Fed.antt, Parted.antt and PartedReads.antt, over the calls' promises as relations (specs/Calls.antt). Here each call is made, and has its relation for a contract: so the
+// specs/AtTheEdge.antt, LookUp.antt, Fetching.antt, Writing.antt, Scoring.antt, Fed.antt, Parted.antt, PartedReads.antt and PartedChecks.antt, over the calls' promises as relations (specs/Calls.antt). Here each call is made, and has its relation for a contract: so the
 // theorems are about the calls themselves.
 use wakeluri::answer::Answer;
 use wakeluri::answer::DefinitionAnswer;
@@ -21,6 +21,7 @@ use wakeluri::writing;
 ghost use Rattle.fitting.specs.declared.Rule.the-variants.{Strict, Complete};
 ghost use Rattle.demands.specs.Parted.{IndexPart, CheckPart};
 ghost use Rattle.demands.specs.PartedReads.{FastqIndexPart};
+ghost use Rattle.demands.specs.PartedChecks.{FastqCheck, FastqCheckPart};
 ghost use Rattle.demands.specs.Calls.{Check, ReadIndex, IndexFile, WriteIndexLine, Find, ReadExact, ReadRaw, NeededBytes, ReadWindow, WriteRecord, DefinitionLine, IndexRecord, ReadSequence, WriteExercise, ScoreExercise, FeedStart, FeedPiece, FeedEnd};
 
 fn check(file: &[u8], index: &[u8]) -> Answer
@@ -252,4 +253,16 @@ fn fastq_index_part(file: &[u8], from: u64, to: u64, table: &mut [u8]) -> Answer
     ensures { λ a. ⌜ FastqIndexPart (now (file .entry)) from to (now (table .entry)) a (now (table .exit)) ⌝ }
 {
     qualities::wakeluri_fastq_index_part(file, from, to, table)
+}
+
+fn fastq_check(fastq: &[u8], index: &[u8]) -> Answer
+    ensures { λ a. ⌜ FastqCheck (now (fastq .entry)) (now (index .entry)) a ⌝ }
+{
+    qualities::wakeluri_fastq_check(fastq, index)
+}
+
+fn fastq_check_part(fastq: &[u8], from: u64, to: u64, index: &[u8], first: u64) -> Answer
+    ensures { λ a. ⌜ FastqCheckPart (now (fastq .entry)) from to (now (index .entry)) first a ⌝ }
+{
+    qualities::wakeluri_fastq_check_part(fastq, from, to, index, first)
 }

@@ -22,6 +22,10 @@ pub(crate) fn answer(family: &str, arguments: &mut [Value]) -> Option<Answer> {
             exact(file, rows, *row, *bounds, *which, out).into()
         }
         ("fqc", [Bytes(file), Bytes(index)]) => check(file, index).into(),
+        ("fqk", [Bytes(file), Number(from), Number(to), Bytes(index), Number(first)]) => {
+            let (at, place) = passed(file, *from..*to, index, *first);
+            Answer { no: None, told: vec![Number(at), Number(place)] }
+        }
         _ => return None,
     })
 }
@@ -166,26 +170,47 @@ pub(crate) fn check(file: &[u8], index: &[u8]) -> Result<(), No> {
     }
     let mut index_lines = index.split_inclusive(|b| *b == b'\n');
     for (row, number) in records.iter().zip(1..) {
-        let name = &from(file, row[0])[..row[1] as usize];
         let Some(index_line) = index_lines.next() else {
             return no(19, number, 0);
         };
-        let said = line(content(index_line), 0, number)?;
-        if name != &index_line[..said[1] as usize] {
-            return no(21, number, 0);
-        }
-        if row[2] != said[2] {
-            return no(22, number, 0);
-        }
-        let lines = parts(from(file, row[3]));
-        let places = [(lines.sequence, row[3], false), (lines.qualities, row[6], true)];
-        for (lines, position, qualities) in places {
-            for (i, there) in base_offsets(&lines, position as usize).iter().enumerate() {
-                if offset(&row_of(&said, qualities), n(i) + 1) != *there as u128 {
-                    return no(23, number, n(i) + 1);
-                }
+        judge(file, row, index_line, number)?;
+    }
+    if index_lines.next().is_some() { no(20, n(records.len()), 0) } else { Ok(()) }
+}
+
+/// A record against its index line.
+fn judge(file: &[u8], row: &FastqRow, index_line: &[u8], number: u64) -> Result<(), No> {
+    let name = &from(file, row[0])[..row[1] as usize];
+    let said = line(content(index_line), 0, number)?;
+    if name != &index_line[..said[1] as usize] {
+        return no(21, number, 0);
+    }
+    if row[2] != said[2] {
+        return no(22, number, 0);
+    }
+    let lines = parts(from(file, row[3]));
+    let places = [(lines.sequence, row[3], false), (lines.qualities, row[6], true)];
+    for (lines, position, qualities) in places {
+        for (i, there) in base_offsets(&lines, position as usize).iter().enumerate() {
+            if offset(&row_of(&said, qualities), n(i) + 1) != *there as u128 {
+                return no(23, number, n(i) + 1);
             }
         }
     }
-    if index_lines.next().is_some() { no(20, n(records.len()), 0) } else { Ok(()) }
+    Ok(())
+}
+
+/// How far the records from one offset on that begin before another are accepted with the lines from a place on: the offset and the place
+/// behind them.
+fn passed(file: &[u8], part: Range<u64>, index: &[u8], first: u64) -> (u64, u64) {
+    let (mut at, mut place) = (part.start, first);
+    while at < part.end {
+        let Ok(Some((row, next))) = record(file, at) else { break };
+        let Some(index_line) = first_line(from(index, place)) else { break };
+        if judge(file, &row, index_line, 1).is_err() {
+            break;
+        }
+        (at, place) = (next, place + n(index_line.len()));
+    }
+    (at, place)
 }

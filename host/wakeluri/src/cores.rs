@@ -49,7 +49,7 @@ impl Default for Cores {
     }
 }
 
-/// Uses so many threads from now on in [`index`](crate::index), [`check`](crate::check), [`fastq::index`](crate::fastq::index) and whatever calls them; 0 for as many as there
+/// Uses so many threads from now on in [`index`](crate::index), [`check`](crate::check), [`fastq::index`](crate::fastq::index), [`fastq::check`](crate::fastq::check) and whatever calls them; 0 for as many as there
 /// are cores, which is so from the start. A small file, and one with few records, takes fewer. This changes no answer.
 ///
 /// ```
@@ -143,7 +143,7 @@ impl Cores {
 
     /// Whether the file was cut into parts, and each was accepted with its part of the index: then the whole is.
     fn parts_accepted(self, fasta: &[u8], index: &[u8]) -> bool {
-        let cuts = self.lines_near_shares(fasta, index);
+        let cuts = self.lines_near_shares(fasta, index, record_before);
         cuts.len() > 1
             && at_once(&cuts, |part| {
                 let [from, to] = [part.start.0, part.end.0].map(|record| record as u64);
@@ -168,19 +168,24 @@ impl Cores {
         between(0, starts.into_iter().flatten(), fasta.len(), |one, next| one < next)
     }
 
-    /// Parts of a file with their parts of its index, by what the index says of where records are. Where it is wrong, so is the cut, and a part
-    /// is refused.
-    fn lines_near_shares(self, fasta: &[u8], index: &[u8]) -> Vec<Range<(usize, usize)>> {
-        let parts = self.parts(fasta.len());
+    /// Parts of a file with their parts of its index, by what the index says of where records are, and by a look back from a record's first base to
+    /// its start. Where the index is wrong, so is the cut, and a part is not accepted.
+    fn lines_near_shares(
+        self,
+        file: &[u8],
+        index: &[u8],
+        record_before: impl Fn(&[u8], usize) -> Option<usize>,
+    ) -> Vec<Range<(usize, usize)>> {
+        let parts = self.parts(file.len());
         if parts < 2 {
             return vec![];
         }
         let cut = |k: usize| {
-            let (line, position) = line_near(index, share(fasta.len(), k, parts))?;
-            Some((record_before(fasta, position)?, line))
+            let (line, position) = line_near(index, share(file.len(), k, parts))?;
+            Some((record_before(file, position)?, line))
         };
         let cuts = (1..parts).filter_map(cut);
-        between((0, 0), cuts, (fasta.len(), index.len()), |one, next| one.0 < next.0 && one.1 < next.1)
+        between((0, 0), cuts, (file.len(), index.len()), |one, next| one.0 < next.0 && one.1 < next.1)
     }
 }
 
@@ -313,10 +318,10 @@ fn line_start(index: &[u8], at: usize) -> usize {
     rest.iter().position(|byte| *byte == b'\n').map_or(index.len(), |lf| at + lf)
 }
 
-/// The position in the line that begins at an offset.
+/// The position in the line that begins at an offset: the third column, of lines of five and of six.
 fn position_in(index: &[u8], start: usize) -> Option<usize> {
     let line = index.get(start..)?;
     let line = line.get(..line_start(line, 1))?;
-    let row = entry::index_line(line);
-    if row.refusal == 0 { usize::try_from(row.position).ok() } else { None }
+    let digits = line.split(|byte| *byte == b'\t').nth(2)?;
+    str::from_utf8(digits).ok()?.parse().ok()
 }

@@ -238,7 +238,17 @@ fn filled(
 ///     "base 1 of record 1, or its quality, is not where its index line says: refused 23 (record 1, base 1)"
 /// );
 /// ```
+///
+/// Large files are checked on all cores, or on as many as [`use_threads`](crate::use_threads) says.
 pub fn check(fastq: &[u8], index: &[u8]) -> Result<(), Refusal> {
+    #[cfg(feature = "std")]
+    return crate::Cores::default().check_fastq(fastq, index);
+    #[cfg(not(feature = "std"))]
+    check_whole(fastq, index)
+}
+
+/// The same in one call.
+pub(crate) fn check_whole(fastq: &[u8], index: &[u8]) -> Result<(), Refusal> {
     let answer = entry::fastq_check(fastq, index);
     Refusal::of(Call::FastqCheck, answer.refusal, answer.first, answer.second)
 }

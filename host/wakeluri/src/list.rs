@@ -225,6 +225,16 @@ macro_rules! entry_points {
             /// of the file, with its numbers, except 8; then record by record 19, 9 to 12, 21, 22, and 23 for a base or
             /// else a quality; last 20.
             fn fastq_check(fastq: bytes, index: bytes) -> Answer;
+
+            /// How far a part of a FASTQ file is accepted with a part of its index, for a host that has several cores:
+            /// the records from `from` on that begin before `to`, each against its index line, from the line at place
+            /// `first` on, up to the first that is not accepted. Answers where it stopped: in `next` the offset in the
+            /// file, in `count` the place in the index. A record has to begin at `from` and its line at `first`: both
+            /// at 0, or where a part before it stopped. If such parts that go on from each other stop at the end of
+            /// both, `fastq_check` accepts the whole, wherever they are cut. Where they don't, ask `fastq_check`: it
+            /// tells why. What was walked from a guess counts only where the part before it stopped there. Refuses 1
+            /// for the whole file and the whole index, and no record.
+            fn fastq_check_part(fastq: bytes, from: number, to: number, index: bytes, first: number) -> Answer;
         }
     };
 }

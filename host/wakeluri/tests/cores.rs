@@ -1,22 +1,9 @@
 //! Several threads give what one gives: rows, refusals and verdicts, on made files with faults in every part.
 
+mod made;
+
+use made::{Chance, other_index};
 use wakeluri::{Cores, Refusal, Table, entry};
-
-/// Numbers by chance, the same at each run.
-struct Chance(u64);
-
-impl Chance {
-    fn below(&mut self, n: usize) -> usize {
-        self.0 ^= self.0 << 13;
-        self.0 ^= self.0 >> 7;
-        self.0 ^= self.0 << 17;
-        (self.0 % n as u64) as usize
-    }
-
-    fn once_in(&mut self, n: usize) -> bool {
-        self.below(n) == 0
-    }
-}
 
 /// A record: lines alike mostly, at times CR LF, blank lines, no bases, a '>' inside of a line, or a fault.
 fn record(chance: &mut Chance, number: usize, faults: bool) -> Vec<u8> {
@@ -51,28 +38,6 @@ fn file(chance: &mut Chance, faults: bool) -> Vec<u8> {
         text.pop();
     }
     text
-}
-
-/// An index that another program might have written, or one that is wrong.
-fn other_index(chance: &mut Chance, index: &[u8]) -> Vec<u8> {
-    let mut lines: Vec<Vec<u8>> = index.split_inclusive(|byte| *byte == b'\n').map(<[u8]>::to_vec).collect();
-    let at = chance.below(lines.len().max(1));
-    match chance.below(8) {
-        _ if lines.is_empty() => lines.push(b"s\t1\t3\t1\t2\n".to_vec()),
-        0 => drop(lines.remove(at)),
-        1 => lines.insert(at, lines[at].clone()),
-        2 => lines.reverse(),
-        3 => lines[at] = b"\n".to_vec(),
-        4 => {
-            let digit = lines[at].iter().rposition(u8::is_ascii_digit).unwrap_or(0);
-            lines[at][digit] = b'0' + chance.below(10) as u8;
-        }
-        // a CR before each LF, which reads the same; and no LF at the end
-        5 => lines.iter_mut().for_each(|line| drop(line.splice(line.len() - 1.., *b"\r\n"))),
-        6 => drop(lines.last_mut().and_then(Vec::pop)),
-        _ => (),
-    }
-    lines.concat()
 }
 
 type Rows<'f> = (Table<'f>, Option<Refusal>);

@@ -1,24 +1,11 @@
-//! Several threads give what one gives of a FASTQ file: rows and refusals, on made files with faults in every part, with lines of qualities that
+//! Several threads give what one gives of a FASTQ file: rows, refusals and verdicts, on made files with faults in every part, with lines of qualities that
 //! look like other lines, so that guesses of where a record begins are wrong too.
 
+mod made;
+
+use made::{Chance, other_index};
 use wakeluri::fastq::{self, Table};
 use wakeluri::{Cores, Refusal, entry};
-
-/// Numbers by chance, the same at each run.
-struct Chance(u64);
-
-impl Chance {
-    fn below(&mut self, n: usize) -> usize {
-        self.0 ^= self.0 << 13;
-        self.0 ^= self.0 >> 7;
-        self.0 ^= self.0 << 17;
-        (self.0 % n as u64) as usize
-    }
-
-    fn once_in(&mut self, n: usize) -> bool {
-        self.below(n) == 0
-    }
-}
 
 /// A record of one line of bases, or of several, at times with CR LF, or with a fault. Lines of qualities begin with '@' and '+' as often as not, and
 /// are at times the lines of another record.
@@ -85,10 +72,15 @@ fn in_parts(cores: Cores, fastq: &[u8]) -> (Vec<u8>, Option<[u64; 3]>) {
 #[test]
 fn as_one_thread() {
     let mut chance = Chance(0x9e37_79b9_7f4a_7c15);
-    let (mut refused, mut taken, mut cut) = (0, 0, 0);
+    let (mut refused, mut taken, mut cut, mut accepted) = (0, 0, 0, 0);
     for round in 0..1500 {
         let fastq = file(&mut chance, round % 2 == 0);
         let (rows, refusal) = whole(&fastq);
+        let index = rows.write_index().expect("an index of few rows");
+        let index = if chance.once_in(3) { index } else { other_index(&mut chance, &index) };
+        let answer = entry::fastq_check(&fastq, &index);
+        let verdict = (answer.refusal != 0).then_some([answer.refusal, answer.first, answer.second]);
+        accepted += usize::from(verdict.is_none());
         let count = if refusal.is_some() { &mut refused } else { &mut taken };
         *count += 1;
         for threads in [1, 2, 3, 8] {
@@ -99,10 +91,11 @@ fn as_one_thread() {
                 let (table, stopped) = cores.index_fastq_until_refused(&fastq);
                 assert_eq!((&table, numbers(stopped)), (&rows, refusal), "{}", told());
                 assert_eq!(in_parts(cores, &fastq), (rows.as_bytes().to_vec(), refusal), "{}", told());
+                assert_eq!(numbers(cores.check_fastq(&fastq, &index).err()), verdict, "{} {:?}", told(), index.escape_ascii());
             }
         }
     }
-    assert!(refused > 300 && taken > 300 && cut > 10_000, "{refused} {taken} {cut}");
+    assert!(refused > 300 && taken > 300 && accepted > 300 && cut > 10_000, "{refused} {taken} {accepted} {cut}");
 }
 
 /// A refusal in each of the records, so in every part.
@@ -117,6 +110,26 @@ fn a_fault_in_every_part() {
         for threads in [2, 3, 8, 100] {
             let cores = Cores::new(threads).with_parts_of(32);
             assert_eq!(cores.index_fastq_until_refused(bad.as_bytes()), one);
+        }
+    }
+}
+
+/// A wrong line for each of the records, so in every part; and a right index is accepted part by part.
+#[test]
+fn a_wrong_line_in_every_part() {
+    let record = |number: usize| format!("@r{number}\nACGTACGT\nACG\n+\n@IIIIIII\n@II\n");
+    let fastq: String = (0..40).map(record).collect();
+    let index = fastq::index(fastq.as_bytes()).and_then(|table| table.write_index()).expect("a good file");
+    let lines: Vec<&[u8]> = index.split_inclusive(|byte| *byte == b'\n').collect();
+    for threads in [2, 3, 8, 100] {
+        let cores = Cores::new(threads).with_parts_of(32);
+        assert_eq!(cores.check_fastq(fastq.as_bytes(), &index), Ok(()));
+        for wrong in 0..40 {
+            let mut other = lines.clone();
+            other.swap(wrong, (wrong + 1) % 40);
+            let refusal = cores.check_fastq(fastq.as_bytes(), &other.concat()).err();
+            let first = if wrong == 39 { 1 } else { wrong as u64 + 1 };
+            assert_eq!(numbers(refusal), Some([21, first, 0]));
         }
     }
 }

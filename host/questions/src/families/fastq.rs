@@ -1,4 +1,4 @@
-//! FASTQ: rows of a file, of a part of it and of an index text, one row, a line written, a region read, and the checker.
+//! FASTQ: rows of a file, of a part of it and of an index text, one row, a line written, a region read, and the checker, of a part too.
 
 use crate::family::{Family, Group};
 use crate::form::Value::{self, Bounds, Bytes, Number, Output, Rows, Table};
@@ -33,6 +33,9 @@ const FAMILIES: &[Family] = {
             &[2, 3, 4, 5, 6, 7, 9, 10, 11, 12, 19, 20, 21, 22, 23, 38, 39], Lacks,
             made(48, fastq_pair, &[every_fastq_check]),
         ),
+        // how far a part is accepted: from and to in the file, the first line's place in the index; where it stopped in both
+        asks("fqk", Entry("fastq_check_part"), &[Bytes, Number, Number, Bytes, Number], IfOk(&[Field("next"), Field("count")]), &[], Lacks,
+            made(64, fastq_parts_of_a_pair, &[every_fastq_check_part])),
     ]
 };
 
@@ -64,7 +67,12 @@ fqr x40730a41430a470a2b0a402b0a4a0a t1,1,3,3,2,3,10 1 0 2 - 1 x2e2e2e => ok 2 x2
 fqr x40730a41430a470a2b0a402b0a4a0a t1,1,3,3,2,3,10 1 0 2 4 1 x2e2e2e => no 17 3 0 0 x2e2e2e
 fqc x40730a41430a470a2b0a402b0a4a0a x7309330933093209330931300a => ok
 fqc x40730a41430a470a2b0a402b0a4a0a x73093309330932093309390a => no 23 1 1
-fqc x40730a410a2b0a490a4074 x740931 => no 5 11 0";
+fqc x40730a410a2b0a490a4074 x740931 => no 5 11 0
+fqk x40730a410a2b0a490a40740a430a2b0a490a 0 1 x730931093309310932093709740a 0 => ok 0 0
+fqk x40730a410a2b0a490a40740a430a2b0a490a 0 1 x73093109330931093209370a74093109313209310932093136 0 => ok 9 12
+fqk x40730a410a2b0a490a40740a430a2b0a490a 9 99 x73093109330931093209370a74093109313209310932093136 12 => ok 18 25
+fqk x40730a410a2b0a490a40740a430a2b0a490a 9 99 x73093109330931093209370a74093109313209310932093136 0 => ok 9 0
+fqk x40730a410a2b0a490a40740a430a2b0a490a 9 9 x 7 => ok 9 7";
 
 pub(super) const GROUP: Group = Group { families: FAMILIES, examples: EXAMPLES };
 
@@ -132,6 +140,27 @@ fn fastq_pair(chance: &mut Chance) -> Vec<Value> {
         _ => {}
     }
     vec![Bytes(sample.text), Bytes(index)]
+}
+
+/// A part of a file and of its index, from where a record and its line begin, mostly.
+fn fastq_parts_of_a_pair(chance: &mut Chance) -> Vec<Value> {
+    let mut sample = fastq_sample(chance);
+    let index = index_text_of(chance, &sample.text, &sample.rows, FASTQ_WORDS);
+    // a name begins behind its '@', and a line behind an LF
+    let records = sample.rows.iter().map(|row| row[0].saturating_sub(1)).chain([0]);
+    let lines = index.iter().enumerate().filter(|(_, byte)| **byte == b'\n').map(|(place, _)| place as u64 + 1);
+    let starts: Vec<(u64, u64)> = records.zip([0].into_iter().chain(lines)).collect();
+    match chance.below(6) {
+        0 => damage(chance, &mut sample.text),
+        1 => fastq_damage(chance, &mut sample.text),
+        _ => {}
+    }
+    let [mut from, to] = some_part(chance, &sample.text);
+    let [mut first, _] = some_part(chance, &index);
+    if !chance.once_in(5) {
+        (from, first) = chance.one_of(&starts);
+    }
+    vec![Bytes(sample.text), Number(from), Number(to), Bytes(index), Number(first)]
 }
 
 // ---- every short input, and numbers at the limits ----
@@ -236,4 +265,26 @@ fn every_fastq_check() -> Source {
         })
     });
     Box::new(few.chain(many))
+}
+
+/// Every part of a file of two records and of its index, and of one whose second line is wrong.
+fn every_fastq_check_part() -> Source {
+    const FILE: &[u8] = b"@s\nA\n+\nI\n@t\nC\n+\nI\n";
+    const INDEXES: [&[u8]; 4] = [
+        b"s\t1\t3\t1\t2\t7\nt\t1\t12\t1\t2\t16\n",
+        b"s\t1\t3\t1\t2\t7\nt\t1\t12\t1\t2\t15\n",
+        b"s\t1\t3\t1\t2\t7\r\nt\t1\t12\t1\t2\t16",
+        b"s\t1\t3\t1\t2\t7\nt\t1\t12\t1\t2\t16\n\n",
+    ];
+    const NUMBERS: [u64; 8] = [0, 1, 8, 9, 10, 18, 19, u64::MAX];
+    const PLACES: [u64; 9] = [0, 1, 11, 12, 13, 26, 27, 28, u64::MAX];
+    Box::new(INDEXES.into_iter().flat_map(|index| {
+        let parts = NUMBERS.into_iter().flat_map(|from| NUMBERS.map(|to| (from, to)));
+        parts
+            .flat_map(|(from, to)| PLACES.map(|first| (from, to, first)))
+            .map(|(from, to, first)| {
+                vec![Bytes(FILE.to_vec()), Number(from), Number(to), Bytes(index.to_vec()), Number(first)]
+            })
+            .collect::<Vec<_>>()
+    }))
 }

@@ -1,11 +1,11 @@
-//! FASTQ on several cores: parts of a file are indexed at the same time.
+//! FASTQ on several cores: parts of a file are indexed, or checked, at the same time.
 //!
 //! Where a record begins is known only from the record before it. So where a part begins is guessed, and what was found there counts only if
-//! the part before it stopped just there; else the part is indexed once more, from where that stopped. It is proved that parts that go on
-//! from each other give the whole, wherever they are cut: a guess is a matter of speed alone.
+//! the part before it stopped just there; else the part is indexed once more, from where that stopped, or the whole is checked by one call. It is proved
+//! that parts that go on from each other give the whole, wherever they are cut: a guess is a matter of speed alone.
 
-use super::{Cores, line_start};
-use crate::fastq::{ROW_BYTES, Table, index_whole, most_records};
+use super::{Cores, NEAR, at_once, line_start};
+use crate::fastq::{ROW_BYTES, Table, check_whole, index_whole, most_records};
 use crate::refusal::Call;
 use crate::table::rows_for_all;
 use crate::{Refusal, entry, pages};
@@ -99,6 +99,55 @@ impl Cores {
             joining.add(made);
         }
         joining.refusal
+    }
+
+    /// As [`fastq::check`](crate::fastq::check).
+    ///
+    /// ```
+    /// use wakeluri::Cores;
+    /// let reads = b"@s\nAC\n+\n!!\n@t\nGT\n+\n#$\n";
+    /// let cores = Cores::new(2).with_parts_of(8);
+    /// assert_eq!(cores.check_fastq(reads, b"s\t2\t3\t2\t3\t8\nt\t2\t14\t2\t3\t19\n"), Ok(()));
+    ///
+    /// let refusal = cores.check_fastq(reads, b"s\t2\t3\t2\t3\t8\nt\t2\t14\t2\t3\t18\n").unwrap_err();
+    /// assert_eq!([refusal.number, refusal.first, refusal.second], [23, 2, 1]);
+    /// ```
+    ///
+    /// # Errors
+    ///
+    /// Refuses what that refuses.
+    pub fn check_fastq(self, fastq: &[u8], index: &[u8]) -> Result<(), Refusal> {
+        if self.fastq_parts_accepted(fastq, index) {
+            return Ok(());
+        }
+        // a part doesn't tell why it stopped
+        check_whole(fastq, index)
+    }
+
+    /// Whether the file was cut into parts, and each stopped where the next begins, in the file and in the index, and the last at the end of both:
+    /// then the whole is accepted.
+    fn fastq_parts_accepted(self, fastq: &[u8], index: &[u8]) -> bool {
+        let cuts = self.lines_near_shares(fastq, index, definition_before);
+        cuts.len() > 1
+            && at_once(&cuts, |part| {
+                let [from, to] = [part.start.0, part.end.0].map(|record| record as u64);
+                let [first, last] = [part.start.1, part.end.1].map(|line| line as u64);
+                let answer = entry::fastq_check_part(fastq, from, to, index, first);
+                (answer.refusal, answer.next, answer.count) == (0, to, last)
+            })
+            .into_iter()
+            .all(|passed| passed)
+    }
+}
+
+/// The start of the definition line that ends where a record's first base lies.
+fn definition_before(fastq: &[u8], position: usize) -> Option<usize> {
+    let end = position.checked_sub(1)?;
+    let low = end.saturating_sub(NEAR);
+    let line = fastq.get(low..end)?;
+    match line.iter().rposition(|byte| *byte == b'\n') {
+        Some(lf) => Some(low + lf + 1),
+        None => (low == 0).then_some(0),
     }
 }
 
