@@ -107,8 +107,9 @@ pub fn read_row(text: &[u8], at: Cursor, line: u64) -> LineRow
     if text.len() <= a {
         return LineRow::End;
     }
-    let e = lines::ends::line_end(text, a);
-    let read = fastq_line::parse_line(&text[a..e], line);
+    let found = fastq_line::parse_at(text, a, line);
+    let e = found.end;
+    let read = found.read;
     match read {
         LineRead::Row(x) => {
             let y = x.row;

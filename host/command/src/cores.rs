@@ -1,13 +1,9 @@
 //! Work in parts, on all cores that may be used. Nothing is shared between two parts, so that the answers are the same however many cores
 //! there are.
 
-use std::ops::Range;
 use std::sync::atomic::{AtomicUsize, Ordering};
 use std::thread;
 use wakeluri::Cores;
-
-/// So many rows are a part.
-const ROWS: usize = 1 << 14;
 
 /// How many cores may be used.
 pub fn count() -> usize {
@@ -38,20 +34,14 @@ pub fn at_once<T: Send>(parts: usize, work: impl Fn(usize) -> T + Sync) -> Vec<T
     given.into_iter().map(|(_, given)| given).collect()
 }
 
-/// What a work gives for each part of so many rows, in their order.
-pub fn in_parts<T: Send>(rows: usize, work: impl Fn(Range<usize>) -> T + Sync) -> Vec<T> {
-    at_once(rows.div_ceil(ROWS), |part| work(part * ROWS..rows.min((part + 1) * ROWS)))
-}
-
 #[cfg(test)]
 mod tests {
     use super::*;
 
     #[test]
-    fn each_row_once_and_in_order() {
-        for rows in [0, 1, ROWS - 1, ROWS, ROWS + 1, 5 * ROWS + 7] {
-            let given: Vec<usize> = in_parts(rows, |part| part.collect::<Vec<_>>()).concat();
-            assert!(given.into_iter().eq(0..rows), "{rows}");
+    fn each_part_once_and_in_order() {
+        for parts in [0, 1, 2, 3, 100] {
+            assert!(at_once(parts, |part| part).into_iter().eq(0..parts), "{parts}");
         }
     }
 }

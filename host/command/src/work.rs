@@ -10,7 +10,7 @@ use crate::progress::Progress;
 use crate::scene::Scene;
 use crate::warning::Warning;
 use wakeluri::fastq::{Part, Table as Reads};
-use wakeluri::{Refusal, Table};
+use wakeluri::{Cores, Refusal, Table};
 
 /// The rule for indexing a file.
 #[derive(Clone, Copy, Debug, Eq, PartialEq)]
@@ -93,11 +93,25 @@ pub fn warn_of_no_bytes(file: &str, length: u64) {
 
 /// Whether an index is right for a file; if not, the first fault in words.
 pub fn check(fasta: &Input, index: &Input) -> Result<(), Failure> {
-    let file = fasta.bytes();
-    warn_of_nothing(fasta);
-    let progress = Progress::working("checking", &fasta.shown, file.len() as u64, fasta.is_mapped());
     let check = if fasta.is_fastq() { wakeluri::fastq::check } else { wakeluri::check };
-    let answer = check(file, index.bytes());
+    checked(fasta, index, || check(fasta.bytes(), index.bytes()))
+}
+
+/// The same of FASTQ. While a part's records are in a core's cache, `look` sees their rows; if the index is right, what that gives is given to
+/// `take`, in the order of the file.
+pub fn check_reads<'i, T: Send>(
+    fastq: &Input,
+    index: &'i Input,
+    look: impl Fn(Reads<'i>) -> T + Sync,
+    take: impl FnMut(T),
+) -> Result<(), Failure> {
+    checked(fastq, index, || Cores::default().check_fastq_in_parts(fastq.bytes(), index.bytes(), look, take))
+}
+
+fn checked(fasta: &Input, index: &Input, check: impl FnOnce() -> Result<(), Refusal>) -> Result<(), Failure> {
+    warn_of_nothing(fasta);
+    let progress = Progress::working("checking", &fasta.shown, fasta.bytes().len() as u64, fasta.is_mapped());
+    let answer = check();
     drop(progress);
     answer.map_err(|refusal| faults::not_accepted(fasta, index, refusal))
 }

@@ -143,7 +143,7 @@ impl Cores {
 
     /// Whether the file was cut into parts, and each was accepted with its part of the index: then the whole is.
     fn parts_accepted(self, fasta: &[u8], index: &[u8]) -> bool {
-        let cuts = self.lines_near_shares(fasta, index, record_before);
+        let cuts = lines_near_shares(self.parts(fasta.len()), fasta, index, record_before);
         cuts.len() > 1
             && at_once(&cuts, |part| {
                 let [from, to] = [part.start.0, part.end.0].map(|record| record as u64);
@@ -167,26 +167,25 @@ impl Cores {
         let starts = at_once(&shares, |share| record_near(fasta, share.start, most));
         between(0, starts.into_iter().flatten(), fasta.len(), |one, next| one < next)
     }
+}
 
-    /// Parts of a file with their parts of its index, by what the index says of where records are, and by a look back from a record's first base to
-    /// its start. Where the index is wrong, so is the cut, and a part is not accepted.
-    fn lines_near_shares(
-        self,
-        file: &[u8],
-        index: &[u8],
-        record_before: impl Fn(&[u8], usize) -> Option<usize>,
-    ) -> Vec<Range<(usize, usize)>> {
-        let parts = self.parts(file.len());
-        if parts < 2 {
-            return vec![];
-        }
-        let cut = |k: usize| {
-            let (line, position) = line_near(index, share(file.len(), k, parts))?;
-            Some((record_before(file, position)?, line))
-        };
-        let cuts = (1..parts).filter_map(cut);
-        between((0, 0), cuts, (file.len(), index.len()), |one, next| one.0 < next.0 && one.1 < next.1)
+/// So many parts of a file, at most, with their parts of its index, by what the index says of where records are, and by a look back from a record's
+/// first base to its start. Where the index is wrong, so is the cut, and a part is not accepted.
+fn lines_near_shares(
+    parts: usize,
+    file: &[u8],
+    index: &[u8],
+    record_before: impl Fn(&[u8], usize) -> Option<usize>,
+) -> Vec<Range<(usize, usize)>> {
+    if parts < 2 {
+        return vec![];
     }
+    let cut = |k: usize| {
+        let (line, position) = line_near(index, share(file.len(), k, parts))?;
+        Some((record_before(file, position)?, line))
+    };
+    let cuts = (1..parts).filter_map(cut);
+    between((0, 0), cuts, (file.len(), index.len()), |one, next| one.0 < next.0 && one.1 < next.1)
 }
 
 /// What a function gives of each part, on a thread each; where the system has no thread left, on this one.

@@ -62,6 +62,11 @@ fn numbers(refusal: Option<Refusal>) -> Option<[u64; 3]> {
     refusal.map(|refusal| [refusal.number, refusal.first, refusal.second])
 }
 
+/// The names and lengths of rows.
+fn names(rows: Table<'_>) -> Vec<(Vec<u8>, u64)> {
+    rows.records().map(|record| (record.name.to_vec(), record.length)).collect()
+}
+
 /// The parts that are taken, put together.
 fn in_parts(cores: Cores, fastq: &[u8]) -> (Vec<u8>, Option<[u64; 3]>) {
     let mut rows = vec![];
@@ -72,7 +77,7 @@ fn in_parts(cores: Cores, fastq: &[u8]) -> (Vec<u8>, Option<[u64; 3]>) {
 #[test]
 fn as_one_thread() {
     let mut chance = Chance(0x9e37_79b9_7f4a_7c15);
-    let (mut refused, mut taken, mut cut, mut accepted) = (0, 0, 0, 0);
+    let (mut refused, mut taken, mut cut, mut accepted, mut passed) = (0, 0, 0, 0, 0);
     for round in 0..1500 {
         let fastq = file(&mut chance, round % 2 == 0);
         let (rows, refusal) = whole(&fastq);
@@ -91,11 +96,27 @@ fn as_one_thread() {
                 let (table, stopped) = cores.index_fastq_until_refused(&fastq);
                 assert_eq!((&table, numbers(stopped)), (&rows, refusal), "{}", told());
                 assert_eq!(in_parts(cores, &fastq), (rows.as_bytes().to_vec(), refusal), "{}", told());
-                assert_eq!(numbers(cores.check_fastq(&fastq, &index).err()), verdict, "{} {:?}", told(), index.escape_ascii());
+                assert_eq!(
+                    numbers(cores.check_fastq(&fastq, &index).err()),
+                    verdict,
+                    "{} {:?}",
+                    told(),
+                    index.escape_ascii()
+                );
+                let (mut seen, mut parts) = (vec![], 0);
+                let checked = cores.check_fastq_in_parts(&fastq, &index, names, |part| {
+                    seen.extend(part);
+                    parts += 1;
+                });
+                assert_eq!(numbers(checked.err()), verdict, "{}", told());
+                let expected = if verdict.is_none() { names(rows.clone()) } else { vec![] };
+                assert_eq!(seen, expected, "{}", told());
+                passed += usize::from(parts > 1);
             }
         }
     }
-    assert!(refused > 300 && taken > 300 && accepted > 300 && cut > 10_000, "{refused} {taken} {accepted} {cut}");
+    assert!(refused > 300 && taken > 300 && cut > 10_000, "{refused} {taken} {cut}");
+    assert!(accepted > 300 && passed > 1000, "{accepted} {passed}");
 }
 
 /// A refusal in each of the records, so in every part.

@@ -2,17 +2,18 @@
 
 use crate::beside::{index_of, named_index, open_index};
 use crate::failure::Failure;
-use crate::input::{self, is_placeless, is_standard};
+use crate::input::{self, Input, is_placeless, is_standard};
 use crate::json::Object;
 use crate::letters::Odd;
 use crate::place::count;
 use crate::shelf::{self, Item, Named, Shelf, Work};
 use crate::twins;
-use crate::verbs::remarks::Remarks;
+use crate::verbs::remarks::{Glance, Remarks};
 use crate::words::{Common, report, said};
 use crate::work;
 use clap::ArgMatches;
 use std::path::Path;
+use wakeluri::fastq::Table;
 
 /// Checks one index, or those of a list of files.
 pub fn check(words: &ArgMatches, common: Common) -> Result<(), Failure> {
@@ -27,6 +28,22 @@ pub fn check(words: &ArgMatches, common: Common) -> Result<(), Failure> {
             Shelf { items: &items, passed_over, work: Work::Check, strict }.run(common, &one)
         }
     }
+}
+
+/// Checks an index with its FASTQ file, and looks at the records meanwhile; gives how many there are, and their bases.
+fn check_reads(fastq: &Input, index: &Input, strict: bool) -> Result<(u64, u64), Failure> {
+    let (mut records, mut bases, mut glances) = (0, 0, vec![]);
+    let look = |rows: Table<'_>| {
+        let some: u64 = rows.records().map(|record| record.length).sum();
+        (rows.len() as u64, some, Glance::at(fastq, &rows))
+    };
+    work::check_reads(fastq, index, look, |(count, some, glance)| {
+        records += count;
+        bases += some;
+        glances.push(glance);
+    })?;
+    Remarks::in_parts(fastq, glances).say(fastq, strict)?;
+    Ok((records, bases))
 }
 
 /// Checks an index with its file; gives the line that says so.
@@ -44,12 +61,10 @@ fn check_one(file: &Path, index: Option<&Path>, strict: bool, common: Common) ->
     }
     let fasta = common.open(file, common.how)?;
     let index = open_index(&index, &fasta, common)?;
-    work::check(&fasta, &index)?;
     let (records, bases) = if fasta.is_fastq() {
-        let rows = work::read_reads(&fasta, &index)?;
-        Remarks::of(&fasta, &rows).say(&fasta, strict)?;
-        (rows.len() as u64, rows.records().map(|record| record.length).sum())
+        check_reads(&fasta, &index, strict)?
     } else {
+        work::check(&fasta, &index)?;
         Odd::of_file(fasta.bytes()).tell(&fasta, strict)?;
         let rows = work::read_index(&fasta, &index)?;
         twins::warn(&fasta.shown, &twins::of(|| rows.records().map(|record| record.name)));

@@ -4,8 +4,8 @@
 //! the part before it stopped just there; else the part is indexed once more, from where that stopped, or the whole is checked by one call. It is proved
 //! that parts that go on from each other give the whole, wherever they are cut: a guess is a matter of speed alone.
 
-use super::{Cores, NEAR, at_once, line_start};
-use crate::fastq::{ROW_BYTES, Table, check_whole, index_whole, most_records};
+use super::{Cores, LIMIT, NEAR, line_start, lines_near_shares};
+use crate::fastq::{ROW_BYTES, Table, check_whole, index_whole, most_records, read_index};
 use crate::refusal::Call;
 use crate::table::rows_for_all;
 use crate::{Refusal, entry, pages};
@@ -117,27 +117,106 @@ impl Cores {
     ///
     /// Refuses what that refuses.
     pub fn check_fastq(self, fastq: &[u8], index: &[u8]) -> Result<(), Refusal> {
-        if self.fastq_parts_accepted(fastq, index) {
+        if self.passed_parts(fastq, index, |_| Some(())).is_some() {
             return Ok(());
         }
         // a part doesn't tell why it stopped
         check_whole(fastq, index)
     }
 
-    /// Whether the file was cut into parts, and each stopped where the next begins, in the file and in the index, and the last at the end of both:
-    /// then the whole is accepted.
-    fn fastq_parts_accepted(self, fastq: &[u8], index: &[u8]) -> bool {
-        let cuts = self.lines_near_shares(fastq, index, definition_before);
-        cuts.len() > 1
-            && at_once(&cuts, |part| {
-                let [from, to] = [part.start.0, part.end.0].map(|record| record as u64);
-                let [first, last] = [part.start.1, part.end.1].map(|line| line as u64);
-                let answer = entry::fastq_check_part(fastq, from, to, index, first);
-                (answer.refusal, answer.next, answer.count) == (0, to, last)
-            })
-            .into_iter()
-            .all(|passed| passed)
+    /// Checks a FASTQ file in parts, which are much smaller than the file: each is in the cache while `work` looks at the rows of its index lines, on the
+    /// thread that checked it. If all is accepted, what that gives is given to `take`, in the order of the file.
+    ///
+    /// ```
+    /// use wakeluri::Cores;
+    /// let reads = b"@s\nAC\n+\n!!\n@t\nGT\n+\n#$\n";
+    /// let index = b"s\t2\t3\t2\t3\t8\nt\t2\t14\t2\t3\t19\n";
+    /// let mut bases = 0;
+    /// Cores::new(2).with_parts_of(8).check_fastq_in_parts(
+    ///     reads,
+    ///     index,
+    ///     |part| part.records().map(|record| record.length).sum::<u64>(),
+    ///     |some| bases += some,
+    /// )?;
+    /// assert_eq!(bases, 4);
+    /// # Ok::<(), wakeluri::Refusal>(())
+    /// ```
+    ///
+    /// # Errors
+    ///
+    /// Refuses what [`fastq::check`](crate::fastq::check) refuses, and gives nothing then.
+    pub fn check_fastq_in_parts<'i, T: Send>(
+        self,
+        fastq: &[u8],
+        index: &'i [u8],
+        work: impl Fn(Table<'i>) -> T + Sync,
+        take: impl FnMut(T),
+    ) -> Result<(), Refusal> {
+        let rows = |lines: Range<usize>| read_index(index.get(lines)?).ok();
+        let passed = self.passed_parts(fastq, index, |lines| rows(lines).map(&work));
+        let given = match passed {
+            Some(given) => given,
+            None => {
+                check_whole(fastq, index)?;
+                vec![work(read_index(index)?)]
+            }
+        };
+        given.into_iter().for_each(take);
+        Ok(())
     }
+
+    /// What `work` gives of the lines of each part, if the file was cut into parts, and each stopped where the next begins, in the file and in the index,
+    /// and the last at the end of both: then the whole is accepted.
+    fn passed_parts<T: Send>(
+        self,
+        fastq: &[u8],
+        index: &[u8],
+        work: impl Fn(Range<usize>) -> Option<T> + Sync,
+    ) -> Option<Vec<T>> {
+        let threads = self.threads.min(fastq.len() / self.worth);
+        if threads < 2 || fastq.len() as u64 > LIMIT {
+            return None;
+        }
+        let cuts = lines_near_shares(fastq.len() / (self.worth / 2).max(1), fastq, index, definition_before);
+        if cuts.len() < 2 {
+            return None;
+        }
+        in_turns(&cuts, threads, |part| {
+            let [from, to] = [part.start.0, part.end.0].map(|record| record as u64);
+            let [first, last] = [part.start.1, part.end.1].map(|line| line as u64);
+            let answer = entry::fastq_check_part(fastq, from, to, index, first);
+            let passed = (answer.refusal, answer.next, answer.count) == (0, to, last);
+            passed.then(|| work(part.start.1..part.end.1)).flatten()
+        })
+    }
+}
+
+/// What a function gives of each part, on so many threads, one part after another; nothing as soon as it gives nothing of one.
+fn in_turns<P: Sync, T: Send>(parts: &[P], threads: usize, work: impl Fn(&P) -> Option<T> + Sync) -> Option<Vec<T>> {
+    let given = Mutex::new(parts.iter().map(|_| None).collect::<Vec<Option<T>>>());
+    let next = AtomicUsize::new(0);
+    let own = || {
+        loop {
+            let number = next.fetch_add(1, Ordering::Relaxed);
+            let Some(part) = parts.get(number) else { return };
+            let one = work(part);
+            if one.is_none() {
+                // no part is asked for any more
+                next.store(parts.len(), Ordering::Relaxed);
+            }
+            if let Some(place) = locked(&given).get_mut(number) {
+                *place = one;
+            }
+        }
+    };
+    thread::scope(|scope| {
+        for _ in 1..threads {
+            // where the system has no thread left, there are fewer
+            let _ = thread::Builder::new().spawn_scoped(scope, own);
+        }
+        own();
+    });
+    given.into_inner().unwrap_or_else(PoisonError::into_inner).into_iter().collect()
 }
 
 /// The start of the definition line that ends where a record's first base lies.

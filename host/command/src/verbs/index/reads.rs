@@ -31,7 +31,7 @@ impl Part {
         };
         Self {
             lines: index_text::lines(0..rows.len(), write),
-            glance: Glance::at(fastq, rows, 0..rows.len()),
+            glance: Glance::at(fastq, rows),
             records: rows.len() as u64,
             bases: rows.records().map(|record| record.length).sum(),
         }
