@@ -98,21 +98,23 @@ const FILES = {
         return { simd: taken === 0 };
     },
 
-    // Lets the browser compile the long loops well before a file comes: some run a loop until its end as they compiled it at first, in haste.
+    // Lets the browser compile the long loops well before a file comes: some run a loop until its end as they compiled it at first, in haste. Files of
+    // 4 MiB and more have loops of their own (`lines::abreast`), so there are two files.
     warm() {
         const { proved } = now;
         return proved.using(() => {
-            const lines = 17000;
-            const text = new Uint8Array(3 + 61 * lines).fill(65);
-            text.set([62, 115, 10]);
-            for (let k = 1; k <= lines; k++) text[2 + 61 * k] = 10;
-            const [file, index] = [proved.lend(text), proved.lend(utf8.encode(`s\t${60 * lines}\t3\t60\t61\n`))];
-            const table = proved.room(ROW);
-            const until = performance.now() + 200;
-            for (let k = 0; k < 20 && performance.now() < until; k++) {
-                proved.call("check", file, index);
-                proved.call("index_complete", file, table);
-                proved.call("feed_piece", proved.call("feed_start", 1n), file, table);
+            for (const lines of [17_000, 70_000]) {
+                const text = new Uint8Array(3 + 61 * lines).fill(65);
+                text.set([62, 115, 10]);
+                for (let k = 1; k <= lines; k++) text[2 + 61 * k] = 10;
+                const [file, index] = [proved.lend(text), proved.lend(utf8.encode(`s\t${60 * lines}\t3\t60\t61\n`))];
+                const table = proved.room(ROW);
+                const until = performance.now() + 150;
+                for (let k = 0; k < 20 && performance.now() < until; k++) {
+                    proved.call("check", file, index);
+                    proved.call("index_complete", file, table);
+                    proved.call("feed_piece", proved.call("feed_start", 1n), file, table);
+                }
             }
             return {};
         });
