@@ -218,6 +218,29 @@ static void fastq_calls(void) {
     MUST(a.refusal == WAKELURI_PAST_LENGTH && a.first == 6);
 }
 
+/* Records begin at 0 and 15 of `fasta`, and at 0 and 25 of `reads`. */
+static void calls_on_parts(void) {
+    static const char reads[] = "@s one\nACGT\nAC\n+\n@III\n+!\n@t\nG\n+\n!";
+    static const char five[] = "s\t6\t7\t4\t5\nt\t2\t18\t2\t3\n", six[] = "s\t6\t7\t4\t5\t17\nt\t1\t28\t1\t2\t32\n";
+    uint8_t table[2 * ROW_BYTES];
+    struct wakeluri_answer a = wakeluri_index_part(BYTES(fasta), 1, UINT64_MAX, 1, table, sizeof table);
+    MUST(a.refusal == 0 && a.count == 1 && table[0] == 16);
+    a = wakeluri_check_part(BYTES(fasta), 0, 1, BYTES(five), 0, 1);
+    MUST(a.refusal == 0);
+    a = wakeluri_check_part(BYTES(fasta), 1, UINT64_MAX, BYTES(five), 0, UINT64_MAX);
+    MUST(a.refusal == WAKELURI_NAME_DIFFERS && a.first == 1);
+    a = wakeluri_fastq_index_part(BYTES(reads), 0, 1, table, sizeof table);
+    MUST(a.refusal == 0 && a.count == 1 && a.next == 25 && table[0] == 1);
+    a = wakeluri_fastq_index_part(BYTES(reads), a.next, UINT64_MAX, table, sizeof table);
+    MUST(a.refusal == 0 && a.count == 1 && a.next == 33 && table[0] == 26);
+    a = wakeluri_fastq_check_part(BYTES(reads), 0, 1, BYTES(six), 0);
+    MUST(a.refusal == 0 && a.next == 25 && a.count == 13);
+    a = wakeluri_fastq_check_part(BYTES(reads), a.next, UINT64_MAX, BYTES(six), a.count);
+    MUST(a.refusal == 0 && a.next == 33 && a.count == 27);
+    a = wakeluri_fastq_check_part(BYTES(reads), 25, UINT64_MAX, BYTES(six), 0);
+    MUST(a.refusal == 0 && a.next == 25 && a.count == 0);
+}
+
 /* Refusal 1: an input one byte over the limit, which is never looked at. Passed over where so much room for addresses isn't to
  * be had. */
 static void beyond_the_limit(void) {
@@ -268,6 +291,12 @@ static void beyond_the_limit(void) {
     REFUSED(wakeluri_find_primer(out, 0, big, n, 0));
     REFUSED(wakeluri_check(big, n, out, 0));
     REFUSED(wakeluri_check(out, 0, big, n));
+    REFUSED(wakeluri_index_part(big, n, 0, 1, 1, table, 0));
+    REFUSED(wakeluri_check_part(big, n, 0, 1, out, 0, 0, 1));
+    REFUSED(wakeluri_check_part(out, 0, 0, 1, big, n, 0, 1));
+    REFUSED(wakeluri_fastq_index_part(big, n, 0, 1, table, 0));
+    REFUSED(wakeluri_fastq_check_part(big, n, 0, 1, out, 0, 0));
+    REFUSED(wakeluri_fastq_check_part(out, 0, 0, 1, big, n, 0));
     REFUSED(wakeluri_fastq_index(big, n, table, 0));
     REFUSED(wakeluri_fastq_read_index(big, n, table, 0));
     REFUSED(wakeluri_fastq_read_line(big, n));
@@ -431,6 +460,7 @@ int main(int count, char **words) {
     }
     ordinary_calls();
     fastq_calls();
+    calls_on_parts();
     levels();
     nothing_at_null();
     around_the_calls();

@@ -40,6 +40,19 @@ fn calls_from_c_are_answered() {
     }
 }
 
+/// The program in C leaves no call out.
+#[test]
+fn every_call_is_made_from_c() {
+    let read = |path: &str| std::fs::read_to_string(root().join(path)).expect("a file of the repository");
+    let (header, program) = (read("include/wakeluri.h"), read("host/wakeluri/tests/header.c"));
+    // a name stands before its '('
+    let named =
+        |text: &str| text.rsplit(|c: char| !c.is_ascii_alphanumeric() && c != '_').next().unwrap_or("").to_owned();
+    let calls: Vec<String> = header.split('(').map(named).filter(|name| name.starts_with("wakeluri_")).collect();
+    let left_out: Vec<&String> = calls.iter().filter(|call| !program.contains(&format!("{call}("))).collect();
+    assert!(calls.len() > 40 && left_out.is_empty(), "{}: {left_out:?}", calls.len());
+}
+
 /// The refusals by name are those of Rust, and the version is the crate's.
 #[test]
 fn constants_of_the_header_are_those_of_rust() {
