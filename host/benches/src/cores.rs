@@ -1,6 +1,6 @@
-//! A file of 24 records, as of a genome's chromosomes, on one core and on more: indexing and checking by the library, whole calls and parts.
+//! A file of 24 records, as of a genome's chromosomes, and FASTQ of short reads, on one core and on more: indexing and checking by the library.
 
-use crate::files::{Lines, Numbers};
+use crate::files::{self, Lines, Numbers};
 use crate::measure::median;
 use crate::report::{Goal, number};
 use crate::{MEGABYTE, Plan};
@@ -9,7 +9,7 @@ use std::hint::black_box;
 use std::time::Instant;
 use wakeluri::Cores;
 
-/// The goal: so many times as fast on two cores.
+/// The goal of a genome: so many times as fast on two cores.
 const GOAL: f64 = 1.8;
 
 /// Records of a genome.
@@ -21,6 +21,7 @@ pub struct Cored {
     bytes: usize,
     threads: Vec<usize>,
     seconds: Vec<f64>,
+    goal: Option<f64>,
 }
 
 /// All of it.
@@ -42,12 +43,26 @@ pub fn run(plan: &Plan) -> AllCored {
         assert_eq!(black_box(table).len(), RECORDS, "the same rows");
     };
     let checked = |n: usize| Cores::new(n).check(black_box(&file), black_box(&index)).expect("a good index");
+    let reads = files::short_reads(plan.size(200 * MEGABYTE, MEGABYTE) / 355);
+    let lines = wakeluri::fastq::index(&reads).and_then(|table| table.write_index()).expect("good reads");
+    let records = lines.iter().filter(|byte| **byte == b'\n').count();
+    let reads_indexed = |n: usize| {
+        let (table, refusal) = Cores::new(n).index_fastq_until_refused(black_box(&reads));
+        assert_eq!((black_box(table).len(), refusal), (records, None), "the same rows");
+    };
+    let reads_checked =
+        |n: usize| Cores::new(n).check_fastq(black_box(&reads), black_box(&lines)).expect("a good index");
     let rounds = plan.size(11, 3);
     let mut told = AllCored::default();
-    let works: [(&'static str, &dyn Fn(usize)); 2] = [("index", &indexed), ("check", &checked)];
-    for (work, done) in works {
+    let works: [(&'static str, usize, Option<f64>, &dyn Fn(usize)); 4] = [
+        ("index, 24 records in lines of 60", file.len(), Some(GOAL), &indexed),
+        ("check, 24 records in lines of 60", file.len(), Some(GOAL), &checked),
+        ("index, FASTQ of short reads", reads.len(), None, &reads_indexed),
+        ("check, FASTQ of short reads", reads.len(), None, &reads_checked),
+    ];
+    for (work, bytes, goal, done) in works {
         let seconds = in_turns(rounds, &threads, done);
-        told.0.push(Cored { work, bytes: file.len(), threads: threads.clone(), seconds });
+        told.0.push(Cored { work, bytes, threads: threads.clone(), seconds, goal });
     }
     told
 }
@@ -75,12 +90,14 @@ impl Cored {
 impl AllCored {
     /// The goals.
     pub fn goals(&self) -> Vec<Goal> {
-        let goal = |cored: &Cored| Goal {
-            of: format!("{}, {RECORDS} records of {} bytes, two threads: times one", cored.work, number(cored.bytes)),
-            goal: GOAL,
-            found: cored.times(1),
+        let goal = |cored: &Cored| {
+            Some(Goal {
+                of: format!("{}, {} bytes, two threads: times one", cored.work, number(cored.bytes)),
+                goal: cored.goal?,
+                found: cored.times(1),
+            })
         };
-        self.0.iter().map(goal).collect()
+        self.0.iter().filter_map(goal).collect()
     }
 }
 
@@ -89,10 +106,7 @@ impl fmt::Display for AllCored {
         if self.0.is_empty() {
             return Ok(());
         }
-        writeln!(
-            f,
-            "\n| {RECORDS} records, lines of 60 | bytes | threads | times one thread | GB/s |\n|---|---|---|---|---|"
-        )?;
+        writeln!(f, "\n| on several cores | bytes | threads | times one thread | GB/s |\n|---|---|---|---|---|")?;
         for cored in &self.0 {
             for (place, threads) in cored.threads.iter().enumerate() {
                 let speed = cored.bytes as f64 / cored.seconds[place] / 1e9;
