@@ -19,7 +19,7 @@ const WORTH: usize = 2 << 20;
 /// No file may be longer.
 const LIMIT: u64 = 1 << 40;
 
-/// How far before its first base the definition line of a record is looked for.
+/// How far before its first base the definition line of a record is looked for, and how long a line of an index may be where a file is cut by it.
 const NEAR: usize = 1 << 16;
 
 /// How many threads are used where nothing else is said; 0 for as many as there are cores.
@@ -180,11 +180,9 @@ fn lines_near_shares(
     if parts < 2 {
         return vec![];
     }
-    let cut = |k: usize| {
-        let (line, position) = line_near(index, share(file.len(), k, parts))?;
-        Some((record_before(file, position)?, line))
-    };
-    let cuts = (1..parts).filter_map(cut);
+    // an index that can't be read near one share is not searched for the others
+    let near = (1..parts).map(|k| line_near(index, share(file.len(), k, parts))).collect::<Option<Vec<_>>>();
+    let cuts = near.into_iter().flatten().filter_map(|(line, position)| Some((record_before(file, position)?, line)));
     between((0, 0), cuts, (file.len(), index.len()), |one, next| one.0 < next.0 && one.1 < next.1)
 }
 
@@ -286,7 +284,7 @@ fn line_near(index: &[u8], offset: usize) -> Option<(usize, usize)> {
     let mut before = None;
     while low < high {
         let middle = low + (high - low) / 2;
-        let start = line_start(index, middle);
+        let start = near_line_start(index, middle)?;
         if start >= high {
             // no line begins in the upper half
             high = middle;
@@ -317,10 +315,16 @@ fn line_start(index: &[u8], at: usize) -> usize {
     rest.iter().position(|byte| *byte == b'\n').map_or(index.len(), |lf| at + lf)
 }
 
+/// The same, if no line is long: what has no LF far and wide is no index.
+fn near_line_start(index: &[u8], at: usize) -> Option<usize> {
+    let near = index.get(..index.len().min(at.saturating_add(NEAR)))?;
+    let start = line_start(near, at);
+    (start < near.len() || near.len() == index.len()).then_some(start)
+}
+
 /// The position in the line that begins at an offset: the third column, of lines of five and of six.
 fn position_in(index: &[u8], start: usize) -> Option<usize> {
-    let line = index.get(start..)?;
-    let line = line.get(..line_start(line, 1))?;
+    let line = index.get(start..near_line_start(index, start + 1)?)?;
     let digits = line.split(|byte| *byte == b'\t').nth(2)?;
     str::from_utf8(digits).ok()?.parse().ok()
 }

@@ -155,6 +155,20 @@ fn a_wrong_line_in_every_part() {
     }
 }
 
+/// What is no index at all is refused as by one call, and soon: no line of it is searched for far and wide.
+#[test]
+fn no_index_at_all() {
+    let reads: String = (0..100_000).map(|number| format!("@r{number}\nACGTACGT\n+\nIIIIIIII\n")).collect();
+    let one_line = vec![b'A'; 8 << 20];
+    for index in [&one_line[..], b"", b"\n", reads.as_bytes()] {
+        let started = std::time::Instant::now();
+        let refusal = Cores::new(8).with_parts_of(1000).check_fastq(reads.as_bytes(), index).err();
+        let answer = entry::fastq_check(reads.as_bytes(), index);
+        assert_eq!(numbers(refusal), Some([answer.refusal, answer.first, answer.second]));
+        assert!(started.elapsed().as_secs() < 20, "{:?}", started.elapsed());
+    }
+}
+
 /// Records that are longer than parts, and many short ones: a part's table grows, and goes on where it was full.
 #[test]
 fn long_records_and_many() {
