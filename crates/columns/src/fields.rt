@@ -362,10 +362,10 @@ fn whole_by_16(name: &[u8]) -> bool
 fn whole_name(name: &[u8]) -> bool
     ensures { λ r. ⌜ (r ≡ true → firstWhere splits (now (name .entry)) ≡ length (now (name .entry))) ⌝ }
 {
-    if name.len() < 4 {
-        return false;
-    }
     if name.len() < 8 {
+        if name.len() < 4 {
+            return false;
+        }
         return whole_by_4(name);
     }
     if name.len() <= 16 {
