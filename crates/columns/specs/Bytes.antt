@@ -5,9 +5,9 @@ use mathlib.Core.List.{List, [], _∷_, _++_, append-assoc}
 use mathlib.Core.Bool.{Bool, true, false, cond}
 use native.Mathlib.Omega.{arith}
 use native.Mathlib.Numerals.{add-one}
-use native.Mathlib.Nat.{add-zero, zero-add, add-assoc, suc-add, add-suc}
+use native.Mathlib.Nat.{add-zero, zero-add, add-assoc}
 use lib.ListN.{length, take, drop, getD, set, length-append, length-drop, take-append-drop, drop-of-length-le}
-use lib.Seq.{drop-cons, take-all, length-take-le, take-suc, set-at, set-split, append-snoc, take-at, drop-append-add, drop-drop, take-length, paste}
+use lib.Seq.{drop-cons, take-all, length-take-le, set-split, take-at, drop-append-add, drop-drop, take-length, paste}
 use lib.Dec.{eqb}
 
 -- some bytes, with s from a place on
@@ -56,14 +56,6 @@ module _ (out : List ℕ) (at : ℕ) (s : List ℕ) where
   pub overlaid-length : at + length s ≤ length out → length (overlaid out at s) ≡ length out
   unfolding overlaid
   overlaid-length h = simp (length-append, length-drop) (omega (arith, length-take-le at out (omega arith)))
-
--- one byte more in front
-pub overlaid-front : (out : List ℕ) (at next b : ℕ) (s : List ℕ) → next ≡ suc at → at < length out
-    → set (overlaid out next s) at b ≡ overlaid out at (b ∷ s)
-unfolding overlaid
-overlaid-front out at next b s e h =
-    rw (e, take-suc out at 0 h, append-snoc, suc-add, add-suc)
-    (set-at (take at out) (getD out at 0) (s ++ drop (suc (at + length s)) out) b at (length-take-le at out (omega arith)))
 
 -- nothing laid over changes nothing
 pub overlaid-none : (out : List ℕ) (at : ℕ) → out ≡ overlaid out at []

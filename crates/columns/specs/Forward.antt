@@ -225,18 +225,10 @@ module _ (n : ℕ) (out : List ℕ) (at : ℕ) where
   put-4 a b = record { place = omega (arith, width-4 a b); holds = rw (all-digits n 4 (sym (width-4 a b))) }
 
   -- what is left without the last k digits, and then they
-  pub put-part : (k middle : ℕ) (front after : List ℕ) → 10 ^ k ≤ n → NumberPut (n / 10 ^ k) out middle at front → after ≡ overlaid front middle (digits k n) → at ≤ length out
-      → NumberPut n out (middle + k) at after
-  put-part k middle front after h p e l =
+  pub put-part : (k middle end : ℕ) (front after : List ℕ) → 10 ^ k ≤ n → NumberPut (n / 10 ^ k) out middle at front → after ≡ overlaid front middle (digits k n) → at ≤ length out
+      → end ≡ middle + k → NumberPut n out end at after
+  put-part k middle end front after h p e l q =
       record {
         place = omega (arith, more-digits k n h, p .place);
-        holds =
-            rw (e, p .holds, decimal-split k n h)
-            (overlaid-more out at middle (decimalOf (n / 10 ^ k)) (digits k n) l (sym (p .place)));
+        holds = rw (e, p .holds, decimal-split k n h) (overlaid-more out at middle (decimalOf (n / 10 ^ k)) (digits k n) l (sym (p .place)));
       }
-
-  -- the place was counted from the end
-  pub put-counted : (end first : ℕ) (after : List ℕ) → NumberPut n out end first after → end ≡ at + length (decimalOf n) → NumberPut n out end at after
-  put-counted end first after p e =
-      let z : first ≡ at = omega (arith, p .place) in
-      record { place = sym e; holds = rw z at (p .holds) }

@@ -4,7 +4,7 @@ use crate::Number;
 ghost use mathlib.Core.Path.{_≡_};
 ghost use mathlib.Core.Bool.{cond};
 ghost use Prim.Native.Nat.{_+_, _*_, _/_, _%_, _^_, _≤_, _<_};
-ghost use lib.ListN.{length, set};
+ghost use lib.ListN.{length};
 ghost use lib.Dec.{ltb};
 ghost use Rattle.columns.specs.Bytes.{overlaid};
 ghost use Rattle.columns.specs.Decimal.{digitsOf, numberOf, plainNumber, digits, decimalOf, NumberPut};
@@ -110,37 +110,6 @@ pub(crate) fn digit_count(n: u64) -> usize
         w += 4;
     }
     w + at_least(m, 10) + at_least(m, 100) + at_least(m, 1000)
-}
-
-// Writes two digits from place `at` on.
-fn put_pair(n: u64, out: &mut [u8], at: usize)
-    requires { ⌜ (n < 100) × (at + 2 ≤ length (now out)) ⌝ }
-    ensures { λ _. ⌜ now (out .exit) ≡ set (set (now (out .entry)) (at + 1) (48 + n % 10)) at (48 + n / 10) ⌝ }
-{
-    out[at + 1] = (ZERO + n % 10) as u8;
-    out[at] = (ZERO + n / 10) as u8;
-}
-
-// Writes n in front of place `end`, from its last digits to its first, two at a time; and tells the place of the first.
-fn put_before(n: u64, out: &mut [u8], end: usize) -> usize
-    requires { ⌜ (length (decimalOf n) ≤ end) × (end ≤ length (now out)) ⌝ }
-    ensures { λ r. ⌜ NumberPut n (now (out .entry)) end r (now (out .exit)) ⌝ }
-{
-    let mut m = n;
-    let mut place = end;
-    while 100 <= m {
-        place -= 2;
-        put_pair(m % 100, out, place);
-        m = m / 100;
-    }
-    if m < 10 {
-        place -= 1;
-        out[place] = (ZERO + m) as u8;
-        return place;
-    }
-    place -= 2;
-    put_pair(m, out, place);
-    place
 }
 
 // The tenth of a number below 100, without a division: of 99 it is 10,197 / 1,024, which is 9.
@@ -250,7 +219,7 @@ fn put_few(n: u64, out: &mut [u8], at: usize) -> usize
 }
 
 // Writes a number from place `at` on, and tells the place behind it: its first digits, and then four or eight at once. 1,234,567 is 123 and
-// 4567. Those of 13 digits and more are few: their digits are counted first, and they are written from the last.
+// 4567. It has no loop, so that it becomes a part of its caller's.
 pub(crate) fn put_number(n: u64, out: &mut [u8], at: usize) -> usize
     requires { ⌜ at + length (decimalOf n) ≤ length (now out) ⌝ }
     ensures { λ r. ⌜ NumberPut n (now (out .entry)) r at (now (out .exit)) ⌝ }
@@ -263,12 +232,20 @@ pub(crate) fn put_number(n: u64, out: &mut [u8], at: usize) -> usize
         put_four(n % 10000, out, middle);
         return middle + 4;
     }
-    if n < 1000000000000 {
-        let middle = put_few(n / 100000000, out, at);
+    let front = n / 100000000;
+    if front < 10000 {
+        let middle = put_few(front, out, at);
         put_eight(n % 100000000, out, middle);
         return middle + 8;
     }
-    let end = at + digit_count(n);
-    put_before(n, out, end);
-    end
+    if front < 100000000 {
+        let middle = put_few(front / 10000, out, at);
+        put_four(front % 10000, out, middle);
+        put_eight(n % 100000000, out, middle + 4);
+        return middle + 12;
+    }
+    let middle = put_few(front / 100000000, out, at);
+    put_eight(front % 100000000, out, middle);
+    put_eight(n % 100000000, out, middle + 8);
+    middle + 16
 }
