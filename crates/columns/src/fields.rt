@@ -53,7 +53,7 @@ fn either_in_8(l: &[u8], i: usize, a: u8, b: u8) -> bool
     any
 }
 
-// The same of 4 bytes, and of 16.
+// The same of 4 bytes. The size has to be constant, and Rattle has no generics: hence one function for each.
 fn either_in_4(l: &[u8], i: usize, a: u8, b: u8) -> bool
     requires { ⌜ i + 4 ≤ length (now l) ⌝ }
     ensures { λ r. ⌜ r ≡ among (either a b) (take 4 (drop i (now (l .entry)))) ⌝ }
@@ -65,6 +65,7 @@ fn either_in_4(l: &[u8], i: usize, a: u8, b: u8) -> bool
     any
 }
 
+// The same of 16 bytes.
 fn either_in_16(l: &[u8], i: usize, a: u8, b: u8) -> bool
     requires { ⌜ i + 16 ≤ length (now l) ⌝ }
     ensures { λ r. ⌜ r ≡ among (either a b) (take 16 (drop i (now (l .entry)))) ⌝ }
