@@ -2,7 +2,7 @@
 use Prim.Native.Nat.{ℕ, zero, suc, _+_, _-_, _≤_, _<_}
 use mathlib.Core.Path.{_≡_, refl, sym, ap, _∙_}
 use mathlib.Core.List.{List, [], _∷_, _++_}
-use mathlib.Core.Bool.{Bool, true, false, cond, _||_, true≢false}
+use mathlib.Core.Bool.{Bool, true, false, cond, not, _||_, true≢false}
 use native.Mathlib.Omega.{arith}
 use native.Mathlib.Numerals.{add-one}
 use native.Mathlib.Nat.{zero-add}
@@ -105,6 +105,19 @@ module _ (p : ℕ → Bool) where
         let k : a + j ≡ i = omega arith in
         let here : drop j (drop a s) ≡ drop i s = drop-drop j a s ∙ ap (λ (x : ℕ). drop x s) k in
         omega (arith, clear-first n (drop a s) (omega (arith, length-drop a s)) e, ap (firstWhere p) all, clear-first j (drop a s) (omega (arith, length-drop a s)) (clear-part j (n - j) (drop a s) (rw q e)), ap (firstWhere p) here)
+
+-- no more bytes than two blocks have: one at the front and one at the end are all of them
+pub two-clear : (p : ℕ → Bool) (s : List ℕ) (n : ℕ) → n ≤ length s → length s ≤ n + n → among p (take n (drop 0 s)) ≡ false → among p (take n (drop (length s - n) s)) ≡ false
+    → firstWhere p s ≡ length s
+two-clear p s n h m a b =
+    let w : ℕ = firstWhere p s in
+    sym (clear-last p s (0 + n) w (clear-on p s 0 w (zero-add w) n (omega arith) a) n (omega arith) (omega arith) h b)
+
+-- neither of two
+pub neither : (a b : Bool) → not (a || b) ≡ true → (a ≡ false) × (b ≡ false)
+neither true b e = absurd (true≢false (sym e))
+neither false true e = absurd (true≢false (sym e))
+neither false false e = (refl, refl)
 
 -- one byte more of a block that is looked through for two
 pub either-more : (s : List ℕ) (i k a b : ℕ) (any : Bool) → i + k < length s → any ≡ among (either a b) (take k (drop i s))

@@ -5,9 +5,9 @@ use mathlib.Core.List.{List, [], _∷_, _++_, append-assoc}
 use mathlib.Core.Bool.{Bool, true, false, cond}
 use native.Mathlib.Omega.{arith}
 use native.Mathlib.Numerals.{add-one}
-use native.Mathlib.Nat.{add-zero, zero-add, add-assoc, suc-add, add-suc}
+use native.Mathlib.Nat.{add-zero, zero-add, add-assoc}
 use lib.ListN.{length, take, drop, getD, set, length-append, length-drop, take-append-drop, drop-of-length-le}
-use lib.Seq.{drop-cons, take-all, length-take-le, take-suc, set-at, set-split, append-snoc, take-at, drop-at, take-append-le, take-take, drop-append-add, drop-drop, take-length, paste}
+use lib.Seq.{drop-cons, take-all, length-take-le, set-split, take-at, drop-append-add, drop-drop, take-length, paste}
 use lib.Dec.{eqb}
 
 -- some bytes, with s from a place on
@@ -57,14 +57,6 @@ module _ (out : List ℕ) (at : ℕ) (s : List ℕ) where
   unfolding overlaid
   overlaid-length h = simp (length-append, length-drop) (omega (arith, length-take-le at out (omega arith)))
 
--- one byte more in front
-pub overlaid-front : (out : List ℕ) (at next b : ℕ) (s : List ℕ) → next ≡ suc at → at < length out
-    → set (overlaid out next s) at b ≡ overlaid out at (b ∷ s)
-unfolding overlaid
-overlaid-front out at next b s e h =
-    rw (e, take-suc out at 0 h, append-snoc, suc-add, add-suc)
-    (set-at (take at out) (getD out at 0) (s ++ drop (suc (at + length s)) out) b at (length-take-le at out (omega arith)))
-
 -- nothing laid over changes nothing
 pub overlaid-none : (out : List ℕ) (at : ℕ) → out ≡ overlaid out at []
 unfolding overlaid
@@ -88,18 +80,6 @@ overlaid-more out at next s t h n =
     let e : length x ≡ at + length s = length-append (take at out) s ∙ ap (λ (k : ℕ). k + length s) (length-take-le at out h) in
     rw (n, ← append-assoc (take at out) s y, take-at x y (at + length s) e, drop-past x y (at + length s) (length t) e, drop-drop (length t) (at + length s) out)
     (simp (append-assoc, length-append, add-assoc))
-
--- bytes laid over in front of others
-pub overlaid-before : (out : List ℕ) (at next : ℕ) (s t : List ℕ) → next ≡ at + length s → next ≤ length out
-    → overlaid (overlaid out next t) at s ≡ overlaid out at (s ++ t)
-unfolding overlaid
-overlaid-before out at next s t e h =
-    let r : List ℕ = t ++ drop (next + length t) out in
-    let f : length (take next out) ≡ next = length-take-le next out h in
-    let a : take at (take next out ++ r) ≡ take at out = take-append-le at (take next out) r (omega arith) ∙ take-take at next out (omega arith) in
-    let b : drop (at + length s) (take next out ++ r) ≡ r = drop-at (take next out) r (at + length s) (f ∙ e) in
-    let d : at + length (s ++ t) ≡ next + length t = omega (arith, length-append s t) in
-    rw (a, b, d, append-assoc s t (drop (next + length t) out))
 
 -- one byte
 pub overlaid-one : (out : List ℕ) (at b : ℕ) → at < length out → set out at b ≡ overlaid out at (b ∷ [])

@@ -64,7 +64,7 @@ width n = widthFrom n 1 n
 unfoldable pub decimalOf : ℕ → List ℕ
 decimalOf n = digits (width n) n
 
--- what writing a number in front of a place tells and leaves: the place of its first digit, and its digits from there on
+-- what writing a number tells and leaves: its digits, from the place of the first up to the place behind the last
 pub record NumberPut (n : ℕ) (out : List ℕ) (end first : ℕ) (after : List ℕ) : Type 0 where
   pub place : first + length (decimalOf n) ≡ end
   pub holds : after ≡ overlaid out first (decimalOf n)

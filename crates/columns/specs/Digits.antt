@@ -154,9 +154,6 @@ decimal-short n b =
 
 -- ---- how many digits
 
-pub decimal-some : (n : ℕ) → 1 ≤ length (decimalOf n)
-decimal-some n = rw decimal-length (wide n .some)
-
 -- a number below ten has one digit
 pub one-digit : (n : ℕ) → n < 10 → length (decimalOf n) ≡ 1
 one-digit n b = decimal-length n ∙ wide-is n 1 (wide-by n 0 (omega arith) (λ h. absurd (omega arith)))

@@ -3,7 +3,7 @@ pub mod Among
 pub mod Decimal
 pub mod Fields
 pub mod Digits
-pub mod Back
+pub mod Forward
 pub mod Reading
 pub mod Writing
 pub mod Lacks

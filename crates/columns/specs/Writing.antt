@@ -1,16 +1,17 @@
 -- What the code's steps of writing leave, and the laws that make a written line of it.
-use Prim.Native.Nat.{ℕ, suc, _+_, _-_, _≤_, _<_}
-use mathlib.Core.Path.{_≡_, refl, sym, ap, _∙_}
+use Prim.Native.Nat.{ℕ, suc, _+_, _*_, _^_, _≤_, _<_}
+use mathlib.Core.Path.{_≡_, refl, ap, _∙_}
 use mathlib.Core.List.{List, [], _∷_, _++_, map, map-append, append-nil, append-assoc}
 use mathlib.Core.Bool.{Bool, true, false, cond}
 use native.Mathlib.Omega.{arith}
 use native.Mathlib.Numerals.{add-one}
 use lib.ListN.{length, getD, take, drop, set, length-append, take-append-drop}
-use lib.Seq.{take-suc, drop-cons}
+use lib.Seq.{take-suc, append-snoc}
 use lib.Dec.{ltb}
-use borrow.Author.Tests.{lt-ltb, le-ltb, ltb-false}
-use Rattle.columns.specs.Bytes.{is, firstWhere, first-le, overlaid, overlaid-front, overlaid-before, overlaid-one, overlaid-zero}
+use borrow.Author.Tests.{lt-ltb, le-ltb, ltb-true, ltb-false}
+use Rattle.columns.specs.Bytes.{is, firstWhere, first-le, overlaid, overlaid-next, overlaid-more, overlaid-zero}
 use Rattle.columns.specs.Decimal.{decimalOf}
+use Rattle.columns.specs.Digits.{decimal-short}
 use Rattle.output.specs.Outcome.{leaves, refuses, pours}
 use Rattle.output.specs.Laws.{no-bytes, poured-known}
 use Rattle.columns.specs.Fields.{tabbed, numbersText, textOf, splits, textWritten, textWithin}
@@ -44,49 +45,65 @@ pub text-length : (name ns : List ℕ) → length (textOf name ns) ≡ length na
 unfolding textOf
 text-length name ns = simp length-append (omega arith)
 
--- ---- putting numbers, from the last to the first: the text of those from number i on stands from a place up to the end
-
--- it is no longer than that of all
-pub text-rest : (ns : List ℕ) (i : ℕ) → length (numbersText (drop i ns)) ≤ length (numbersText ns)
-text-rest ns i =
+-- the text of the first numbers is no longer than that of all
+text-front : (ns : List ℕ) (i : ℕ) → length (numbersText (take i ns)) ≤ length (numbersText ns)
+text-front ns i =
     omega (arith, ap (λ (l : List ℕ). length (numbersText l)) (take-append-drop i ns), ap length (text-append (take i ns) (drop i ns)), length-append (numbersText (take i ns)) (numbersText (drop i ns)))
 
--- the number before number i
-module _ (ns : List ℕ) (i : ℕ) (some : 0 < i) (h : i ≤ length ns) where
-  text-from : numbersText (drop (i - 1) ns) ≡ 9 ∷ (decimalOf (getD ns (i - 1) 0) ++ numbersText (drop i ns))
-  unfolding tabbed
-  text-from =
-      let e : suc (i - 1) ≡ i = omega arith in
-      ap (λ (l : List ℕ). numbersText l) (drop-cons ns (i - 1) 0 (omega arith)) ∙ ap (λ (k : ℕ). numbersText (getD ns (i - 1) 0 ∷ drop k ns)) e
+-- a number and its tab have 21 bytes at most
+numbers-most : (ns : List ℕ) → ((i : ℕ) → getD ns i 0 < 2 ^ 64) → length (numbersText ns) ≤ 21 * length ns
+unfolding tabbed
+numbers-most [] h = omega arith
+numbers-most (n ∷ ns) h = simp length-append (omega (arith, decimal-short n (h 0), numbers-most ns (λ i. h (suc i))))
 
-  pub text-from-length : length (numbersText (drop (i - 1) ns)) ≡ 1 + length (decimalOf (getD ns (i - 1) 0)) + length (numbersText (drop i ns))
-  text-from-length = ap length text-from ∙ simp length-append (omega arith)
+pub text-most : (name ns : List ℕ) → ((i : ℕ) → getD ns i 0 < 2 ^ 64) → length (textOf name ns) ≤ length name + 21 * length ns + 1
+text-most name ns h = omega (arith, text-length name ns, numbers-most ns h)
 
-  module _ (out : List ℕ) (end place : ℕ) (fits : end ≤ length out) (room : length (numbersText ns) ≤ end) (e : place + length (numbersText (drop i ns)) ≡ end) where
-    pub before-room : 1 + length (decimalOf (getD ns (i - 1) 0)) ≤ place
-    before-room = omega (arith, text-from-length, text-rest ns (i - 1))
+-- ---- putting numbers: the text of the first i stands from a place on, up to where the next is put
 
-    -- its digits, and the tab before them, are put in front
-    pub before-put : (first : ℕ) → first + length (decimalOf (getD ns (i - 1) 0)) ≡ place
-        → set (overlaid (overlaid out place (numbersText (drop i ns))) first (decimalOf (getD ns (i - 1) 0))) (first - 1) 9 ≡ overlaid out (first - 1) (numbersText (drop (i - 1) ns))
-    before-put first p =
-        let d : List ℕ = decimalOf (getD ns (i - 1) 0) in
-        let t : List ℕ = numbersText (drop i ns) in
-        rw (overlaid-before out first place d t (sym p) (omega arith), text-from)
-        (overlaid-front out (first - 1) first 9 (d ++ t) (omega (arith, before-room)) (omega (arith, before-room)))
+module _ (ns out : List ℕ) (at i place : ℕ) (h : i < length ns) (fits : at + length (numbersText ns) ≤ length out) (e : place ≡ at + length (numbersText (take i ns))) where
+  pub next-room : place + 1 + length (decimalOf (getD ns i 0)) ≤ length out
+  next-room = omega (arith, text-more-length ns i h, text-front ns (i + 1))
+
+  pub next-place : place + 1 + length (decimalOf (getD ns i 0)) ≡ at + length (numbersText (take (i + 1) ns))
+  next-place = omega (arith, text-more-length ns i h)
+
+  -- the tab, and the number's digits behind it
+  pub next-put : overlaid (set (overlaid out at (numbersText (take i ns))) place 9) (place + 1) (decimalOf (getD ns i 0)) ≡ overlaid out at (numbersText (take (i + 1) ns))
+  next-put =
+      let t : List ℕ = numbersText (take i ns) in
+      let d : List ℕ = decimalOf (getD ns i 0) in
+      rw (overlaid-next out at place t 9 e (omega (arith, next-room)), overlaid-more out at (place + 1) (t ++ (9 ∷ [])) d (omega (arith, next-room)) (omega (arith, length-append t (9 ∷ []))), add-one i, text-more ns i h)
+      (ap (overlaid out at) (append-snoc t 9 d))
 
 -- ---- the whole text
 
--- the LF, the numbers before it, and the name at the front
-pub put-line : (name ns out : List ℕ) (end : ℕ) → end + 1 ≡ length (textOf name ns) → end < length out
-    → overlaid (overlaid (set out end 10) (end - length (numbersText ns)) (numbersText ns)) 0 name ≡ overlaid out 0 (textOf name ns)
+-- the name at the front, the numbers behind it, and the LF
+pub put-line : (name ns out : List ℕ) → length (textOf name ns) ≤ length out
+    → set (overlaid (overlaid out 0 name) (length name) (numbersText ns)) (length name + length (numbersText ns)) 10 ≡ overlaid out 0 (textOf name ns)
 unfolding textOf
-put-line name ns out end e h =
+put-line name ns out h =
     let w : List ℕ = numbersText ns in
-    let long : end ≡ length name + length w = omega (arith, text-length name ns, e) in
-    let at : end - length w ≡ length name = omega arith in
-    rw (at, overlaid-one out end 10 h, overlaid-before out (length name) end w (10 ∷ []) long (omega arith))
-    (overlaid-before out 0 (length name) name (w ++ (10 ∷ [])) (omega arith) (omega arith))
+    let long = text-length name ns in
+    rw (overlaid-more out 0 (length name) name w (omega arith) (omega arith), overlaid-next out 0 (length name + length w) (name ++ w) 10 (omega (arith, length-append name w)) (omega arith))
+    (ap (overlaid out 0) (append-assoc name w (10 ∷ [])))
+
+-- ---- how many bytes are lacking
+
+module _ (room long r : ℕ) (e : r ≡ cond (ltb room long) long 0) where
+  pub lack-some : 0 < r → (room < long) × (r ≡ long)
+  lack-some h = go (ltb room long) refl e
+    where
+      go : (t : Bool) → ltb room long ≡ t → r ≡ cond t long 0 → (room < long) × (r ≡ long)
+      go true q k = (ltb-true room long q, k)
+      go false q k = absurd (omega arith)
+
+  pub lack-none : (0 < r → ⊥) → 0 < long → long ≤ room
+  lack-none h p = go (ltb room long) refl e
+    where
+      go : (t : Bool) → ltb room long ≡ t → r ≡ cond t long 0 → long ≤ room
+      go true q k = absurd (h (omega arith))
+      go false q k = ltb-false room long q
 
 module _ (name ns out : List ℕ) where
   pub text-split : firstWhere splits name < length name → leaves (Refused (NameSplit (firstWhere splits name))) out ≡ textWritten name ns out

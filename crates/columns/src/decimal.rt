@@ -4,9 +4,10 @@ use crate::Number;
 ghost use mathlib.Core.Path.{_≡_};
 ghost use mathlib.Core.Bool.{cond};
 ghost use Prim.Native.Nat.{_+_, _*_, _/_, _%_, _^_, _≤_, _<_};
-ghost use lib.ListN.{length, set};
+ghost use lib.ListN.{length};
 ghost use lib.Dec.{ltb};
-ghost use Rattle.columns.specs.Decimal.{digitsOf, numberOf, plainNumber, decimalOf, NumberPut};
+ghost use Rattle.columns.specs.Bytes.{overlaid};
+ghost use Rattle.columns.specs.Decimal.{digitsOf, numberOf, plainNumber, digits, decimalOf, NumberPut};
 
 // The bytes of the digits 0 and 9, as numbers.
 pub(crate) const ZERO: u64 = 48;
@@ -111,33 +112,140 @@ pub(crate) fn digit_count(n: u64) -> usize
     w + at_least(m, 10) + at_least(m, 100) + at_least(m, 1000)
 }
 
-// Writes two digits from place `at` on.
-fn put_pair(n: u64, out: &mut [u8], at: usize)
-    requires { ⌜ (n < 100) × (at + 2 ≤ length (now out)) ⌝ }
-    ensures { λ _. ⌜ now (out .exit) ≡ set (set (now (out .entry)) (at + 1) (48 + n % 10)) at (48 + n / 10) ⌝ }
+// The tenth of a number below 100, without a division: of 99 it is 10,197 / 1,024, which is 9.
+fn tenth(n: u64) -> u64
+    requires { ⌜ n < 100 ⌝ }
+    ensures { λ r. ⌜ r ≡ n / 10 ⌝ }
 {
-    out[at + 1] = (ZERO + n % 10) as u8;
-    out[at] = (ZERO + n / 10) as u8;
+    103 * n / 1024
 }
 
-// Writes n in front of place `end`, from its last digits to its first, two at a time; and tells the place of the first.
-pub(crate) fn put_before(n: u64, out: &mut [u8], end: usize) -> usize
-    requires { ⌜ (length (decimalOf n) ≤ end) × (end ≤ length (now out)) ⌝ }
-    ensures { λ r. ⌜ NumberPut n (now (out .entry)) end r (now (out .exit)) ⌝ }
+// The hundredth of a number below 10,000, in the same way.
+fn hundredth(n: u64) -> u64
+    requires { ⌜ n < 10000 ⌝ }
+    ensures { λ r. ⌜ r ≡ n / 100 ⌝ }
 {
-    let mut m = n;
-    let mut place = end;
-    while 100 <= m {
-        place -= 2;
-        put_pair(m % 100, out, place);
-        m = m / 100;
+    5243 * n / 524288
+}
+
+// Two digits as one word, the first in its low byte: 42 is 52 + 50 * 256, since '4' is 52 and '2' is 50. So they are stored at once.
+fn two_digits(n: u64) -> u64
+    requires { ⌜ n < 100 ⌝ }
+    ensures { λ r. ⌜ r ≡ 48 + n / 10 + 256 * (48 + n % 10) ⌝ }
+{
+    256 * n - 2559 * tenth(n) + 12336
+}
+
+// The two halves of four digits side by side: 1,234 is 12 + 34 * 65,536.
+fn halves(n: u64) -> u64
+    requires { ⌜ n < 10000 ⌝ }
+    ensures { λ r. ⌜ r ≡ n / 100 + 65536 * (n % 100) ⌝ }
+{
+    65536 * n - 6553599 * hundredth(n)
+}
+
+// The tenths of both halves by one multiplication: of 12 + 34 * 65,536 they are 1 + 3 * 65,536. What the product has between them goes.
+fn tenths(two: u64) -> u64
+    requires { ⌜ (two % 65536 < 100) × (two / 65536 < 100) ⌝ }
+    ensures { λ r. ⌜ r ≡ two % 65536 / 10 + 65536 * (two / 65536 / 10) ⌝ }
+{
+    let both = 103 * two / 1024;
+    both % 16 + both / 65536 * 65536
+}
+
+// Four digits as one word, the first in its low byte.
+fn four_digits(n: u64) -> u64
+    requires { ⌜ n < 10000 ⌝ }
+    ensures { λ r. ⌜ r ≡ 48 + n / 1000 + 256 * (48 + n / 100 % 10) + 65536 * (48 + n / 10 % 10) + 16777216 * (48 + n % 10) ⌝ }
+{
+    let two = halves(n);
+    256 * two - 2559 * tenths(two) + 808464432
+}
+
+// Writes two digits from place `at` on.
+fn put_two(n: u64, out: &mut [u8], at: usize)
+    requires { ⌜ (n < 100) × (at + 2 ≤ length (now out)) ⌝ }
+    ensures { λ _. ⌜ now (out .exit) ≡ overlaid (now (out .entry)) at (digits 2 n) ⌝ }
+{
+    let w = two_digits(n);
+    out[at] = (w % 256) as u8;
+    out[at + 1] = (w / 256) as u8;
+}
+
+// Writes four digits from place `at` on. The compiler makes one store of them.
+fn put_four(n: u64, out: &mut [u8], at: usize)
+    requires { ⌜ (n < 10000) × (at + 4 ≤ length (now out)) ⌝ }
+    ensures { λ _. ⌜ now (out .exit) ≡ overlaid (now (out .entry)) at (digits 4 n) ⌝ }
+{
+    let w = four_digits(n);
+    let w1 = w / 256;
+    let w2 = w1 / 256;
+    out[at] = (w % 256) as u8;
+    out[at + 1] = (w1 % 256) as u8;
+    out[at + 2] = (w2 % 256) as u8;
+    out[at + 3] = (w2 / 256) as u8;
+}
+
+// Writes eight digits from place `at` on.
+fn put_eight(n: u64, out: &mut [u8], at: usize)
+    requires { ⌜ (n < 100000000) × (at + 8 ≤ length (now out)) ⌝ }
+    ensures { λ _. ⌜ now (out .exit) ≡ overlaid (now (out .entry)) at (digits 8 n) ⌝ }
+{
+    put_four(n / 10000, out, at);
+    put_four(n % 10000, out, at + 4);
+}
+
+// Writes a number of at most four digits from place `at` on, and tells the place behind it. Its size tells how many digits it has.
+fn put_few(n: u64, out: &mut [u8], at: usize) -> usize
+    requires { ⌜ (n < 10000) × (at + length (decimalOf n) ≤ length (now out)) ⌝ }
+    ensures { λ r. ⌜ NumberPut n (now (out .entry)) r at (now (out .exit)) ⌝ }
+{
+    if n < 100 {
+        if n < 10 {
+            out[at] = (ZERO + n) as u8;
+            return at + 1;
+        }
+        put_two(n, out, at);
+        return at + 2;
     }
-    if m < 10 {
-        place -= 1;
-        out[place] = (ZERO + m) as u8;
-        return place;
+    if n < 1000 {
+        let front = hundredth(n);
+        out[at] = (ZERO + front) as u8;
+        put_two(n - 100 * front, out, at + 1);
+        return at + 3;
     }
-    place -= 2;
-    put_pair(m, out, place);
-    place
+    put_four(n, out, at);
+    at + 4
+}
+
+// Writes a number from place `at` on, and tells the place behind it: its first digits, and then four or eight at once. 1,234,567 is 123 and
+// 4567. It has no loop, so that it becomes a part of its caller's.
+pub(crate) fn put_number(n: u64, out: &mut [u8], at: usize) -> usize
+    requires { ⌜ at + length (decimalOf n) ≤ length (now out) ⌝ }
+    ensures { λ r. ⌜ NumberPut n (now (out .entry)) r at (now (out .exit)) ⌝ }
+{
+    if n < 10000 {
+        return put_few(n, out, at);
+    }
+    if n < 100000000 {
+        let middle = put_few(n / 10000, out, at);
+        put_four(n % 10000, out, middle);
+        return middle + 4;
+    }
+    let front = n / 100000000;
+    if front < 10000 {
+        let middle = put_few(front, out, at);
+        put_eight(n % 100000000, out, middle);
+        return middle + 8;
+    }
+    if front < 100000000 {
+        let middle = put_few(front / 10000, out, at);
+        put_four(front % 10000, out, middle);
+        put_eight(n % 100000000, out, middle + 4);
+        return middle + 12;
+    }
+    let middle = put_few(front / 100000000, out, at);
+    put_eight(front % 100000000, out, middle);
+    put_eight(n % 100000000, out, middle + 8);
+    middle + 16
 }

@@ -5,9 +5,10 @@ use crate::decimal;
 use output::Written;
 use refusal::Refusal;
 ghost use mathlib.Core.Path.{_≡_};
-ghost use mathlib.Core.Bool.{true};
-ghost use Prim.Native.Nat.{_+_, _-_, _*_, _^_, _<_, _≤_};
+ghost use mathlib.Core.Bool.{true, cond};
+ghost use Prim.Native.Nat.{_+_, _*_, _^_, _<_, _≤_};
 ghost use lib.ListN.{length, take, drop};
+ghost use lib.Dec.{ltb};
 ghost use Rattle.columns.specs.Bytes.{firstWhere, overlaid};
 ghost use Rattle.columns.specs.Among.{among, either};
 ghost use Rattle.output.specs.Outcome.{leaves};
@@ -47,6 +48,30 @@ fn either_in_8(l: &[u8], i: usize, a: u8, b: u8) -> bool
 {
     let mut any = false;
     for k in 0..8 {
+        any = any | (l[i + k] == a) | (l[i + k] == b);
+    }
+    any
+}
+
+// The same of 4 bytes. The size has to be constant, and Rattle has no generics: hence one function for each.
+fn either_in_4(l: &[u8], i: usize, a: u8, b: u8) -> bool
+    requires { ⌜ i + 4 ≤ length (now l) ⌝ }
+    ensures { λ r. ⌜ r ≡ among (either a b) (take 4 (drop i (now (l .entry)))) ⌝ }
+{
+    let mut any = false;
+    for k in 0..4 {
+        any = any | (l[i + k] == a) | (l[i + k] == b);
+    }
+    any
+}
+
+// The same of 16 bytes.
+fn either_in_16(l: &[u8], i: usize, a: u8, b: u8) -> bool
+    requires { ⌜ i + 16 ≤ length (now l) ⌝ }
+    ensures { λ r. ⌜ r ≡ among (either a b) (take 16 (drop i (now (l .entry)))) ⌝ }
+{
+    let mut any = false;
+    for k in 0..16 {
         any = any | (l[i + k] == a) | (l[i + k] == b);
     }
     any
@@ -298,10 +323,65 @@ pub fn read_numbers(content: &[u8], name: usize, line: u64, numbers: &mut [u64])
     read_each(content, name, line, numbers)
 }
 
-// The place of the first tab or LF of a name; the length where there is none.
+// Is it seen at a glance that 4 to 8 bytes have no tab and no LF: two blocks of 4 are all of them.
+fn whole_by_4(name: &[u8]) -> bool
+    requires { ⌜ (4 ≤ length (now name)) × (length (now name) ≤ 8) ⌝ }
+    ensures { λ r. ⌜ (r ≡ true → firstWhere splits (now (name .entry)) ≡ length (now (name .entry))) ⌝ }
+{
+    let front = either_in_4(name, 0, TAB, LF);
+    let back = either_in_4(name, name.len() - 4, TAB, LF);
+    !(front | back)
+}
+
+// The same of 8 to 16 bytes, by two blocks of 8. The compiler looks at both at once.
+fn whole_by_8(name: &[u8]) -> bool
+    requires { ⌜ (8 ≤ length (now name)) × (length (now name) ≤ 16) ⌝ }
+    ensures { λ r. ⌜ (r ≡ true → firstWhere splits (now (name .entry)) ≡ length (now (name .entry))) ⌝ }
+{
+    let front = either_in_8(name, 0, TAB, LF);
+    let back = either_in_8(name, name.len() - 8, TAB, LF);
+    !(front | back)
+}
+
+// The same of more bytes, by blocks of 16, the last of which ends where they end.
+fn whole_by_16(name: &[u8]) -> bool
+    requires { ⌜ 16 ≤ length (now name) ⌝ }
+    ensures { λ r. ⌜ (r ≡ true → firstWhere splits (now (name .entry)) ≡ length (now (name .entry))) ⌝ }
+{
+    let last = name.len() - 16;
+    let mut i = 0;
+    while i < last {
+        if either_in_16(name, i, TAB, LF) {
+            return false;
+        }
+        i += 16;
+    }
+    !either_in_16(name, last, TAB, LF)
+}
+
+// Is it seen by blocks that a name has no tab and no LF. One of 3 bytes or fewer has no block.
+fn whole_name(name: &[u8]) -> bool
+    ensures { λ r. ⌜ (r ≡ true → firstWhere splits (now (name .entry)) ≡ length (now (name .entry))) ⌝ }
+{
+    if name.len() < 8 {
+        if name.len() < 4 {
+            return false;
+        }
+        return whole_by_4(name);
+    }
+    if name.len() <= 16 {
+        return whole_by_8(name);
+    }
+    whole_by_16(name)
+}
+
+// The place of the first tab or LF of a name; the length where there is none, as in nearly all names.
 fn name_split(name: &[u8]) -> usize
     ensures { λ r. ⌜ r ≡ firstWhere splits (now (name .entry)) ⌝ }
 {
+    if whole_name(name) {
+        return name.len();
+    }
     first_split(name, 0)
 }
 
@@ -327,33 +407,49 @@ fn put_front(s: &[u8], out: &mut [u8])
     copying::copy_run(s, 0, s.len(), out, 0);
 }
 
-// Puts numbers, each with a tab before it, in front of place `end`, from the last to the first: so no number's digits are counted again.
-fn put_numbers(numbers: &[u64], out: &mut [u8], end: usize)
-    requires { ⌜ (length (numbersText (now numbers)) ≤ end) × (end ≤ length (now out)) ⌝ }
-    ensures { λ _. ⌜ now (out .exit) ≡ overlaid (now (out .entry)) (end - length (numbersText (now (numbers .entry)))) (numbersText (now (numbers .entry))) ⌝ }
+// Puts numbers, each with a tab before it, from place `at` on, and tells the place behind them.
+fn put_numbers(numbers: &[u64], out: &mut [u8], at: usize) -> usize
+    requires { ⌜ at + length (numbersText (now numbers)) ≤ length (now out) ⌝ }
+    ensures { λ r. ⌜ (r ≡ at + length (numbersText (now (numbers .entry)))) × (now (out .exit) ≡ overlaid (now (out .entry)) at (numbersText (now (numbers .entry)))) ⌝ }
 {
-    let mut place = end;
-    let mut i = numbers.len();
-    while 0 < i {
-        i -= 1;
-        place = decimal::put_before(numbers[i], out, place);
-        place -= 1;
+    let mut place = at;
+    let mut i = 0;
+    while i < numbers.len() {
         out[place] = TAB;
+        place = decimal::put_number(numbers[i], out, place + 1);
+        i += 1;
     }
+    place
 }
 
-// Puts a name and numbers with tabs between, and an LF, which are `needed` bytes, at the front of the output.
-fn put_text(name: &[u8], numbers: &[u64], out: &mut [u8], needed: usize)
-    requires { ⌜ (needed ≡ length (textOf (now name) (now numbers))) × (needed ≤ length (now out)) ⌝ }
-    ensures { λ _. ⌜ now (out .exit) ≡ overlaid (now (out .entry)) 0 (textOf (now (name .entry)) (now (numbers .entry))) ⌝ }
+// Puts a name and numbers with tabs between, and an LF, at the front of the output, and tells how many bytes they are.
+fn put_text(name: &[u8], numbers: &[u64], out: &mut [u8]) -> usize
+    requires { ⌜ length (textOf (now name) (now numbers)) ≤ length (now out) ⌝ }
+    ensures { λ r. ⌜ (r ≡ length (textOf (now (name .entry)) (now (numbers .entry)))) × (now (out .exit) ≡ overlaid (now (out .entry)) 0 (textOf (now (name .entry)) (now (numbers .entry)))) ⌝ }
 {
-    let end = needed - 1;
-    out[end] = LF;
-    put_numbers(numbers, out, end);
     put_front(name, out);
+    let end = put_numbers(numbers, out, name.len());
+    out[end] = LF;
+    end + 1
 }
 
-// The same, if the name has no tab and no LF, and if there is room.
+// How many bytes a name and numbers are written with, if there is no room for so many; else 0. Where there is room for the longest numbers, of
+// 20 digits each, none is counted.
+fn lacking(name: &[u8], numbers: &[u64], room: usize) -> usize
+    requires { ⌜ length (now name) + 21 * length (now numbers) + 1 < 2 ^ 64 ⌝ }
+    ensures { λ r. ⌜ r ≡ cond (ltb room (length (textOf (now (name .entry)) (now (numbers .entry))))) (length (textOf (now (name .entry)) (now (numbers .entry)))) 0 ⌝ }
+{
+    if name.len() + 21 * numbers.len() + 1 <= room {
+        return 0;
+    }
+    let needed = text_length(name, numbers);
+    if room < needed {
+        return needed;
+    }
+    0
+}
+
+// Writes a name and numbers, if the name has no tab and no LF, and if there is room.
 fn write_short(name: &[u8], numbers: &[u64], out: &mut [u8]) -> Written
     requires { ⌜ length (now name) + 21 * length (now numbers) + 1 < 2 ^ 64 ⌝ }
     ensures { λ r. ⌜ leaves r (now (out .exit)) ≡ textWritten (now (name .entry)) (now (numbers .entry)) (now (out .entry)) ⌝ }
@@ -364,14 +460,14 @@ fn write_short(name: &[u8], numbers: &[u64], out: &mut [u8]) -> Written
             place: place as u64,
         });
     }
-    let needed = text_length(name, numbers);
-    if out.len() < needed {
+    let needed = lacking(name, numbers, out.len());
+    if 0 < needed {
         return Written::Refused(Refusal::NoRoom {
             needed: needed as u64,
         });
     }
-    put_text(name, numbers, out, needed);
-    Written::Bytes(needed)
+    let written = put_text(name, numbers, out);
+    Written::Bytes(written)
 }
 
 // The same for any name and numbers: those over the size limit are refused (1).

@@ -1,69 +1,57 @@
--- `columns::fields::put_numbers` meets its contract. The loop's invariant: the text of the numbers from number i on is laid over the output
--- from `place` up to the end.
+-- `columns::fields::put_numbers` meets its contract. The loop's invariant: the text of the first i numbers is laid over the output from `at`
+-- up to `place`.
 -- Assumes nothing.
 use Prim.Native.Nat.{_≤_, _+_, _-_}
-use mathlib.Core.Path.{_≡_, refl, ap, _∙_}
+use mathlib.Core.Path.{_≡_, refl, _∙_}
 use native.Mathlib.Omega.{arith}
-use lib.ListN.{length, getD, drop, length-set, drop-of-length-le}
-use Rattle.columns.specs.Bytes.{overlaid, overlaid-none, overlaid-length}
+use lib.ListN.{length, take, getD, length-set}
+use lib.Seq.{take-all}
+use Rattle.columns.specs.Bytes.{overlaid, overlaid-none}
 use Rattle.columns.specs.Decimal.{decimalOf}
 use Rattle.columns.specs.Fields.{tabbed, numbersText}
-use Rattle.columns.specs.Writing.{text-from-length, before-room, before-put}
+use Rattle.columns.specs.Forward.{put-kept}
+use Rattle.columns.specs.Writing.{next-room, next-place, next-put}
 use Rattle.columns.proofs.fields.put_numbers.Statement.{statement}
 use Rattle.columns.proofs.fields.put_numbers.Tie as tie
 
 abbrev Inv-loop : tie.InvT-loop
-Inv-loop numbers out₀ end place₀ i₀ out place i =
-    (i ≤ length numbers) × ((length out ≡ length out₀) × ((place + length (numbersText (drop i numbers)) ≡ end) × (out ≡ overlaid out₀ place (numbersText (drop i numbers)))))
+Inv-loop numbers out₀ at place₀ i₀ out place i =
+    (i ≤ length numbers) × ((length out ≡ length out₀) × ((place ≡ at + length (numbersText (take i numbers))) × (out ≡ overlaid out₀ at (numbersText (take i numbers)))))
 
 abbrev μ-loop : tie.MeasureT-loop
-μ-loop numbers out₀ end place₀ i₀ out place i = i
-
--- there is room for the number and the tab before it
-room : (c : tie.In-loop Inv-loop μ-loop)
-    → (let a = c .before .before .before .before .args in 1 + length (decimalOf (getD (a .numbers .now) (c .before .loop .i - 1) 0)) ≤ c .before .loop .place)
-room c =
-    let l = c .before in
-    let s = l .before .before .before in
-    before-room (s .args .numbers .now) (l .loop .i) (c .loop-test .taken) (l .loop .inv .0) (s .args .out .now) (s .args .end) (l .loop .place) (s .pre .1) (s .pre .0) (l .loop .inv .1 .1 .0)
+μ-loop numbers out₀ at place₀ i₀ out place i = length numbers - i
 
 loop-holds : tie.Need-loop-holds Inv-loop μ-loop
 unfolding tabbed
 loop-holds c =
     let a = c .before .before .args in
-    let e = drop-of-length-le (a .numbers .now) {i = length (a .numbers .now)} (omega arith) in
-    (omega arith, (refl, (rw e (omega arith), rw e (overlaid-none (a .out .now) (a .end)))))
+    (omega arith, (refl, (omega arith, overlaid-none (a .out .now) (a .at))))
 
-sub-i : tie.Need-sub-i Inv-loop μ-loop
-sub-i c = omega arith
-
-mul-put-before : tie.Need-mul-put-before Inv-loop μ-loop
-mul-put-before c = omega arith
-
-shared-slice-read-put-before : tie.Need-shared-slice-read-put-before Inv-loop μ-loop
-shared-slice-read-put-before c = omega arith
-
-put-before-requires : tie.Need-put-before-requires Inv-loop μ-loop
-put-before-requires c κs =
-    let t = c .before .before in
-    (omega (arith, room t), omega (arith, t .before .loop .inv, t .before .before .before .before .pre .1))
-
--- the output keeps its length
-long : (c : tie.After-put-before Inv-loop μ-loop)
-    → length (c .put-before .last .1 .0) ≡ length (c .before .before .before .before .before .before .before .args .out .now)
-long c =
-    let t = c .before .before .before in
-    ap length (c .put-before .ensures .holds)
-    ∙ (overlaid-length _ _ _ (omega (arith, t .before .loop .inv, t .before .before .before .before .pre .1, c .put-before .ensures .place)) ∙ t .before .loop .inv .1 .0)
-
-sub-place : tie.Need-sub-place Inv-loop μ-loop
-sub-place c = let p = c .before .before in omega (arith, room (p .before .before .before), p .put-before .ensures .place)
+-- there is room for the tab and the number
+room : (c : tie.In-loop Inv-loop μ-loop)
+    → (let a = c .before .before .before .before .args in c .before .loop .place + 1 + length (decimalOf (getD (a .numbers .now) (c .before .loop .i) 0)) ≤ length (a .out .now))
+room c =
+    let l = c .before in
+    let s = l .before .before .before in
+    next-room (s .args .numbers .now) (s .args .out .now) (s .args .at) (l .loop .i) (l .loop .place) (c .loop-test .taken) (s .pre) (l .loop .inv .1 .1 .0)
 
 slice-write-out : tie.Need-slice-write-out Inv-loop μ-loop
-slice-write-out c =
-    let p = c .before .before in
-    let l = p .before .before .before .before in
-    omega (arith, long p, room (p .before .before .before), p .put-before .ensures .place, l .loop .inv, l .before .before .before .pre .1)
+slice-write-out c = omega (arith, room c, c .before .loop .inv)
+
+mul-put-number : tie.Need-mul-put-number Inv-loop μ-loop
+mul-put-number c = omega arith
+
+shared-slice-read-put-number : tie.Need-shared-slice-read-put-number Inv-loop μ-loop
+shared-slice-read-put-number c = omega arith
+
+add-put-number : tie.Need-add-put-number Inv-loop μ-loop
+add-put-number c = omega (arith, room (c .before .before))
+
+put-number-requires : tie.Need-put-number-requires Inv-loop μ-loop
+put-number-requires c κs = let t = c .before .before in simp length-set (omega (arith, room t, t .before .loop .inv))
+
+add-i : tie.Need-add-i Inv-loop μ-loop
+add-i c = omega arith
 
 loop-less : tie.Need-loop-less Inv-loop μ-loop
 loop-less c = omega arith
@@ -74,14 +62,14 @@ loop-again c =
     let t = p .before .before .before in
     let l = t .before in
     let s = l .before .before .before in
-    let e = p .put-before .ensures in (
+    let e = p .put-number .ensures in (
       omega arith,
       (
-        simp length-set (long p),
+        put-kept _ _ _ _ _ e (simp length-set (omega (arith, room t, e .place, l .loop .inv))) ∙ simp length-set (l .loop .inv .1 .0),
         (
-          omega (arith, text-from-length (s .args .numbers .now) (l .loop .i) (t .loop-test .taken) (l .loop .inv .0), l .loop .inv .1 .1 .0, e .place, room t),
+          omega (arith, e .place, next-place (s .args .numbers .now) (s .args .out .now) (s .args .at) (l .loop .i) (l .loop .place) (t .loop-test .taken) (s .pre) (l .loop .inv .1 .1 .0)),
           rw (e .holds, l .loop .inv .1 .1 .1)
-              (before-put (s .args .numbers .now) (l .loop .i) (t .loop-test .taken) (l .loop .inv .0) (s .args .out .now) (s .args .end) (l .loop .place) (s .pre .1) (s .pre .0) (l .loop .inv .1 .1 .0) _ (e .place)),
+              (next-put (s .args .numbers .now) (s .args .out .now) (s .args .at) (l .loop .i) (l .loop .place) (t .loop-test .taken) (s .pre) (l .loop .inv .1 .1 .0)),
         ),
       ),
     )
@@ -91,12 +79,9 @@ same-length c = c .before .loop .inv .1 .0
 
 returns : tie.Need-returns Inv-loop μ-loop
 returns c =
-    let l = c .before in
-    let a = l .before .before .before .args in
-    let z : l .loop .i ≡ 0 = omega arith in
-    let p : l .loop .place + length (numbersText (a .numbers .now)) ≡ a .end = rw z at (l .loop .inv .1 .1 .0) in
-    let e : a .end - length (numbersText (a .numbers .now)) ≡ l .loop .place = omega arith in
-    rw e (rw z at (l .loop .inv .1 .1 .1))
+    let l = c .before .loop in
+    let a = c .before .before .before .before .args in
+    rw (← take-all (l .i) (a .numbers .now) (omega arith)) (l .inv .1 .1)
 
 pub put-numbers-spec : {M : Type 1} → statement M
 put-numbers-spec =
@@ -105,12 +90,12 @@ put-numbers-spec =
     Inv-loop
     μ-loop
     loop-holds
-    sub-i
-    mul-put-before
-    shared-slice-read-put-before
-    put-before-requires
-    sub-place
     slice-write-out
+    mul-put-number
+    shared-slice-read-put-number
+    add-put-number
+    put-number-requires
+    add-i
     loop-less
     loop-again
     same-length

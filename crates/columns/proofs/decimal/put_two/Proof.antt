@@ -1,28 +1,26 @@
--- `columns::decimal::put_pair` meets its contract: it is the two stores.
+-- `columns::decimal::put_two` meets its contract: the bytes of the word are the digits.
 -- Assumes nothing.
 use borrow.Author.Needs.{needs}
 use native.Mathlib.Omega.{arith}
 use lib.ListN.{length-set}
-use Rattle.columns.proofs.decimal.put_pair.Statement.{statement}
-use Rattle.columns.proofs.decimal.put_pair.Tie as tie
+use Rattle.columns.specs.Forward.{two-put}
+use Rattle.columns.proofs.decimal.put_two.Statement.{statement}
+use Rattle.columns.proofs.decimal.put_two.Tie as tie
 
-add-out : tie.Need-add-out
-add-out c = search needs
+two-digits-requires : tie.Need-two-digits-requires
+two-digits-requires c κs = search needs
 
 cast-out : tie.Need-cast-out
 cast-out c = search needs
 
-add-out-2 : tie.Need-add-out-2
-add-out-2 c = search needs
-
 slice-write-out : tie.Need-slice-write-out
 slice-write-out c = search needs
 
-add-out-3 : tie.Need-add-out-3
-add-out-3 c = search needs
-
 cast-out-2 : tie.Need-cast-out-2
 cast-out-2 c = search needs
+
+add-out : tie.Need-add-out
+add-out c = search needs
 
 slice-write-out-2 : tie.Need-slice-write-out-2
 slice-write-out-2 c = simp length-set (omega arith)
@@ -31,18 +29,17 @@ same-length : tie.Need-same-length
 same-length c = search needs
 
 returns : tie.Need-returns
-returns c = search needs
+returns c = let s = c .before .before in two-put _ _ _ _ (s .pre .0) (s .pre .1) (c .two-digits .ensures)
 
-pub put-pair-spec : {M : Type 1} → statement M
-put-pair-spec =
+pub put-two-spec : {M : Type 1} → statement M
+put-two-spec =
     tie.close
     (tie.spec
-    add-out
+    two-digits-requires
     cast-out
-    add-out-2
     slice-write-out
-    add-out-3
     cast-out-2
+    add-out
     slice-write-out-2
     same-length
     returns)
