@@ -15,7 +15,6 @@ mod fastq;
 mod fastq_faults;
 mod faults;
 mod header;
-mod index_text;
 mod input;
 mod json;
 mod letters;

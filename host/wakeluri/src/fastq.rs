@@ -28,7 +28,7 @@
 
 use crate::refusal::Call;
 use crate::row::{Identity, Row};
-use crate::table::{counted, rows_for_all, with_room, write_line_behind};
+use crate::table::{counted, rows_for_all, with_room, write_line_behind, write_lines};
 use crate::{Bounds, Refusal, entry, pages};
 use alloc::vec::Vec;
 
@@ -376,12 +376,8 @@ impl<'n> Table<'n> {
 
     /// The whole index text, of six columns: a line for each row. Refuses 1, 25, 13.
     pub fn write_index(&self) -> Result<Vec<u8>, Refusal> {
-        let mut text = vec![];
         // each that is said to be in use: one that isn't there is refused
-        for number in 0..self.in_use {
-            self.write_line(Row::new(self.identity, number), &mut text)?;
-        }
-        Ok(text)
+        write_lines(self.in_use, |number, out| self.write_line_into(Row::new(self.identity, number), out))
     }
 
     /// Adds the index line of a row to a text. Refuses 1, 25, 13, and then adds nothing.

@@ -458,12 +458,8 @@ impl<'n> Table<'n> {
     /// # Ok::<(), wakeluri::Refusal>(())
     /// ```
     pub fn write_index(&self) -> Result<Vec<u8>, Refusal> {
-        let mut text = vec![];
         // each that is said to be in use: one that isn't there is refused
-        for number in 0..self.in_use {
-            self.write_index_line(Row::new(self.identity, number), &mut text)?;
-        }
-        Ok(text)
+        write_lines(self.in_use, |number, out| self.write_index_line_into(Row::new(self.identity, number), out))
     }
 
     /// Adds the index line of a row to a text. Refuses 1, 25, 13, and then adds nothing.
@@ -486,14 +482,46 @@ pub(crate) fn rows_for_all(rows: usize, last_name: u64, bytes: usize) -> usize {
     likely.saturating_add(likely / 8).max(rows.saturating_mul(2))
 }
 
+/// Room that is lent for a line of many; a longer one says how much it needs.
+const LINE: usize = 1 << 10;
+
+/// Most lines are shorter.
+const LIKELY: usize = 128;
+
+/// There is room for so many lines at first.
+const FIRST_LINES: usize = 1 << 16;
+
+/// The lines of so many rows, one behind the other, each of which is written to the front of a room that is lent.
+pub(crate) fn write_lines(
+    rows: usize,
+    write: impl Fn(usize, &mut [u8]) -> Result<usize, Refusal>,
+) -> Result<Vec<u8>, Refusal> {
+    // room that is not used is not touched, and costs nothing; there may be fewer rows than are said to be in use
+    let (mut text, mut at) = (vec![0; rows.min(FIRST_LINES) * LIKELY + LINE], 0);
+    for row in 0..rows {
+        if text.len() - at < LINE {
+            text.resize(2 * text.len() + LINE, 0);
+        }
+        let mut written = write(row, text.get_mut(at..).unwrap_or_default());
+        if let Err(Refusal { number: 14, first, .. }) = written {
+            text.resize(at + first as usize, 0);
+            written = write(row, text.get_mut(at..).unwrap_or_default());
+        }
+        at += written?;
+    }
+    text.truncate(at);
+    text.shrink_to_fit();
+    Ok(text)
+}
+
 /// Adds a line to a text, which is written to the front of a room that is lent; adds nothing where it is refused.
 pub(crate) fn write_line_behind(
     text: &mut Vec<u8>,
     write: impl Fn(&mut [u8]) -> Result<usize, Refusal>,
 ) -> Result<(), Refusal> {
     let before = text.len();
-    // room for most lines; a longer one says how much it needs
-    text.resize(before + 128, 0);
+    // room for most lines, in which digits need not be counted; a longer one says how much it needs
+    text.resize(before + 192, 0);
     let mut written = write(text.get_mut(before..).unwrap_or_default());
     if let Err(Refusal { number: 14, first, .. }) = written {
         text.resize(before + first as usize, 0);

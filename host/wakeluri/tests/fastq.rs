@@ -189,3 +189,34 @@ fn a_file_is_opened_with_its_index() {
     );
     std::fs::remove_dir_all(&folder).expect("no folder");
 }
+
+/// An index of many lines, some of them long, has the lines that are written one by one; so has one of FASTA.
+#[test]
+fn lines_of_all_rows_in_their_order() {
+    for (count, long) in [(0, 0), (1, 5000), (999, 1), (20_000, 700), (70_000, 0)] {
+        let name = |number: usize| format!("{number}{}", "x".repeat(if number % 1000 == 0 { long } else { 0 }));
+        let reads: String = (0..count).map(|number| format!("@{}\nA\n+\nI\n", name(number))).collect();
+        let table = fastq::index(reads.as_bytes()).expect("good reads");
+        let mut lines = vec![];
+        for row in table.rows() {
+            table.write_line(row, &mut lines).expect("a good row");
+        }
+        assert_eq!(table.write_index().expect("good rows"), lines, "{count} {long}");
+        let fasta: String = (0..count).map(|number| format!(">{}\nA\n", name(number))).collect();
+        let table = wakeluri::index(fasta.as_bytes()).expect("a good file");
+        let mut lines = vec![];
+        for row in table.rows() {
+            table.write_index_line(row, &mut lines).expect("a good row");
+        }
+        assert_eq!(table.write_index().expect("good rows"), lines, "{count} {long}");
+    }
+}
+
+/// Rows that are said to be in use and aren't there are refused, however many.
+#[test]
+fn more_rows_in_use_than_there_are() {
+    let table = Table::from_bytes(b"", vec![], usize::MAX);
+    assert_eq!(table.write_index().map_err(|refusal| refusal.number), Err(25));
+    let table = wakeluri::Table::from_bytes(b"", vec![], usize::MAX);
+    assert_eq!(table.write_index().map_err(|refusal| refusal.number), Err(25));
+}

@@ -2,7 +2,6 @@
 //! their letters and names are looked at; the lines of the parts before it are written meanwhile, so that the disk works beside the cores.
 
 use super::{Made, not_written};
-use crate::index_text;
 use crate::input::Input;
 use crate::output::Unfilled;
 use crate::progress::Progress;
@@ -12,7 +11,7 @@ use std::io::Write;
 use std::sync::mpsc;
 use std::thread;
 use wakeluri::fastq::Table;
-use wakeluri::{Call, Cores, Refusal};
+use wakeluri::{Cores, Refusal};
 
 /// What is made of a part's records.
 struct Part {
@@ -24,13 +23,8 @@ struct Part {
 
 impl Part {
     fn of(fastq: &Input, rows: &Table<'_>) -> Self {
-        // a row that isn't there is refused with 25
-        let write = |number: usize, out: &mut [u8]| match rows.row(number) {
-            Some(row) => rows.write_line_into(row, out),
-            None => Err(Refusal::new(Call::WriteIndex, 25, number as u64, 0)),
-        };
         Self {
-            lines: index_text::lines(0..rows.len(), write),
+            lines: rows.write_index(),
             glance: Glance::at(fastq, rows),
             records: rows.len() as u64,
             bases: rows.records().map(|record| record.length).sum(),
