@@ -1,5 +1,6 @@
 pub mod Check
 pub mod Steps
+pub mod Quick
 pub mod Accepts
 pub mod FirstFault
 pub mod Said

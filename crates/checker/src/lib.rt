@@ -2,6 +2,8 @@
 // every base. Refuses inputs over the size limit (1), a definition line that does not read (2 to 4), a record without a line (19), a
 // line that does not read (9 to 12), another name (21), another length (22), a base that is not where the line says (23), and what is
 // left of the index behind the last record (20). Refusals tell the record, from 1; 2 to 4 tell the offset too.
+pub(crate) mod quick;
+
 use definition::Parsed;
 use index_line::LineRead;
 use lines::Span;
@@ -15,6 +17,7 @@ ghost use Rattle.lines.specs.Lines.{seqAt};
 ghost use Rattle.index_line.specs.IndexLine.{nameIn};
 ghost use Rattle.checker.specs.Check.{spanOf, sequenceSays, entrySays, againstLines, recordSays, fromSays, checkOf};
 ghost use Rattle.checker.specs.Steps.{groupOf, onlyLine, behindAt, judgedAs, stepOf};
+ghost use Rattle.checker.specs.Quick.{PastGood};
 
 // Does an index describe its file, or why not.
 pub enum Verdict {
@@ -117,6 +120,25 @@ fn judge_record(fasta: &[u8], at: usize, def: &[u8], line: &[u8], record: u64) -
 }
 
 impl Place {
+    // The place behind the records from this one on that are passed the fast way, up to the first that is not. Most records of most files are.
+    fn past_good(self, fasta: &[u8], index: &[u8]) -> Place
+        requires { ⌜ (self .records ≤ self .fasta) × (self .index ≤ length (now index)) ⌝ }
+        ensures { λ r. ⌜ PastGood (now (fasta .entry)) (now (index .entry)) self r ⌝ }
+    {
+        let mut w = self;
+        loop {
+            let passed = quick::passed_at(fasta, w.fasta, index, w.index);
+            if passed.fasta == 0 {
+                return w;
+            }
+            w = Place {
+                fasta: passed.fasta,
+                index: passed.index,
+                records: w.records + 1,
+            };
+        }
+    }
+
     // Checks the record at the place, and hands back the place behind it.
     fn check_record(self, fasta: &[u8], index: &[u8]) -> Step
         requires { ⌜ (self .records ≤ self .fasta) × (self .fasta < length (now fasta)) × (self .index ≤ length (now index)) ⌝ }
@@ -143,18 +165,19 @@ fn check_places(fasta: &[u8], at: usize, index: &[u8], line: usize) -> Verdict
     requires { ⌜ line ≤ length (now index) ⌝ }
     ensures { λ r. ⌜ r ≡ fromSays (now (fasta .entry)) at (now (index .entry)) line ⌝ }
 {
-    let mut w = Place {
+    let first = Place {
         fasta: at,
         index: line,
         records: 0,
     };
+    let mut w = first.past_good(fasta, index);
     while w.fasta < fasta.len() {
         match w.check_record(fasta, index) {
             Step::Refused(r) => {
                 return Verdict::Refused(r);
             }
             Step::Next(next) => {
-                w = next;
+                w = next.past_good(fasta, index);
             }
         }
     }

@@ -4,3 +4,4 @@ pub mod Places
 pub mod PlaceLaws
 pub mod Walk
 pub mod Strides
+pub mod Even

@@ -1,7 +1,7 @@
 -- Lines that are strides: each has a stride's bases and a stride's width, and begins where a stride does. A walk passes them at once.
 use Prim.Native.Nat.{ℕ, suc, _+_, _*_, _^_, _≤_, _<_}
 use mathlib.Core.Path.{_≡_, refl, ap, sym}
-use mathlib.Core.List.{List}
+use mathlib.Core.List.{List, _∷_}
 use mathlib.Core.Bool.{Bool, true, false, cond}
 use lib.ListN.{length}
 use lib.Dec.{eqb, ltb}
@@ -9,7 +9,7 @@ use borrow.Author.Tests.{eq-eqb, eqb-true, ne-eqb, ltb-true, ltb-false, lt-ltb, 
 use native.Mathlib.Omega.{arith}
 use native.Mathlib.Numerals.{add-one}
 use native.Mathlib.Nat.{add-zero, zero-mul, add-mul, one-mul}
-use Rattle.lines.specs.Lines.{seqAt}
+use Rattle.lines.specs.Lines.{basesOf, seqAt}
 use Rattle.lines.specs.Laws.{seqAt-end}
 use Rattle.lines.specs.Alike.{alike, alike-none, alike-passes, alike-within, LineLike}
 use Rattle.lines.specs.declared.Line.{Line}
@@ -71,10 +71,14 @@ module _ (s : List ℕ) (at b w : ℕ) (z : 0 < b) (narrow : b < w) (fits : leng
       (judged-there (v .stride) b (k * b) (record { 0 = i }) b (omega arith) (λ e. omega arith) z true (sym (eq-eqb i (i + 0) (omega arith))) refl (omega arith))
       (moved-next (v .stride) b w b z (i + w) (omega arith) (omega arith)))
 
+  pub stride-over : (k i : ℕ) (l : List ℕ) → seqAt s i ≡ l ∷ seqAt s (i + w) → length l ≡ w → length (basesOf l) ≡ b → i + w ≤ length s → Onward s at at b w i (behindStrides b k i)
+      → Onward s at at b w (i + w) (behindStrides b (suc k) (i + w))
+  stride-over k i l here width bases within o =
+      onward-over s at at b w i (behindStrides b k i) o l (i + w) b (behindStrides b (suc k) (i + w)) here (ap (λ (n : ℕ). i + n) width) (sym bases)
+      (stride-walked k i within (o .fewer))
+
   stride-passed : (k i : ℕ) (l : List ℕ) → LineLike s (strideLine b w) i l → Onward s at at b w i (behindStrides b k i) → Onward s at at b w (i + w) (behindStrides b (suc k) (i + w))
-  stride-passed k i l y o =
-      onward-over s at at b w i (behindStrides b k i) o l (i + w) b (behindStrides b (suc k) (i + w)) (y .here) (ap (λ (n : ℕ). i + n) (y .width)) (sym (y .bases))
-      (stride-walked k i (y .within) (o .fewer))
+  stride-passed k i l y o = stride-over k i l (y .here) (y .width) (y .bases) (y .within) o
 
 module _ (s : List ℕ) (at p b w : ℕ) (fits : length s < 2 ^ 64) (here : p < 2 ^ 64) where
   pub strides-fit : at < 2 ^ 64 → (at + stridesHere s at p b w * w < 2 ^ 64) × (p + stridesHere s at p b w * w < 2 ^ 64)

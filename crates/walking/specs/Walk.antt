@@ -245,6 +245,21 @@ module _ (s : List ℕ) (at p b w : ℕ) where
         let q : v .placed ≡ firstElsewhere (placeOf p b w) 0 (basesAt at (seqAt s at)) = o .walking .placed ∙ ap (firstElsewhere (placeOf p b w) 0) e in
         λ j. record { bases = x j; placed = q j; next = y j }
 
+    -- behind which there are no more bases
+    pub onward-bare : sumBases (seqAt s i) ≡ 0 → record { bases = v .bases; placed = v .placed; next = i + sumWidths (seqAt s i) } ≡ walkedAs (placeOf p b w) at (seqAt s at)
+    unfolding walkedAs
+    onward-bare h =
+        let z : basesAt i (seqAt s i) ≡ [] = no-bases (basesAt i (seqAt s i)) (length-basesAt i (seqAt s i) ∙ h) in
+        let e : o .passed ≡ basesAt at (seqAt s at) = sym (append-nil (o .passed)) ∙ (rw z at (o .offsets)) in
+        let x : v .bases ≡ sumBases (seqAt s at) = o .walking .bases ∙ ap length e ∙ length-basesAt at (seqAt s at) in
+        let q : v .placed ≡ firstElsewhere (placeOf p b w) 0 (basesAt at (seqAt s at)) = o .walking .placed ∙ ap (firstElsewhere (placeOf p b w) 0) e in
+        let y : i + sumWidths (seqAt s i) ≡ at + sumWidths (seqAt s at) = o .next in
+        λ j. record { bases = x j; placed = q j; next = y j }
+      where
+        no-bases : (os : List ℕ) → length os ≡ 0 → os ≡ []
+        no-bases [] n = refl
+        no-bases (a ∷ os) n = absurd (omega arith)
+
     -- over a line l, which has k bases and ends at e
     pub onward-over : (l : List ℕ) (e k : ℕ) (next : Walk) → seqAt s i ≡ l ∷ seqAt s e → i + length l ≡ e → k ≡ length (basesOf l) → WalkedLine b w v (record { 0 = i }) k next
         → Onward s at p b w e next

@@ -16,8 +16,13 @@ Inv-loop fasta at index line w₀ w = (w .records ≤ w .fasta) × (w .index ≤
 abbrev μ-loop : tie.MeasureT-loop
 μ-loop fasta at index line w₀ w = length fasta - w .fasta
 
+past-good-requires : tie.Need-past-good-requires Inv-loop μ-loop
+past-good-requires c κs = search needs
+
 loop-holds : tie.Need-loop-holds Inv-loop μ-loop
-loop-holds c = (omega arith, c .before .before .pre, check-begin _ _ _ _)
+loop-holds c =
+    let p = c .past-good .ensures in
+    (p .counted, p .inside, p .leads ∙ check-begin _ _ _ _)
 
 check-record-requires : tie.Need-check-record-requires Inv-loop μ-loop
 check-record-requires c κs = search needs
@@ -36,18 +41,21 @@ enum-known-next c = search needs
 -- the next place
 moved : (c : tie.After-known-told2 Inv-loop μ-loop)
     → let l = c .before .before .before .before .before .before in
-    let a = l .before .before .before .args in Moved (a .fasta .now) (a .index .now) (l .loop .w) (c .before .next .given .0 .0)
+    let a = l .before .before .before .before .args in Moved (a .fasta .now) (a .index .now) (l .loop .w) (c .before .next .given .0 .0)
 moved c =
     let r = c .before .before .before in
     check-next _ _ _ _ (r .before .if1 .taken) (r .before .before .before .loop .inv .1) (sym (r .check-record .ensures) ∙ c .before .next .given .1)
 
+past-good-requires-2 : tie.Need-past-good-requires-2 Inv-loop μ-loop
+past-good-requires-2 c κs = (omega (arith, moved c), moved c .inside)
+
 loop-less : tie.Need-loop-less Inv-loop μ-loop
-loop-less c = omega (arith, moved c)
+loop-less c = omega (arith, moved (c .before), c .past-good2 .ensures)
 
 loop-again : tie.Need-loop-again Inv-loop μ-loop
 loop-again c =
-    let m = moved c in
-    (omega arith, m .inside, m .leads ∙ c .before .before .before .before .before .before .loop .inv .2)
+    let p = c .past-good2 .ensures in
+    (p .counted, p .inside, p .leads ∙ (moved (c .before) .leads ∙ c .before .before .before .before .before .before .before .loop .inv .2))
 
 returns-2 : tie.Need-returns-2 Inv-loop μ-loop
 returns-2 c = sym (check-left _ _ _ (c .before .before .if1 .left) (c .if2 .taken)) ∙ c .before .before .before .before .loop .inv .2
@@ -61,11 +69,13 @@ check-places-spec =
     (tie.spec
     Inv-loop
     μ-loop
+    past-good-requires
     loop-holds
     check-record-requires
     enum-known-r
     returns
     enum-known-next
+    past-good-requires-2
     loop-less
     loop-again
     returns-2
