@@ -6,6 +6,7 @@ pub mod Mending
 pub mod Pieces
 pub mod Feeding
 pub mod Same
+pub mod Stretch
 pub mod Sums
 pub mod Alike
 pub mod Clear
