@@ -326,5 +326,5 @@ fn near_line_start(index: &[u8], at: usize) -> Option<usize> {
 fn position_in(index: &[u8], start: usize) -> Option<usize> {
     let line = index.get(start..near_line_start(index, start + 1)?)?;
     let digits = line.split(|byte| *byte == b'\t').nth(2)?;
-    str::from_utf8(digits).ok()?.parse().ok()
+    core::str::from_utf8(digits).ok()?.parse().ok()
 }
