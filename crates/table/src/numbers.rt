@@ -45,6 +45,15 @@ pub fn count(table: &[u8]) -> usize
     table.len() / 8
 }
 
+// Number `k` of a table that has it.
+pub(crate) fn here(table: &[u8], k: usize) -> u64
+    requires { ⌜ k * 8 + 8 ≤ length (now table) ⌝ }
+    ensures { λ r. ⌜ r ≡ getD (numbersIn (now (table .entry))) k 0 ⌝ }
+{
+    let at = k * 8;
+    from_bytes(&table[at..at + 8])
+}
+
 // Number `k` of a table; 0 where it has none.
 pub fn number(table: &[u8], k: usize) -> u64
     ensures { λ r. ⌜ r ≡ getD (numbersIn (now (table .entry))) k 0 ⌝ }
@@ -52,8 +61,7 @@ pub fn number(table: &[u8], k: usize) -> u64
     if count(table) <= k {
         return 0;
     }
-    let at = k * 8;
-    from_bytes(&table[at..at + 8])
+    here(table, k)
 }
 
 // Puts a number in the place of number `k` of a table that has it.
@@ -82,7 +90,7 @@ pub(crate) fn copy_numbers(table: &[u8], k: usize, room: &mut [u64])
 {
     let mut i = 0;
     while i < room.len() {
-        room[i] = number(table, k + i);
+        room[i] = here(table, k + i);
         i += 1;
     }
 }

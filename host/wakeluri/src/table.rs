@@ -491,16 +491,19 @@ const LIKELY: usize = 128;
 /// There is room for so many lines at first.
 const FIRST_LINES: usize = 1 << 16;
 
+/// So much of the room is made ready at a time: it is still in the cache when it is written to.
+const READY: usize = 1 << 15;
+
 /// The lines of so many rows, one behind the other, each of which is written to the front of a room that is lent.
 pub(crate) fn write_lines(
     rows: usize,
     write: impl Fn(usize, &mut [u8]) -> Result<usize, Refusal>,
 ) -> Result<Vec<u8>, Refusal> {
     // room that is not used is not touched, and costs nothing; there may be fewer rows than are said to be in use
-    let (mut text, mut at) = (vec![0; rows.min(FIRST_LINES) * LIKELY + LINE], 0);
+    let (mut text, mut at) = (Vec::with_capacity(rows.min(FIRST_LINES) * LIKELY + LINE), 0);
     for row in 0..rows {
         if text.len() - at < LINE {
-            text.resize(2 * text.len() + LINE, 0);
+            text.resize(at + READY, 0);
         }
         let mut written = write(row, text.get_mut(at..).unwrap_or_default());
         if let Err(Refusal { number: 14, first, .. }) = written {

@@ -193,7 +193,7 @@ fn a_file_is_opened_with_its_index() {
 /// An index of many lines, some of them long, has the lines that are written one by one; so has one of FASTA.
 #[test]
 fn lines_of_all_rows_in_their_order() {
-    for (count, long) in [(0, 0), (1, 5000), (999, 1), (20_000, 700), (70_000, 0)] {
+    for (count, long) in [(0, 0), (1, 5000), (999, 1), (2001, 40_000), (20_000, 700), (70_000, 0)] {
         let name = |number: usize| format!("{number}{}", "x".repeat(if number % 1000 == 0 { long } else { 0 }));
         let reads: String = (0..count).map(|number| format!("@{}\nA\n+\nI\n", name(number))).collect();
         let table = fastq::index(reads.as_bytes()).expect("good reads");

@@ -24,11 +24,11 @@ loop-holds c = (refl, omega arith, refl)
 inside : (c : tie.In-loop Inv-loop μ-loop) → let a = c .before .before .before .before .args in (a .k + c .before .loop .i < length (numbersIn (a .table .now))) × (length (numbersIn (a .table .now)) ≡ length (a .table .now) / 8)
 inside c = (omega arith, length-numbers _)
 
-add-number : tie.Need-add-number Inv-loop μ-loop
-add-number c = omega (arith, inside c)
+add-here : tie.Need-add-here Inv-loop μ-loop
+add-here c = omega (arith, inside c)
 
-number-requires : tie.Need-number-requires Inv-loop μ-loop
-number-requires c κs = search needs
+here-requires : tie.Need-here-requires Inv-loop μ-loop
+here-requires c κs = omega (arith, inside c)
 
 mul-room : tie.Need-mul-room Inv-loop μ-loop
 mul-room c = search needs
@@ -48,8 +48,8 @@ loop-again c =
     let a = l .before .before .before .args in (
       simp length-set (l .loop .inv .0),
       omega arith,
-      copy-more (l .loop .room) (drop (a .k) (numbersIn (a .table .now))) (l .loop .i) (c .number .result) (omega arith) (rw length-drop (omega (arith, inside (c .before)))) (l .loop .inv .2)
-          (rw getD-drop (c .number .ensures)),
+      copy-more (l .loop .room) (drop (a .k) (numbersIn (a .table .now))) (l .loop .i) (c .here .result) (omega arith) (rw length-drop (omega (arith, inside (c .before)))) (l .loop .inv .2)
+          (rw getD-drop (c .here .ensures)),
     )
 
 same-length : tie.Need-same-length Inv-loop μ-loop
@@ -65,8 +65,8 @@ copy-numbers-spec =
     Inv-loop
     μ-loop
     loop-holds
-    add-number
-    number-requires
+    add-here
+    here-requires
     mul-room
     slice-write-room
     add-i
