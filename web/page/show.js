@@ -7,6 +7,7 @@ const LISTED = 200; // records that are listed
 const MARKED = 5000; // places of a key that are marked one by one
 const PLACED = 1000; // places of a primer that are shown
 const PART = 8 << 20; // bytes of a file that are read at a time
+const MOVING = 1000; // milliseconds of a check until its bar moves
 // bytes of a file that are held, unless it is said otherwise: an eighth of the device's memory where the browser tells it
 const HELD = Math.min(1 << 30, (navigator.deviceMemory ?? 4) * (128 << 20));
 const WIDTH = 60; // bases to a line of FASTA
