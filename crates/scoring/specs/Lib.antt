@@ -8,5 +8,6 @@ pub mod Plain
 pub mod Meant
 pub mod Lanes
 pub mod Bits
+pub mod Planes
 pub mod Open
 pub mod Examples
