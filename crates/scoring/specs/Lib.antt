@@ -9,5 +9,7 @@ pub mod Meant
 pub mod Lanes
 pub mod Bits
 pub mod Planes
+pub mod Turning
+pub mod Slices
 pub mod Open
 pub mod Examples
