@@ -47,12 +47,6 @@ struct Passed {
     right: usize,
 }
 
-// What a look at a part finds: how many places are right, and an estimate of how many are open.
-struct Look {
-    right: usize,
-    many: u32,
-}
-
 // An ASCII letter in upper case; another byte as it is.
 fn folded(b: u8) -> u8
     ensures { λ r. ⌜ r ≡ folded b ⌝ }
@@ -301,50 +295,54 @@ fn walks(
     right
 }
 
-// An estimate of how many places are open, by the first eight lanes. It is 0 where most places are right and settled.
-fn many(opens: &[u8; 32], right: usize, n: usize) -> u32
-    requires { ⌜ right ≤ 224 ⌝ }
-{
-    if right + 28 < n {
-        return u64::count_ones(lanes::word(opens, 0));
-    }
-    0
-}
-
-// How many places of some blocks are right in edition 2: those that are settled, and the open ones, bit by bit, or place by place where
-// most are open.
-fn open_part(codes: &[u8; 256], key: &[u8], typed: &[u8], at: usize, blocks: usize) -> Look
+// How many places of some blocks are right in edition 2: those that are settled, and the open ones, bit by bit. None is passed where more than
+// two in 32 are open or wrong: there slices are quicker.
+fn open_part(codes: &[u8; 256], key: &[u8], typed: &[u8], at: usize, blocks: usize) -> Passed
     requires { ⌜ (IsTable setOf (now codes) × (blocks ≤ 7)) × (at + 32 * blocks ≤ length (now key)) × (at + 32 * blocks ≤ length (now typed)) ⌝ }
-    ensures { λ r. ⌜ Counted (agrees lies (now (key .entry)) (now (typed .entry))) at (32 * blocks) (r .right) ⌝ }
+    ensures { λ r. ⌜ (r .places ≤ 32 * blocks) × Counted (agrees lies (now (key .entry)) (now (typed .entry))) at (r .places) (r .right) ⌝ }
 {
     let lanes = lanes::lanes_in(key, typed, at, blocks);
     let settled = lanes::total(&lanes.right);
-    let many = many(&lanes.opens, settled, 32 * blocks);
-    if 32 < many {
-        return Look {
-            right: run(codes, key, typed, at, 32 * blocks, true),
-            many,
+    if settled < 30 * blocks {
+        return Passed {
+            places: 0,
+            right: 0,
         };
     }
-    Look {
+    Passed {
+        places: 32 * blocks,
         right: settled + walks(codes, key, typed, at, blocks, &lanes.opens),
-        many,
     }
 }
 
-// How many places to look at one by one after a part with many open ones: none, or, after one with most of them open, up to 896, since what
-// follows is likely to be the same.
-fn ahead(many: u32, left: usize) -> usize
-    ensures { λ r. ⌜ r ≤ left ⌝ }
+// How many of 128 places are right in edition 2: by slices, or place by place where a letter has no code.
+fn part(codes: &[u8; 256], key: &[u8], typed: &[u8], at: usize) -> usize
+    requires { ⌜ IsTable setOf (now codes) × (at + 128 ≤ length (now key)) × (at + 128 ≤ length (now typed)) ⌝ }
+    ensures { λ r. ⌜ Counted (agrees lies (now (key .entry)) (now (typed .entry))) at 128 r ⌝ }
 {
-    if many <= 32 {
-        return 0;
+    let cut = slices::cut_at(key, typed, at);
+    if cut.coded == 255 {
+        return wide(cut.right);
     }
-    smaller(left, 896)
+    run(codes, key, typed, at, 128, true)
 }
 
-// How many of the first places are right in edition 2, by blocks, up to the first part with many open places: a key that has many N or U is
-// told better by the letters that it means.
+// How many of n places are right in edition 2: by 128 places, and one by one.
+fn sliced(codes: &[u8; 256], key: &[u8], typed: &[u8], at: usize, n: usize) -> usize
+    requires { ⌜ IsTable setOf (now codes) × (at + n ≤ length (now key)) × (at + n ≤ length (now typed)) ⌝ }
+    ensures { λ r. ⌜ Counted (agrees lies (now (key .entry)) (now (typed .entry))) at n r ⌝ }
+{
+    let mut right: usize = 0;
+    let mut j = 0;
+    while 128 <= n - j {
+        right = right + part(codes, key, typed, at + j);
+        j += 128;
+    }
+    right + run(codes, key, typed, at + j, n - j, true)
+}
+
+// How many of the first places are right in edition 2: by blocks up to the first part with many open places, and from there on by slices, up to
+// 16,384 places more, since what follows is likely to be the same.
 fn open_in(codes: &[u8; 256], key: &[u8], typed: &[u8], at: usize, n: usize) -> Passed
     requires { ⌜ IsTable setOf (now codes) × (at + n ≤ length (now key)) × (at + n ≤ length (now typed)) ⌝ }
     ensures { λ r. ⌜ (r .places ≤ n) × (0 < n → 0 < r .places) × Counted (agrees lies (now (key .entry)) (now (typed .entry))) at (r .places) (r .right) ⌝ }
@@ -354,15 +352,15 @@ fn open_in(codes: &[u8; 256], key: &[u8], typed: &[u8], at: usize, n: usize) -> 
     while 32 <= n - j {
         let blocks = smaller((n - j) / 32, 7);
         let look = open_part(codes, key, typed, at + j, blocks);
-        right = right + look.right;
-        j += 32 * blocks;
-        if 7 < look.many {
-            let m = ahead(look.many, n - j);
+        if look.places == 0 {
+            let m = smaller(n - j, 16384);
             return Passed {
                 places: j + m,
-                right: right + run(codes, key, typed, at + j, m, true),
+                right: right + sliced(codes, key, typed, at + j, m),
             };
         }
+        right = right + look.right;
+        j += look.places;
     }
     Passed {
         places: n,
