@@ -1,5 +1,6 @@
 // What was typed against a key: how many places of the key are right, wrong and missing, how much was typed past it, and the score,
 // whose denominator is what was asked. Refused: 1 for bytes over the limit, then 33 for an edition that is not known.
+mod by_letters;
 mod lanes;
 mod slices;
 
@@ -13,8 +14,6 @@ ghost use Rattle.letters.specs.Letters.{setOf};
 ghost use Rattle.letters.specs.Sets.{bit};
 ghost use Rattle.letters.specs.Table.{IsTable};
 ghost use Rattle.scoring.specs.Rules.{folded, same, lies, ruleFor};
-ghost use Rattle.scoring.specs.Plain.{isLone, isUracil, alike, told};
-ghost use Rattle.scoring.specs.Meant.{isClear, isThymine, meant, clear, fits};
 ghost use Rattle.scoring.specs.Open.{isOpen, openLies};
 ghost use Rattle.scoring.specs.Lanes.{IsLanes, weigh, sumTo};
 ghost use Rattle.scoring.specs.Bits.{hits, place};
@@ -33,12 +32,6 @@ pub struct Score {
 pub enum Scored {
     Score(Score),
     Refused(Refusal),
-}
-
-// What is seen of some places: how many are right if all of them are told, and how many are told.
-struct Seen {
-    right: u8,
-    told: u8,
 }
 
 // Some places from the front of others: how many they are, and how many of them are right.
@@ -82,76 +75,6 @@ fn lies_bit(codes: &[u8; 256], k: u8, t: u8) -> u8
     (set & codes[k as usize] == set) as u8
 }
 
-// Is a byte A, C, G or T, or E, in either case: letters that stand for one base, and one that stands for none. Of these but T all have the
-// bit 1, and may differ in the bits 2 and 4.
-fn is_lone(b: u8) -> bool
-    ensures { λ r. ⌜ r ≡ isLone b ⌝ }
-{
-    let low = b | 32;
-    (low | 6 == b'g') | (low == b't')
-}
-
-// Is a byte U, in either case: the other letter of T's base.
-fn is_uracil(b: u8) -> bool
-    ensures { λ r. ⌜ r ≡ isUracil b ⌝ }
-{
-    b | 32 == b'u'
-}
-
-// Is edition 2 told by the letters alone, as a number: the key's letter stands for one base at most, and no U was typed.
-fn told_bit(k: u8, t: u8) -> u8
-    ensures { λ r. ⌜ r ≡ bit (told k t) ⌝ }
-{
-    (is_lone(k) & !is_uracil(t)) as u8
-}
-
-// Are two bytes the same but for the bit of lower case, as a number.
-fn alike_bit(k: u8, t: u8) -> u8
-    ensures { λ r. ⌜ r ≡ bit (alike k t) ⌝ }
-{
-    (k | 32 == t | 32) as u8
-}
-
-// Is a letter in lower case T or U: they differ in the bit 1.
-fn is_thymine(x: u8) -> bool
-    ensures { λ r. ⌜ r ≡ isThymine x ⌝ }
-{
-    x | 1 == b'u'
-}
-
-// The letter that the key means, in lower case: what was typed where the key has N, else its own. The key `ANT` and typed `AGU` mean a, g
-// and t.
-fn meant(k: u8, t: u8) -> u8
-    ensures { λ r. ⌜ r ≡ meant k t ⌝ }
-{
-    if k | 32 == b'n' {
-        return t | 32;
-    }
-    k | 32
-}
-
-// Is a letter in lower case A, C, G, T, U or N. C and G differ in the bit 4. N is meant only where N was typed for N.
-fn is_clear(x: u8) -> bool
-    ensures { λ r. ⌜ r ≡ isClear x ⌝ }
-{
-    (x | 4 == b'g') | (x == b'a') | is_thymine(x) | (x == b'n')
-}
-
-// Is edition 2 told by the letter that the key means, as a number.
-fn clear_bit(k: u8, t: u8) -> u8
-    ensures { λ r. ⌜ r ≡ bit (clear k t) ⌝ }
-{
-    is_clear(meant(k, t)) as u8
-}
-
-// Was the letter typed that the key means, as a number. The two may differ in the bit 1 where it is T or U.
-fn fits_bit(k: u8, t: u8) -> u8
-    ensures { λ r. ⌜ r ≡ bit (fits k t) ⌝ }
-{
-    let x = meant(k, t);
-    (x ^ (t | 32) <= is_thymine(x) as u8) as u8
-}
-
 // How many of 32 places are right in edition 1.
 fn same32(key: &[u8], typed: &[u8], at: usize) -> u8
     requires { ⌜ (at + 32 ≤ length (now key)) × (at + 32 ≤ length (now typed)) ⌝ }
@@ -162,43 +85,6 @@ fn same32(key: &[u8], typed: &[u8], at: usize) -> u8
         right = right + same_bit(key[at + j], typed[at + j]);
     }
     right
-}
-
-// How many of some places are right if all are told by the letters alone, and how many are told: of `ACGN` and typed `acTa` two and three.
-// Both are counted in one loop, in bytes, so that the compiler counts 32 places at once; 224 is the most times 32 that a byte holds.
-fn alike_in(key: &[u8], typed: &[u8], at: usize, n: usize) -> Seen
-    requires { ⌜ (n ≤ 224) × (at + n ≤ length (now key)) × (at + n ≤ length (now typed)) ⌝ }
-    ensures { λ r. ⌜ Counted (agrees alike (now (key .entry)) (now (typed .entry))) at n (r .right) × Counted (agrees told (now (key .entry)) (now (typed .entry))) at n (r .told) ⌝ }
-{
-    let mut right: u8 = 0;
-    let mut told: u8 = 0;
-    let mut j = 0;
-    while j < n {
-        let k = key[at + j];
-        let t = typed[at + j];
-        right = right + alike_bit(k, t);
-        told = told + told_bit(k, t);
-        j += 1;
-    }
-    Seen { right, told }
-}
-
-// The same by the letters that the key means: of `ACGN` and typed `acTa` three and four.
-fn fits_in(key: &[u8], typed: &[u8], at: usize, n: usize) -> Seen
-    requires { ⌜ (n ≤ 224) × (at + n ≤ length (now key)) × (at + n ≤ length (now typed)) ⌝ }
-    ensures { λ r. ⌜ Counted (agrees fits (now (key .entry)) (now (typed .entry))) at n (r .right) × Counted (agrees clear (now (key .entry)) (now (typed .entry))) at n (r .told) ⌝ }
-{
-    let mut right: u8 = 0;
-    let mut told: u8 = 0;
-    let mut j = 0;
-    while j < n {
-        let k = key[at + j];
-        let t = typed[at + j];
-        right = right + fits_bit(k, t);
-        told = told + clear_bit(k, t);
-        j += 1;
-    }
-    Seen { right, told }
 }
 
 fn wide(b: u8) -> usize
@@ -249,7 +135,7 @@ fn clear_in(key: &[u8], typed: &[u8], at: usize, n: usize) -> Passed
     let mut j = 0;
     while j < n {
         let m = smaller(n - j, 224);
-        let fit = fits_in(key, typed, at + j, m);
+        let fit = by_letters::fits_in(key, typed, at + j, m);
         if wide(fit.told) < m {
             return Passed { places: j, right };
         }
@@ -342,7 +228,7 @@ fn sliced(codes: &[u8; 256], key: &[u8], typed: &[u8], at: usize, n: usize) -> u
 }
 
 // How many of the first places are right in edition 2: by blocks up to the first part with many open places, and from there on by slices, up to
-// 16,384 places more, since what follows is likely to be the same.
+// 65,536 places more, since what follows is likely to be the same.
 fn open_in(codes: &[u8; 256], key: &[u8], typed: &[u8], at: usize, n: usize) -> Passed
     requires { ⌜ IsTable setOf (now codes) × (at + n ≤ length (now key)) × (at + n ≤ length (now typed)) ⌝ }
     ensures { λ r. ⌜ (r .places ≤ n) × (0 < n → 0 < r .places) × Counted (agrees lies (now (key .entry)) (now (typed .entry))) at (r .places) (r .right) ⌝ }
@@ -353,7 +239,7 @@ fn open_in(codes: &[u8; 256], key: &[u8], typed: &[u8], at: usize, n: usize) -> 
         let blocks = smaller((n - j) / 32, 7);
         let look = open_part(codes, key, typed, at + j, blocks);
         if look.places == 0 {
-            let m = smaller(n - j, 16384);
+            let m = smaller(n - j, 65536);
             return Passed {
                 places: j + m,
                 right: right + sliced(codes, key, typed, at + j, m),
@@ -397,7 +283,7 @@ fn second_in(codes: &[u8; 256], key: &[u8], typed: &[u8], n: usize) -> usize
     let mut i = 0;
     while i < n {
         let m = smaller(n - i, 224);
-        let seen = alike_in(key, typed, i, m);
+        let seen = by_letters::alike_in(key, typed, i, m);
         if wide(seen.told) < m {
             return right + second_rest(codes, key, typed, i, n - i);
         }

@@ -1,12 +1,12 @@
--- `scoring::meant` meets its contract: the test is the definition's.
+-- `scoring::by_letters::meant` meets its contract: the test is the definition's.
 -- Assumes nothing.
 use borrow.Author.Tests.{eq-eqb, ne-eqb}
 use Rattle.scoring.specs.Meant.{meant}
 use borrow.Author.Needs.{needs}
-use Rattle.scoring.proofs.meant.Statement.{statement}
-use Rattle.scoring.proofs.meant.Tie as tie
-use Rattle.scoring.proofs.meant.Reads as reads
-use Rattle.scoring.proofs.meant.Lts as lts
+use Rattle.scoring.proofs.by_letters.meant.Statement.{statement}
+use Rattle.scoring.proofs.by_letters.meant.Tie as tie
+use Rattle.scoring.proofs.by_letters.meant.Reads as reads
+use Rattle.scoring.proofs.by_letters.meant.Lts as lts
 
 returns : tie.Need-returns
 unfolding meant

@@ -1,4 +1,4 @@
--- `scoring::clear_bit` meets its contract: key and typed are bytes.
+-- `scoring::by_letters::clear_bit` meets its contract: key and typed are bytes.
 -- Assumes nothing.
 use Prim.Native.Nat.{_<_}
 use mathlib.Core.Path.{_≡_, refl, _∙_}
@@ -9,12 +9,12 @@ use Rattle.letters.specs.Sets.{bit}
 use Rattle.scoring.specs.Plain.{byte-bit}
 use Rattle.scoring.specs.Meant.{isClear, meant, clear}
 use borrow.Author.Needs.{needs}
-use Rattle.scoring.proofs.clear_bit.Statement.{statement}
-use Rattle.scoring.proofs.clear_bit.Tie as tie
-use Rattle.scoring.proofs.clear_bit.Reads as reads
-use Rattle.scoring.proofs.clear_bit.Lts as lts
-use Rattle.scoring.proofs.is_clear.Reads as is-clear-reads
-use Rattle.scoring.proofs.meant.Reads as meant-reads
+use Rattle.scoring.proofs.by_letters.clear_bit.Statement.{statement}
+use Rattle.scoring.proofs.by_letters.clear_bit.Tie as tie
+use Rattle.scoring.proofs.by_letters.clear_bit.Reads as reads
+use Rattle.scoring.proofs.by_letters.clear_bit.Lts as lts
+use Rattle.scoring.proofs.by_letters.is_clear.Reads as is-clear-reads
+use Rattle.scoring.proofs.by_letters.meant.Reads as meant-reads
 
 and-both : (a b c : Bool) → b ≡ true → c ≡ true → bit a ≡ bit (a && (b && c))
 and-both true b c e f = rw (e, f)

@@ -1,4 +1,4 @@
--- `scoring::fits_bit` meets its contract: the test is the definition.
+-- `scoring::by_letters::fits_bit` meets its contract: the test is the definition.
 -- Assumes nothing.
 use lib.Dec.{leb}
 use lib.Bits.{bitOr, bitXor}
@@ -6,12 +6,12 @@ use Rattle.letters.specs.Sets.{bit}
 use Rattle.scoring.specs.Plain.{byte-bit}
 use Rattle.scoring.specs.Meant.{isThymine, meant, fits}
 use borrow.Author.Needs.{needs}
-use Rattle.scoring.proofs.fits_bit.Statement.{statement}
-use Rattle.scoring.proofs.fits_bit.Tie as tie
-use Rattle.scoring.proofs.fits_bit.Reads as reads
-use Rattle.scoring.proofs.fits_bit.Lts as lts
-use Rattle.scoring.proofs.is_thymine.Reads as is-thymine-reads
-use Rattle.scoring.proofs.meant.Reads as meant-reads
+use Rattle.scoring.proofs.by_letters.fits_bit.Statement.{statement}
+use Rattle.scoring.proofs.by_letters.fits_bit.Tie as tie
+use Rattle.scoring.proofs.by_letters.fits_bit.Reads as reads
+use Rattle.scoring.proofs.by_letters.fits_bit.Lts as lts
+use Rattle.scoring.proofs.by_letters.is_thymine.Reads as is-thymine-reads
+use Rattle.scoring.proofs.by_letters.meant.Reads as meant-reads
 
 meant-requires : tie.Need-meant-requires
 meant-requires c κs = search needs

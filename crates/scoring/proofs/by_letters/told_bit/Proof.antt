@@ -1,4 +1,4 @@
--- `scoring::told_bit` meets its contract: what was typed is a byte.
+-- `scoring::by_letters::told_bit` meets its contract: what was typed is a byte.
 -- Assumes nothing.
 use Prim.Native.Nat.{ℕ, _<_}
 use mathlib.Core.Path.{_≡_, refl, _∙_}
@@ -8,10 +8,10 @@ use borrow.Author.Tests.{lt-ltb}
 use Rattle.letters.specs.Sets.{bit}
 use Rattle.scoring.specs.Plain.{isLone, isUracil, told, byte-bit}
 use borrow.Author.Needs.{needs}
-use Rattle.scoring.proofs.told_bit.Statement.{statement}
-use Rattle.scoring.proofs.told_bit.Tie as tie
-use Rattle.scoring.proofs.is_lone.Reads as is-lone-reads
-use Rattle.scoring.proofs.is_uracil.Reads as is-uracil-reads
+use Rattle.scoring.proofs.by_letters.told_bit.Statement.{statement}
+use Rattle.scoring.proofs.by_letters.told_bit.Tie as tie
+use Rattle.scoring.proofs.by_letters.is_lone.Reads as is-lone-reads
+use Rattle.scoring.proofs.by_letters.is_uracil.Reads as is-uracil-reads
 
 and-true : (a b : Bool) → b ≡ true → bit a ≡ bit (a && b)
 and-true true b e = rw e

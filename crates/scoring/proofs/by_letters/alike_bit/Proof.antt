@@ -1,11 +1,11 @@
--- `scoring::alike_bit` meets its contract.
+-- `scoring::by_letters::alike_bit` meets its contract.
 -- Assumes nothing.
 use lib.Dec.{eqb}
 use lib.Bits.{bitOr}
 use Rattle.scoring.specs.Plain.{alike, byte-bit}
 use borrow.Author.Needs.{needs}
-use Rattle.scoring.proofs.alike_bit.Statement.{statement}
-use Rattle.scoring.proofs.alike_bit.Tie as tie
+use Rattle.scoring.proofs.by_letters.alike_bit.Statement.{statement}
+use Rattle.scoring.proofs.by_letters.alike_bit.Tie as tie
 
 cast-result : tie.Need-cast-result
 cast-result c = search needs
