@@ -181,15 +181,25 @@ fn walks(
     right
 }
 
-// How many places of some blocks are right in edition 2: those that are settled, and the open ones, bit by bit. None is passed where more than
-// two in 32 are open or wrong: there slices are quicker.
+// An estimate of how many places are open, by the first eight lanes. It is 0 where most places are right and settled.
+fn many(opens: &[u8; 32], right: usize, n: usize) -> u32
+    requires { ⌜ right ≤ 224 ⌝ }
+{
+    if right + 20 < n {
+        return u64::count_ones(lanes::word(opens, 0));
+    }
+    0
+}
+
+// How many places of some blocks are right in edition 2: those that are settled, and the open ones, bit by bit. None is passed where many are
+// open: there slices are quicker.
 fn open_part(codes: &[u8; 256], key: &[u8], typed: &[u8], at: usize, blocks: usize) -> Passed
     requires { ⌜ (IsTable setOf (now codes) × (blocks ≤ 7)) × (at + 32 * blocks ≤ length (now key)) × (at + 32 * blocks ≤ length (now typed)) ⌝ }
     ensures { λ r. ⌜ (r .places ≤ 32 * blocks) × Counted (agrees lies (now (key .entry)) (now (typed .entry))) at (r .places) (r .right) ⌝ }
 {
     let lanes = lanes::lanes_in(key, typed, at, blocks);
     let settled = lanes::total(&lanes.right);
-    if settled < 30 * blocks {
+    if 7 < many(&lanes.opens, settled, 32 * blocks) {
         return Passed {
             places: 0,
             right: 0,
