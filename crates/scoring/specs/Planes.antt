@@ -1,7 +1,7 @@
 -- Bytes by their bits. Eight bytes are turned to eight planes, of which plane i has bit i of all eight, by swapping parts of two bytes.
 use Prim.Native.Nat.{ℕ, zero, suc, _+_, _-_, _*_, _/_, _%_, _^_, _≤_, _<_, min, max}
 use mathlib.Core.Path.{_≡_, refl, sym, ap, ap₂, _∙_}
-use mathlib.Core.Bool.{Bool, true, false, cond, not, xor, _&&_, _||_, true≢false}
+use mathlib.Core.Bool.{Bool, true, false, cond, not, xor, _&&_, _||_}
 use native.Mathlib.Nat.{pow-suc, add-zero, add-suc, mul-assoc, mul-one}
 use native.Mathlib.Numerals.{add-one, add-two, add-four}
 use native.Mathlib.Omega.{arith}
@@ -52,15 +52,6 @@ bit-or = bit-op bitOr max _||_ (below max tt) or-step (four max _||_ tt)
 pub bit-xor : (i a b : ℕ) → bitAt i (bitXor a b) ≡ xor (bitAt i a) (bitAt i b)
 unfolding beq xor
 bit-xor = bit-op bitXor differ xor (below differ tt) xor-step (four differ xor tt)
-
--- 255 has eight bits
-pub bit-not : (i a : ℕ) → i < 8 → bitAt i (bitXor a 255) ≡ not (bitAt i a)
-unfolding bitAt xor beq
-bit-not i a h = bit-xor i a 255 ∙ (ap (xor (bitAt i a)) (beq-same (bitAt i 255) true (holds-at (λ i. beq (bitAt i 255) true) 8 tt i h)) ∙ last (bitAt i a))
-  where
-    last : (v : Bool) → xor v true ≡ not v
-    last true = refl
-    last false = refl
 
 -- ---- shifts
 

@@ -1,7 +1,7 @@
 -- Eight letters at once: their sets of bases by operations on planes, and what they say of edition 2.
 use Prim.Native.Nat.{ℕ, zero, suc, _+_, _*_, _^_, _≤_, _<_}
 use mathlib.Core.Path.{_≡_, refl, sym, ap, ap₂, _∙_}
-use mathlib.Core.Bool.{Bool, true, false, cond, not, xor, _&&_, _||_, true≢false}
+use mathlib.Core.Bool.{Bool, true, false, not, xor, _&&_, _||_, true≢false}
 use mathlib.Core.List.{List}
 use native.Mathlib.Nat.{add-zero}
 use native.Mathlib.Omega.{arith}
@@ -11,8 +11,8 @@ use lib.Bits.{bitAnd, bitOr, bitXor, and-le-l, or-lt, xor-lt}
 use lib.Count.{ones, ones-le}
 use Rattle.letters.specs.Letters.{setOf}
 use Rattle.letters.specs.Sets.{bit, inside}
-use Rattle.scoring.specs.Rules.{same, coded, lies}
-use Rattle.scoring.specs.RuleLaws.{holds, holds-at}
+use Rattle.scoring.specs.Rules.{coded, lies}
+use Rattle.scoring.specs.RuleLaws.{holds-at}
 use Rattle.scoring.specs.Theorems.{beq, beq-same}
 use Rattle.scoring.specs.Places.{countBelow}
 use Rattle.scoring.specs.Counting.{Counted, agrees, count-same, count-rise}

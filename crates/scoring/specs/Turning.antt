@@ -1,6 +1,6 @@
 -- Eight bytes turned to planes: halves, quarters and bits swapped in four pairs each.
 use Prim.Native.Nat.{ℕ, zero, suc, _<_}
-use mathlib.Core.Path.{_≡_, refl, sym, ap, _∙_}
+use mathlib.Core.Path.{_≡_, _∙_}
 use native.Mathlib.Omega.{arith}
 use lib.Dec.{lit<}
 use Rattle.scoring.specs.Planes.{bitAt, Swapped}

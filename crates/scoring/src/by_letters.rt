@@ -1,6 +1,6 @@
 // Looks at places by their letters alone, and by the letters that the key means: where these tell edition 2, no set of bases is looked up.
 ghost use mathlib.Core.Path.{_≡_};
-ghost use Prim.Native.Nat.{ℕ, _+_, _≤_};
+ghost use Prim.Native.Nat.{_+_, _≤_};
 ghost use lib.ListN.{length};
 ghost use Rattle.letters.specs.Sets.{bit};
 ghost use Rattle.scoring.specs.Plain.{isLone, isUracil, alike, told};

@@ -1,11 +1,10 @@
-// A look at 128 places of a key in bit slices, for keys in which most letters stand for several bases: it costs the same for any letters that
+// A look at 128 places of a key in bit slices, for keys in which many letters stand for several bases: it costs the same for any letters that
 // have a code. Lane l of 16 has the places l, 16 + l, 32 + l and so on to 112 + l, so the compiler looks at 16 lanes at once.
 //
 // The eight letters of a lane are turned to planes: plane i is the byte that has bit i of all eight, the first letter's in its lowest bit. Then
 // one operation on bytes is done for eight letters. The letters of `AGAGAGAG` are 65 and 71 by turns, 1000001 and 1000111: plane 0 is 255,
 // planes 1 and 2 are 170, and plane 6 is 255.
 ghost use mathlib.Core.Path.{_≡_};
-ghost use mathlib.Core.Bool.{true};
 ghost use Prim.Native.Nat.{ℕ, _+_, _*_, _≤_, _<_};
 ghost use lib.ListN.{length, getD};
 ghost use Rattle.scoring.specs.Rules.{lies};

@@ -1,7 +1,7 @@
 -- `scoring::open_in` meets its contract: part by part, then by slices, or what is left place by place.
 -- Assumes nothing.
-use Prim.Native.Nat.{_+_, _-_, _*_, _≤_, _<_}
-use mathlib.Core.Path.{_≡_, refl, sym, ap, _∙_}
+use Prim.Native.Nat.{_+_, _-_, _≤_}
+use mathlib.Core.Path.{_≡_}
 use native.Mathlib.Omega.{arith}
 use Rattle.scoring.specs.Rules.{lies}
 use Rattle.scoring.specs.Counting.{Counted, agrees, counted-none, counted-join}

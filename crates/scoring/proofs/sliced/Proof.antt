@@ -1,7 +1,7 @@
 -- `scoring::sliced` meets its contract: 128 places more by each part, and the rest.
 -- Assumes nothing.
 use Prim.Native.Nat.{_+_, _-_, _≤_}
-use mathlib.Core.Path.{_≡_, refl, sym, ap, _∙_}
+use mathlib.Core.Path.{_≡_}
 use native.Mathlib.Omega.{arith}
 use Rattle.scoring.specs.Rules.{lies}
 use Rattle.scoring.specs.Counting.{Counted, agrees, counted-none, counted-join}

@@ -1,15 +1,13 @@
--- `scoring::slices::cut_at` meets its contract.
+-- `scoring::slices::cut_at` meets its contract: of the lanes passed, so many places are right, if all letters have a code.
 -- Assumes nothing.
-use Prim.Native.Nat.{ℕ, _+_, _-_, _*_, _≤_, _<_}
-use mathlib.Core.Path.{_≡_, refl, sym, ap, ap₂, _∙_}
+use Prim.Native.Nat.{_+_, _-_, _*_, _≤_}
+use mathlib.Core.Path.{_≡_, refl, sym, ap₂, _∙_}
 use native.Mathlib.Omega.{arith}
-use lib.Bits.{bitAnd, and-le-l, and-le-r}
-use lib.ListN.{getD}
+use lib.Bits.{and-le-l, and-le-r}
 use Rattle.scoring.specs.Rules.{lies}
 use Rattle.scoring.specs.Places.{countBelow}
-use Rattle.scoring.specs.Counting.{agrees, count-same}
+use Rattle.scoring.specs.Counting.{agrees}
 use Rattle.scoring.specs.Lanes.{sumTo, sum-next}
-use Rattle.scoring.specs.Turning.{row}
 use Rattle.scoring.specs.Slices.{IsLane, lane-places, counted-cut}
 use borrow.Author.Needs.{needs}
 use Rattle.scoring.proofs.slices.cut_at.Statement.{statement}

@@ -1,4 +1,4 @@
--- `scoring::slices::gates` meets its contract.
+-- `scoring::slices::gates` meets its contract: each operation is done bit by bit.
 -- Assumes nothing.
 use Rattle.scoring.specs.Planes.{bit-and, bit-or, bit-xor}
 use Rattle.scoring.specs.Slices.{Gated, gateA, gateC, gateG, gateH, gateT, gateV, bit-full}

@@ -1,4 +1,4 @@
--- `scoring::slices::lane` meets its contract.
+-- `scoring::slices::lane` meets its contract: the letters are bytes, and where all have a code the gates tell what is right.
 -- Assumes nothing.
 use Prim.Native.Nat.{ℕ, _<_}
 use mathlib.Core.Path.{refl}

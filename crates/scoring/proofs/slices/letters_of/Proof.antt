@@ -1,4 +1,4 @@
--- `scoring::slices::letters_of` meets its contract.
+-- `scoring::slices::letters_of` meets its contract: letter j is 16 j places behind the first.
 -- Assumes nothing.
 use Rattle.scoring.specs.Slices.{letters-at}
 use borrow.Author.Needs.{needs}

@@ -1,4 +1,4 @@
--- `scoring::slices::sets_of` meets its contract.
+-- `scoring::slices::sets_of` meets its contract: plane i has bit i of each letter.
 -- Assumes nothing.
 use Rattle.scoring.specs.Turning.{row}
 use Rattle.scoring.specs.Slices.{sets-turned}

@@ -1,4 +1,4 @@
--- `scoring::slices::swap_four` meets its contract.
+-- `scoring::slices::swap_four` meets its contract: a law for all bytes, bit by bit.
 -- Assumes nothing.
 use Rattle.scoring.specs.Planes.{swap-four}
 use Rattle.scoring.proofs.slices.swap_four.Statement.{statement}

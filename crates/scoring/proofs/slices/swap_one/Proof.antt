@@ -1,4 +1,4 @@
--- `scoring::slices::swap_one` meets its contract.
+-- `scoring::slices::swap_one` meets its contract: a law for all bytes, bit by bit.
 -- Assumes nothing.
 use Rattle.scoring.specs.Planes.{swap-one}
 use Rattle.scoring.proofs.slices.swap_one.Statement.{statement}

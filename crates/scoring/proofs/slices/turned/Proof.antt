@@ -1,4 +1,4 @@
--- `scoring::slices::turned` meets its contract.
+-- `scoring::slices::turned` meets its contract: each bit is followed through three swaps.
 -- Assumes nothing.
 use Rattle.scoring.specs.Turning.{turn-planes}
 use borrow.Author.Needs.{needs}
