@@ -68,7 +68,7 @@ unfolding sumTo
 sum-most f zero h = omega arith
 sum-most f (suc n) h = omega (arith, sum-most f n (λ i p. h i (omega arith)), h n (omega arith))
 
-sum-zero : (f : ℕ → ℕ) → ((l : ℕ) → f l ≡ 0) → (m : ℕ) → sumTo f m ≡ 0
+pub sum-zero : (f : ℕ → ℕ) → ((l : ℕ) → f l ≡ 0) → (m : ℕ) → sumTo f m ≡ 0
 unfolding sumTo
 sum-zero f h zero = refl
 sum-zero f h (suc m) = omega (arith, sum-zero f h m, h m)
@@ -80,7 +80,7 @@ sum-both f g (suc m) = omega (arith, sum-both f g m)
 
 -- ---- all lanes are all places
 
-row : (f : ℕ → Bool) (q m : ℕ) → countBelow f q + sumTo (λ l. bit (f (q + l))) m ≡ countBelow f (q + m)
+pub row : (f : ℕ → Bool) (q m : ℕ) → countBelow f q + sumTo (λ l. bit (f (q + l))) m ≡ countBelow f (q + m)
 unfolding countBelow sumTo
 row f q zero = rw (add-zero q) (omega arith)
 row f q (suc m) = rw (add-suc q m) (omega (arith, row f q m))
@@ -95,7 +95,7 @@ grid f q (suc n) =
 pub counted-lanes : (f : ℕ → Bool) (at n r : ℕ) → r ≡ sumTo (weigh f 1 at n) 32 → Counted f at (32 * n) r
 counted-lanes f at n r e = record { counts = omega (arith, grid f at n); most = omega (arith, grid f at n, count-rise f at (32 * n)) }
 
-sum-same : (f g : ℕ → ℕ) (m : ℕ) → ((i : ℕ) → i < m → f i ≡ g i) → sumTo f m ≡ sumTo g m
+pub sum-same : (f g : ℕ → ℕ) (m : ℕ) → ((i : ℕ) → i < m → f i ≡ g i) → sumTo f m ≡ sumTo g m
 unfolding sumTo
 sum-same f g zero h = refl
 sum-same f g (suc m) h = omega (arith, sum-same f g m (λ i p. h i (omega arith)), h m (omega arith))

@@ -8,5 +8,8 @@ pub mod Plain
 pub mod Meant
 pub mod Lanes
 pub mod Bits
+pub mod Planes
+pub mod Turning
+pub mod Slices
 pub mod Open
 pub mod Examples

@@ -1,19 +1,19 @@
 // What was typed against a key: how many places of the key are right, wrong and missing, how much was typed past it, and the score,
 // whose denominator is what was asked. Refused: 1 for bytes over the limit, then 33 for an edition that is not known.
+mod by_letters;
 mod lanes;
+mod slices;
 
 use refusal::Refusal;
 ghost use mathlib.Core.Path.{_≡_};
 ghost use mathlib.Core.Bool.{true, false, not};
-ghost use Prim.Native.Nat.{ℕ, _+_, _*_, _≤_, _<_, min};
+ghost use Prim.Native.Nat.{_+_, _*_, _≤_, _<_, min};
 ghost use lib.Dec.{ltb};
-ghost use lib.ListN.{length, getD};
+ghost use lib.ListN.{length};
 ghost use Rattle.letters.specs.Letters.{setOf};
 ghost use Rattle.letters.specs.Sets.{bit};
 ghost use Rattle.letters.specs.Table.{IsTable};
 ghost use Rattle.scoring.specs.Rules.{folded, same, lies, ruleFor};
-ghost use Rattle.scoring.specs.Plain.{isLone, isUracil, alike, told};
-ghost use Rattle.scoring.specs.Meant.{isClear, isThymine, meant, clear, fits};
 ghost use Rattle.scoring.specs.Open.{isOpen, openLies};
 ghost use Rattle.scoring.specs.Lanes.{IsLanes, weigh, sumTo};
 ghost use Rattle.scoring.specs.Bits.{hits, place};
@@ -34,22 +34,10 @@ pub enum Scored {
     Refused(Refusal),
 }
 
-// What is seen of some places: how many are right if all of them are told, and how many are told.
-struct Seen {
-    right: u8,
-    told: u8,
-}
-
 // Some places from the front of others: how many they are, and how many of them are right.
 struct Passed {
     places: usize,
     right: usize,
-}
-
-// What a look at a part finds: how many places are right, and an estimate of how many are open.
-struct Look {
-    right: usize,
-    many: u32,
 }
 
 // An ASCII letter in upper case; another byte as it is.
@@ -87,76 +75,6 @@ fn lies_bit(codes: &[u8; 256], k: u8, t: u8) -> u8
     (set & codes[k as usize] == set) as u8
 }
 
-// Is a byte A, C, G or T, or E, in either case: letters that stand for one base, and one that stands for none. Of these but T all have the
-// bit 1, and may differ in the bits 2 and 4.
-fn is_lone(b: u8) -> bool
-    ensures { λ r. ⌜ r ≡ isLone b ⌝ }
-{
-    let low = b | 32;
-    (low | 6 == b'g') | (low == b't')
-}
-
-// Is a byte U, in either case: the other letter of T's base.
-fn is_uracil(b: u8) -> bool
-    ensures { λ r. ⌜ r ≡ isUracil b ⌝ }
-{
-    b | 32 == b'u'
-}
-
-// Is edition 2 told by the letters alone, as a number: the key's letter stands for one base at most, and no U was typed.
-fn told_bit(k: u8, t: u8) -> u8
-    ensures { λ r. ⌜ r ≡ bit (told k t) ⌝ }
-{
-    (is_lone(k) & !is_uracil(t)) as u8
-}
-
-// Are two bytes the same but for the bit of lower case, as a number.
-fn alike_bit(k: u8, t: u8) -> u8
-    ensures { λ r. ⌜ r ≡ bit (alike k t) ⌝ }
-{
-    (k | 32 == t | 32) as u8
-}
-
-// Is a letter in lower case T or U: they differ in the bit 1.
-fn is_thymine(x: u8) -> bool
-    ensures { λ r. ⌜ r ≡ isThymine x ⌝ }
-{
-    x | 1 == b'u'
-}
-
-// The letter that the key means, in lower case: what was typed where the key has N, else its own. The key `ANT` and typed `AGU` mean a, g
-// and t.
-fn meant(k: u8, t: u8) -> u8
-    ensures { λ r. ⌜ r ≡ meant k t ⌝ }
-{
-    if k | 32 == b'n' {
-        return t | 32;
-    }
-    k | 32
-}
-
-// Is a letter in lower case A, C, G, T, U or N. C and G differ in the bit 4. N is meant only where N was typed for N.
-fn is_clear(x: u8) -> bool
-    ensures { λ r. ⌜ r ≡ isClear x ⌝ }
-{
-    (x | 4 == b'g') | (x == b'a') | is_thymine(x) | (x == b'n')
-}
-
-// Is edition 2 told by the letter that the key means, as a number.
-fn clear_bit(k: u8, t: u8) -> u8
-    ensures { λ r. ⌜ r ≡ bit (clear k t) ⌝ }
-{
-    is_clear(meant(k, t)) as u8
-}
-
-// Was the letter typed that the key means, as a number. The two may differ in the bit 1 where it is T or U.
-fn fits_bit(k: u8, t: u8) -> u8
-    ensures { λ r. ⌜ r ≡ bit (fits k t) ⌝ }
-{
-    let x = meant(k, t);
-    (x ^ (t | 32) <= is_thymine(x) as u8) as u8
-}
-
 // How many of 32 places are right in edition 1.
 fn same32(key: &[u8], typed: &[u8], at: usize) -> u8
     requires { ⌜ (at + 32 ≤ length (now key)) × (at + 32 ≤ length (now typed)) ⌝ }
@@ -167,43 +85,6 @@ fn same32(key: &[u8], typed: &[u8], at: usize) -> u8
         right = right + same_bit(key[at + j], typed[at + j]);
     }
     right
-}
-
-// How many of some places are right if all are told by the letters alone, and how many are told: of `ACGN` and typed `acTa` two and three.
-// Both are counted in one loop, in bytes, so that the compiler counts 32 places at once; 224 is the most times 32 that a byte holds.
-fn alike_in(key: &[u8], typed: &[u8], at: usize, n: usize) -> Seen
-    requires { ⌜ (n ≤ 224) × (at + n ≤ length (now key)) × (at + n ≤ length (now typed)) ⌝ }
-    ensures { λ r. ⌜ Counted (agrees alike (now (key .entry)) (now (typed .entry))) at n (r .right) × Counted (agrees told (now (key .entry)) (now (typed .entry))) at n (r .told) ⌝ }
-{
-    let mut right: u8 = 0;
-    let mut told: u8 = 0;
-    let mut j = 0;
-    while j < n {
-        let k = key[at + j];
-        let t = typed[at + j];
-        right = right + alike_bit(k, t);
-        told = told + told_bit(k, t);
-        j += 1;
-    }
-    Seen { right, told }
-}
-
-// The same by the letters that the key means: of `ACGN` and typed `acTa` three and four.
-fn fits_in(key: &[u8], typed: &[u8], at: usize, n: usize) -> Seen
-    requires { ⌜ (n ≤ 224) × (at + n ≤ length (now key)) × (at + n ≤ length (now typed)) ⌝ }
-    ensures { λ r. ⌜ Counted (agrees fits (now (key .entry)) (now (typed .entry))) at n (r .right) × Counted (agrees clear (now (key .entry)) (now (typed .entry))) at n (r .told) ⌝ }
-{
-    let mut right: u8 = 0;
-    let mut told: u8 = 0;
-    let mut j = 0;
-    while j < n {
-        let k = key[at + j];
-        let t = typed[at + j];
-        right = right + fits_bit(k, t);
-        told = told + clear_bit(k, t);
-        j += 1;
-    }
-    Seen { right, told }
 }
 
 fn wide(b: u8) -> usize
@@ -254,7 +135,7 @@ fn clear_in(key: &[u8], typed: &[u8], at: usize, n: usize) -> Passed
     let mut j = 0;
     while j < n {
         let m = smaller(n - j, 224);
-        let fit = fits_in(key, typed, at + j, m);
+        let fit = by_letters::fits_in(key, typed, at + j, m);
         if wide(fit.told) < m {
             return Passed { places: j, right };
         }
@@ -304,46 +185,60 @@ fn walks(
 fn many(opens: &[u8; 32], right: usize, n: usize) -> u32
     requires { ⌜ right ≤ 224 ⌝ }
 {
-    if right + 28 < n {
+    if right + 20 < n {
         return u64::count_ones(lanes::word(opens, 0));
     }
     0
 }
 
-// How many places of some blocks are right in edition 2: those that are settled, and the open ones, bit by bit, or place by place where
-// most are open.
-fn open_part(codes: &[u8; 256], key: &[u8], typed: &[u8], at: usize, blocks: usize) -> Look
+// How many places of some blocks are right in edition 2: those that are settled, and the open ones, bit by bit. None is passed where many are
+// open: there slices are quicker.
+fn open_part(codes: &[u8; 256], key: &[u8], typed: &[u8], at: usize, blocks: usize) -> Passed
     requires { ⌜ (IsTable setOf (now codes) × (blocks ≤ 7)) × (at + 32 * blocks ≤ length (now key)) × (at + 32 * blocks ≤ length (now typed)) ⌝ }
-    ensures { λ r. ⌜ Counted (agrees lies (now (key .entry)) (now (typed .entry))) at (32 * blocks) (r .right) ⌝ }
+    ensures { λ r. ⌜ (r .places ≤ 32 * blocks) × Counted (agrees lies (now (key .entry)) (now (typed .entry))) at (r .places) (r .right) ⌝ }
 {
     let lanes = lanes::lanes_in(key, typed, at, blocks);
     let settled = lanes::total(&lanes.right);
-    let many = many(&lanes.opens, settled, 32 * blocks);
-    if 32 < many {
-        return Look {
-            right: run(codes, key, typed, at, 32 * blocks, true),
-            many,
+    if 7 < many(&lanes.opens, settled, 32 * blocks) {
+        return Passed {
+            places: 0,
+            right: 0,
         };
     }
-    Look {
+    Passed {
+        places: 32 * blocks,
         right: settled + walks(codes, key, typed, at, blocks, &lanes.opens),
-        many,
     }
 }
 
-// How many places to look at one by one after a part with many open ones: none, or, after one with most of them open, up to 896, since what
-// follows is likely to be the same.
-fn ahead(many: u32, left: usize) -> usize
-    ensures { λ r. ⌜ r ≤ left ⌝ }
+// How many of 128 places are right in edition 2: by slices, or place by place where a letter has no code.
+fn part(codes: &[u8; 256], key: &[u8], typed: &[u8], at: usize) -> usize
+    requires { ⌜ IsTable setOf (now codes) × (at + 128 ≤ length (now key)) × (at + 128 ≤ length (now typed)) ⌝ }
+    ensures { λ r. ⌜ Counted (agrees lies (now (key .entry)) (now (typed .entry))) at 128 r ⌝ }
 {
-    if many <= 32 {
-        return 0;
+    let cut = slices::cut_at(key, typed, at);
+    if cut.coded == 255 {
+        return wide(cut.right);
     }
-    smaller(left, 896)
+    run(codes, key, typed, at, 128, true)
 }
 
-// How many of the first places are right in edition 2, by blocks, up to the first part with many open places: a key that has many N or U is
-// told better by the letters that it means.
+// How many of n places are right in edition 2: by 128 places, and one by one.
+fn sliced(codes: &[u8; 256], key: &[u8], typed: &[u8], at: usize, n: usize) -> usize
+    requires { ⌜ IsTable setOf (now codes) × (at + n ≤ length (now key)) × (at + n ≤ length (now typed)) ⌝ }
+    ensures { λ r. ⌜ Counted (agrees lies (now (key .entry)) (now (typed .entry))) at n r ⌝ }
+{
+    let mut right: usize = 0;
+    let mut j = 0;
+    while 128 <= n - j {
+        right = right + part(codes, key, typed, at + j);
+        j += 128;
+    }
+    right + run(codes, key, typed, at + j, n - j, true)
+}
+
+// How many of the first places are right in edition 2: by blocks up to the first part with many open places, and from there on by slices, up to
+// 65,536 places more, since what follows is likely to be the same.
 fn open_in(codes: &[u8; 256], key: &[u8], typed: &[u8], at: usize, n: usize) -> Passed
     requires { ⌜ IsTable setOf (now codes) × (at + n ≤ length (now key)) × (at + n ≤ length (now typed)) ⌝ }
     ensures { λ r. ⌜ (r .places ≤ n) × (0 < n → 0 < r .places) × Counted (agrees lies (now (key .entry)) (now (typed .entry))) at (r .places) (r .right) ⌝ }
@@ -353,15 +248,15 @@ fn open_in(codes: &[u8; 256], key: &[u8], typed: &[u8], at: usize, n: usize) -> 
     while 32 <= n - j {
         let blocks = smaller((n - j) / 32, 7);
         let look = open_part(codes, key, typed, at + j, blocks);
-        right = right + look.right;
-        j += 32 * blocks;
-        if 7 < look.many {
-            let m = ahead(look.many, n - j);
+        if look.places == 0 {
+            let m = smaller(n - j, 65536);
             return Passed {
                 places: j + m,
-                right: right + run(codes, key, typed, at + j, m, true),
+                right: right + sliced(codes, key, typed, at + j, m),
             };
         }
+        right = right + look.right;
+        j += look.places;
     }
     Passed {
         places: n,
@@ -398,7 +293,7 @@ fn second_in(codes: &[u8; 256], key: &[u8], typed: &[u8], n: usize) -> usize
     let mut i = 0;
     while i < n {
         let m = smaller(n - i, 224);
-        let seen = alike_in(key, typed, i, m);
+        let seen = by_letters::alike_in(key, typed, i, m);
         if wide(seen.told) < m {
             return right + second_rest(codes, key, typed, i, n - i);
         }

@@ -11,7 +11,7 @@ use Rattle.scoring.proofs.clear_in.Statement.{statement}
 use Rattle.scoring.proofs.clear_in.Tie as tie
 use Rattle.scoring.proofs.clear_in.Reads as reads
 use Rattle.scoring.proofs.clear_in.Lts as lts
-use Rattle.scoring.proofs.fits_in.Reads as fits-in-reads
+use Rattle.scoring.proofs.by_letters.fits_in.Reads as fits-in-reads
 use Rattle.scoring.proofs.smaller.Reads as smaller-reads
 use Rattle.scoring.proofs.wide.Reads as wide-reads
 

@@ -12,7 +12,7 @@ use Rattle.scoring.proofs.second_in.Statement.{statement}
 use Rattle.scoring.proofs.second_in.Tie as tie
 use Rattle.scoring.proofs.second_in.Reads as reads
 use Rattle.scoring.proofs.second_in.Lts as lts
-use Rattle.scoring.proofs.alike_in.Reads as alike-in-reads
+use Rattle.scoring.proofs.by_letters.alike_in.Reads as alike-in-reads
 use Rattle.scoring.proofs.second_rest.Reads as second-rest-reads
 use Rattle.scoring.proofs.smaller.Reads as smaller-reads
 use Rattle.scoring.proofs.wide.Reads as wide-reads
