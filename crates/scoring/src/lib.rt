@@ -238,7 +238,7 @@ fn sliced(codes: &[u8; 256], key: &[u8], typed: &[u8], at: usize, n: usize) -> u
 }
 
 // How many of the first places are right in edition 2: by blocks up to the first part with many open places, and from there on by slices, up to
-// 65,536 places more, since what follows is likely to be the same.
+// 65,536 places more, since what follows is likely to be the same. Two calls keep the slices out of the function that has the other loops.
 fn open_in(codes: &[u8; 256], key: &[u8], typed: &[u8], at: usize, n: usize) -> Passed
     requires { ⌜ IsTable setOf (now codes) × (at + n ≤ length (now key)) × (at + n ≤ length (now typed)) ⌝ }
     ensures { λ r. ⌜ (r .places ≤ n) × (0 < n → 0 < r .places) × Counted (agrees lies (now (key .entry)) (now (typed .entry))) at (r .places) (r .right) ⌝ }
@@ -260,7 +260,7 @@ fn open_in(codes: &[u8; 256], key: &[u8], typed: &[u8], at: usize, n: usize) -> 
     }
     Passed {
         places: n,
-        right: right + run(codes, key, typed, at + j, n - j, true),
+        right: right + sliced(codes, key, typed, at + j, n - j),
     }
 }
 

@@ -1,4 +1,4 @@
--- `scoring::open_in` meets its contract: part by part, then by slices, or what is left place by place.
+-- `scoring::open_in` meets its contract: part by part, and then by slices.
 -- Assumes nothing.
 use Prim.Native.Nat.{_+_, _-_, _≤_}
 use mathlib.Core.Path.{_≡_}
@@ -11,7 +11,6 @@ use Rattle.scoring.proofs.open_in.Tie as tie
 use Rattle.scoring.proofs.open_in.Reads as reads
 use Rattle.scoring.proofs.open_in.Lts as lts
 use Rattle.scoring.proofs.open_part.Reads as open-part-reads
-use Rattle.scoring.proofs.run.Reads as run-reads
 use Rattle.scoring.proofs.sliced.Reads as sliced-reads
 use Rattle.scoring.proofs.smaller.Reads as smaller-reads
 
@@ -82,23 +81,23 @@ loop-less c = search needs
 loop-again : tie.Need-loop-again Inv-loop μ-loop
 loop-again c = (omega (arith, c .before .before .before .before .open-part .ensures .0), part (c .before))
 
-add-run : tie.Need-add-run Inv-loop μ-loop
-add-run c = search needs
+add-sliced-2 : tie.Need-add-sliced-2 Inv-loop μ-loop
+add-sliced-2 c = search needs
 
-sub-run : tie.Need-sub-run Inv-loop μ-loop
-sub-run c = search needs
+sub-sliced : tie.Need-sub-sliced Inv-loop μ-loop
+sub-sliced c = search needs
 
-run-requires : tie.Need-run-requires Inv-loop μ-loop
-run-requires c κs = search needs
+sliced-requires-2 : tie.Need-sliced-requires-2 Inv-loop μ-loop
+sliced-requires-2 c κs = search needs
 
 add-t21 : tie.Need-add-t21 Inv-loop μ-loop
-add-t21 c = let w = counted-join _ _ _ _ _ _ (c .before .before .loop .inv .1) (c .run .ensures) in omega (arith, w .most)
+add-t21 c = let w = counted-join _ _ _ _ _ _ (c .before .before .loop .inv .1) (c .sliced2 .ensures) in omega (arith, w .most)
 
 returns-2 : tie.Need-returns-2 Inv-loop μ-loop
 returns-2 c =
     let l = c .before .before in
     let q : l .loop .j + (l .before .before .before .args .n - l .loop .j) ≡ l .before .before .before .args .n = omega arith in
-    (omega arith, λ h. h, rw q at (counted-join _ _ _ _ _ _ (l .loop .inv .1) (c .run .ensures)))
+    (omega arith, λ h. h, rw q at (counted-join _ _ _ _ _ _ (l .loop .inv .1) (c .sliced2 .ensures)))
 
 pub open-in-spec : {M : Type 1} → statement M
 open-in-spec =
@@ -123,8 +122,8 @@ open-in-spec =
     add-j
     loop-less
     loop-again
-    add-run
-    sub-run
-    run-requires
+    add-sliced-2
+    sub-sliced
+    sliced-requires-2
     add-t21
     returns-2)
