@@ -1,5 +1,6 @@
 //! speed FASTA INDEX: times the native library's indexer and checker on two files, once for each line of standard input: seconds of each,
-//! with a blank between. tools/on-web asks it in turns with the page.
+//! with a blank between. The files are read anew each time, into memory that may be nearer or farther, as the page reads them. tools/on-web
+//! asks it in turns with the page.
 
 use std::io::{BufRead, Write};
 use std::time::Instant;
@@ -10,10 +11,10 @@ fn main() -> Result<(), Box<dyn std::error::Error>> {
     let (Some(fasta), Some(index), None) = (words.next(), words.next(), words.next()) else {
         return Err("usage: speed FASTA INDEX".into());
     };
-    let (fasta, index) = (std::fs::read(fasta)?, std::fs::read(index)?);
     let mut table = vec![0; entry::ROW_BYTES * 1024];
     for line in std::io::stdin().lock().lines() {
         line?;
+        let (fasta, index) = (std::fs::read(&fasta)?, std::fs::read(&index)?);
         // in the page's order: what comes second finds the file looked at already
         let start = Instant::now();
         let verdict = entry::check(&fasta, &index);
