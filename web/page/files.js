@@ -57,7 +57,7 @@ async function load(mine, inParts) {
     if (fai && !await hand(mine, "index", fai, (bytes) => progress(fasta.size + bytes))) return undefined;
     byId("doing").textContent = t("files.judging");
     const loading = performance.now() - start;
-    // a bar that moves is drawn again and again, by cores that the check may use: it moves only where the check takes long
+    // a bar that moves is drawn again and again: it moves only where the check takes long
     const moving = setTimeout(() => byId("progress").removeAttribute("value"), MOVING);
     const told = await askFile("judge", { strict }).finally(() => clearTimeout(moving));
     return mine === round ? { ...told, loading } : undefined;
