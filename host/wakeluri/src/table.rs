@@ -491,7 +491,7 @@ const LIKELY: usize = 128;
 /// There is room for so many lines at first.
 const FIRST_LINES: usize = 1 << 16;
 
-/// So much of the room is made ready at a time: it is still in the cache when it is written to.
+/// So much of the room is made ready at a time, at most: it is still in the cache when it is written to.
 const READY: usize = 1 << 15;
 
 /// The lines of so many rows, one behind the other, each of which is written to the front of a room that is lent.
@@ -503,7 +503,7 @@ pub(crate) fn write_lines(
     let (mut text, mut at) = (Vec::with_capacity(rows.min(FIRST_LINES) * LIKELY + LINE), 0);
     for row in 0..rows {
         if text.len() - at < LINE {
-            text.resize(at + READY, 0);
+            text.resize(at + READY.min((rows - row).min(FIRST_LINES) * LIKELY + LINE), 0);
         }
         let mut written = write(row, text.get_mut(at..).unwrap_or_default());
         if let Err(Refusal { number: 14, first, .. }) = written {
