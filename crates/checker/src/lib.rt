@@ -19,21 +19,21 @@ use refusal::Refusal;
 use walking::Placed;
 
 // Does an index describe its file, or why not.
-#[derive(Drop)]
+#[derive(Clone, Copy)]
 pub enum Verdict {
     Accepted,
     Refused(Refusal),
 }
 
 // The offset behind a record, or why it is refused.
-#[derive(Drop)]
+#[derive(Clone, Copy)]
 enum Judged {
     Behind(usize),
     Refused(Refusal),
 }
 
 // The place behind some records: in the file and in the index, and how many they are.
-#[derive(Drop)]
+#[derive(Clone, Copy)]
 struct Place {
     fasta: usize,
     index: usize,
@@ -41,7 +41,7 @@ struct Place {
 }
 
 // The place behind one record more, or why it is refused.
-#[derive(Drop)]
+#[derive(Clone, Copy)]
 enum Step {
     Next(Place),
     Refused(Refusal),

@@ -6,7 +6,7 @@ ghost use Rattle.checker.specs.Quick.{WordAt, NoLf, DefinedSo, PassedAt};
 use columns::fields;
 
 // The places behind a record and its index line; `fasta` is 0 where nothing is told.
-#[derive(Drop)]
+#[derive(Clone, Copy)]
 pub(crate) struct Passed {
     pub fasta: usize,
     pub index: usize,

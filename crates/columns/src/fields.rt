@@ -14,7 +14,7 @@ use output::Written;
 use refusal::Refusal;
 
 // A field that is a number: its value, how many bytes it has, and whether it has no needless leading zero and no plus.
-#[derive(Drop)]
+#[derive(Clone, Copy)]
 pub struct Field {
     pub value: u64,
     pub length: usize,
@@ -22,14 +22,14 @@ pub struct Field {
 }
 
 // A field read as a number, or why it is none.
-#[derive(Drop)]
+#[derive(Clone, Copy)]
 pub enum FieldRead {
     Good(Field),
     Refused(Refusal),
 }
 
 // All numbers are read, and none has a needless leading zero or a plus, or some have; or why they are not.
-#[derive(Drop)]
+#[derive(Clone, Copy)]
 pub enum NumbersRead {
     All { plain: bool },
     Refused(Refusal),
@@ -204,7 +204,7 @@ fn read_each(content: &[u8], name: usize, line: u64, numbers: &mut [u64]) -> Num
 }
 
 // Some digits of a line: their value, and the place behind them.
-#[derive(Drop)]
+#[derive(Clone, Copy)]
 struct Digits {
     value: u64,
     end: usize,
@@ -283,7 +283,7 @@ fn read_quickly(content: &[u8], name: usize, numbers: &mut [u64]) -> bool
 }
 
 // A line as it is written: how many bytes its name has, and the place behind its LF.
-#[derive(Drop)]
+#[derive(Clone, Copy)]
 pub struct Standing {
     pub name: usize,
     pub end: usize,

@@ -4,7 +4,7 @@ mod decimal;
 pub mod fields;
 
 // A number read: its value, or that it is none.
-#[derive(Drop)]
+#[derive(Clone, Copy)]
 pub enum Number {
     Value(u64),
     Bad,

@@ -134,7 +134,7 @@ fn flipped_plain(b: u8) -> u8
 
 // The bits in which the two letters of a pair differ: of A and T 21, of C and G 4, of K and M 6, of R and Y 11, of D and H 12, of B and V
 // 20, as of U and A. W, S and N are their own partners.
-#[derive(Drop)]
+#[derive(Clone, Copy)]
 struct Flips {
     at: u8,
     cg: u8,

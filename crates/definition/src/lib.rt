@@ -9,27 +9,27 @@ use lines::Span;
 use refusal::Refusal;
 
 // The places of a name and of a description, counted from the line's start; 0 and 0 if there is no description.
-#[derive(Drop)]
+#[derive(Clone, Copy)]
 pub struct Definition {
     pub name: Span,
     pub description: Span,
 }
 
 // What is wrong with a definition line.
-#[derive(Drop)]
+#[derive(Clone, Copy)]
 pub enum Fault {
     Empty,
     NoPrefix,
     NoName,
 }
 
-#[derive(Drop)]
+#[derive(Clone, Copy)]
 pub enum Parsed {
     Named(Definition),
     Bad(Fault),
 }
 
-#[derive(Drop)]
+#[derive(Clone, Copy)]
 pub enum DefinitionRead {
     Named(Definition),
     Refused(Refusal),

@@ -13,7 +13,7 @@ use output::Written;
 use refusal::Refusal;
 
 // An exercise read from some bytes: where its name lies in them, its bounds, its edition.
-#[derive(Drop)]
+#[derive(Clone, Copy)]
 pub struct Exercise {
     pub name_start: usize,
     pub name_length: usize,
@@ -22,14 +22,14 @@ pub struct Exercise {
     pub edition: u64,
 }
 
-#[derive(Drop)]
+#[derive(Clone, Copy)]
 pub enum ExerciseRead {
     Read(Exercise),
     Refused(Refusal),
 }
 
 // What is kept of the fields so far: the tag that is wanted next, and what was read.
-#[derive(Drop)]
+#[derive(Clone, Copy)]
 struct Kept {
     wanted: u64,
     name_start: usize,
@@ -40,7 +40,7 @@ struct Kept {
 }
 
 // A field judged: what is kept behind it and how long its bytes are, or why it is refused.
-#[derive(Drop)]
+#[derive(Clone, Copy)]
 enum Judged {
     Next { kept: Kept, length: usize },
     Refused(Refusal),

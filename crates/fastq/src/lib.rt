@@ -17,21 +17,21 @@ use record::{Offset, Record};
 use refusal::Refusal;
 
 // A record of a FASTQ file: that of its bases, and where its qualities begin.
-#[derive(Drop)]
+#[derive(Clone, Copy)]
 pub struct QualityRow {
     pub record: Record,
     pub qualities: Offset,
 }
 
 // What of a record is read.
-#[derive(Drop)]
+#[derive(Clone, Copy)]
 pub enum Part {
     Bases,
     Qualities,
 }
 
 // What is at a place: a record's row, or the end of the file, or a refusal.
-#[derive(Drop)]
+#[derive(Clone, Copy)]
 pub enum Indexed {
     Row(QualityRow),
     End,
@@ -39,21 +39,21 @@ pub enum Indexed {
 }
 
 // The answer of a step, and the place it leaves: behind the record, or where it was.
-#[derive(Drop)]
+#[derive(Clone, Copy)]
 pub struct Step {
     pub answer: Indexed,
     pub next: usize,
 }
 
 // Are lines good, or why not.
-#[derive(Drop)]
+#[derive(Clone, Copy)]
 pub enum Verdict {
     Good,
     Bad(Refusal),
 }
 
 // The sequence lines of a record: the first, the last, how many they are, all their bases, and the offset behind them.
-#[derive(Drop)]
+#[derive(Clone, Copy)]
 struct Body {
     first: Line,
     last: Line,
@@ -62,14 +62,14 @@ struct Body {
     next: usize,
 }
 
-#[derive(Drop)]
+#[derive(Clone, Copy)]
 enum Sequence {
     Lines(Body),
     Refused(Refusal),
 }
 
 // The offset behind quality lines, or why they are refused.
-#[derive(Drop)]
+#[derive(Clone, Copy)]
 enum Qualities {
     Behind(usize),
     Refused(Refusal),

@@ -7,7 +7,7 @@ ghost use Rattle.fastq_checker.specs.Elsewhere.{row_bases, lesser_of, apart_of};
 use record::{Position, Record};
 
 // Which base is the first to which two sets of numbers do not both lead, if one is.
-#[derive(Drop)]
+#[derive(Clone, Copy)]
 pub enum Apart {
     Never,
     First(Position),

@@ -23,7 +23,7 @@ use fastq_line::LineRead;
 use refusal::Refusal;
 
 // The place behind some records: in the file and in the index, and how many they are.
-#[derive(Drop)]
+#[derive(Clone, Copy)]
 struct Place {
     fastq: usize,
     index: usize,
@@ -31,21 +31,21 @@ struct Place {
 }
 
 // Where a part of a check stopped: in the file and in the index.
-#[derive(Drop)]
+#[derive(Clone, Copy)]
 pub struct Stopped {
     pub fastq: usize,
     pub index: usize,
 }
 
 // A part walked up to where it stopped; or why it was not begun.
-#[derive(Drop)]
+#[derive(Clone, Copy)]
 pub enum PartChecked {
     Reached(Stopped),
     Refused(Refusal),
 }
 
 // The place behind one record more; or that there is none; or what the indexer refuses there; or why the line is refused.
-#[derive(Drop)]
+#[derive(Clone, Copy)]
 enum Step {
     Next(Place),
     End,

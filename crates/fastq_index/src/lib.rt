@@ -18,7 +18,7 @@ use table::{Filled, Kept, Stop};
 
 // The rows of a part that a table holds, and why there are no more; and the offset behind the last of them, where the first record begins that has
 // no row there.
-#[derive(Drop)]
+#[derive(Clone, Copy)]
 pub struct PartFilled {
     pub filled: Filled,
     pub next: usize,
@@ -90,7 +90,7 @@ pub fn index_file(s: &[u8], table: &mut [u8]) -> Filled
 }
 
 // The row of the index line at a place, and the place behind it; or that there is no line; or why it has no row.
-#[derive(Drop)]
+#[derive(Clone, Copy)]
 pub enum LineRow {
     Row(QualityRow, Cursor),
     End,

@@ -16,21 +16,21 @@ use table::{Held, InUse};
 
 // What a line says: a row, whose name's span counts from the line's start; and whether the line is plain, so that writing its row gives the
 // same bytes.
-#[derive(Drop)]
+#[derive(Clone, Copy)]
 pub struct Entry {
     pub row: QualityRow,
     pub plain: bool,
 }
 
 // A line read, or why it is refused.
-#[derive(Drop)]
+#[derive(Clone, Copy)]
 pub enum LineRead {
     Row(Entry),
     Refused(Refusal),
 }
 
 // A line read where it stands in a text, and the place behind it.
-#[derive(Drop)]
+#[derive(Clone, Copy)]
 pub struct ReadAt {
     pub read: LineRead,
     pub end: usize,

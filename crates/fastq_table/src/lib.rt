@@ -17,7 +17,7 @@ use table::{InUse, Kept, Stop, Stored, numbers};
 pub const WORDS: usize = 7;
 
 // The next row and the place behind it, in what a table is filled from; or why there is none.
-#[derive(Drop)]
+#[derive(Clone, Copy)]
 pub enum Next {
     Row(QualityRow, usize),
     Stop(Stop),

@@ -27,7 +27,7 @@ use refusal::Refusal;
 // A line that waits for its next byte, by numbers: its bytes and its bases, whether its LF has come, whether it begins with '>'. If it does:
 // how many bytes of a name follow, the place behind the name and its whitespace, and how many bytes there are up to the last that is no
 // whitespace. Else these are 0.
-#[derive(Drop)]
+#[derive(Clone, Copy)]
 pub struct Waiting {
     pub width: usize,
     pub bases: usize,
@@ -39,7 +39,7 @@ pub struct Waiting {
 }
 
 // A record whose definition line has been read: where the line begins, where it ends, and what it says.
-#[derive(Drop)]
+#[derive(Clone, Copy)]
 pub struct Opened {
     pub at: usize,
     pub end: usize,
@@ -48,7 +48,7 @@ pub struct Opened {
 
 // The sequence lines of a record so far: none with a base; one run of bases, by its offset, its bases and its line's width; or rows, by
 // position, line bases and line width, with how many bases they have.
-#[derive(Drop)]
+#[derive(Clone, Copy)]
 pub enum SoFar {
     Blank,
     Run(Numbers),
@@ -56,7 +56,7 @@ pub enum SoFar {
 }
 
 // What the feeder awaits: a definition at an offset; a line of a record's sequence, at an offset; nothing, behind a refusal or the end.
-#[derive(Drop)]
+#[derive(Clone, Copy)]
 pub enum Phase {
     Definition(usize),
     Lines(Opened, SoFar, usize),
@@ -65,21 +65,21 @@ pub enum Phase {
 }
 
 // What a line gives: what to await next; or a row, and the offset behind its record.
-#[derive(Drop)]
+#[derive(Clone, Copy)]
 enum Out {
     Keeps(Phase),
     Emits(Record, usize),
 }
 
 // What the feeder awaits, and how many rows are written.
-#[derive(Drop)]
+#[derive(Clone, Copy)]
 struct Settled {
     phase: Phase,
     rows: usize,
 }
 
 // What the feeder awaits, how many rows are written, and the line that waits.
-#[derive(Drop)]
+#[derive(Clone, Copy)]
 struct Fed {
     phase: Phase,
     rows: usize,
@@ -87,14 +87,14 @@ struct Fed {
 }
 
 // What a part of a piece leaves, and where the piece goes on.
-#[derive(Drop)]
+#[derive(Clone, Copy)]
 struct Turn {
     fed: Fed,
     at: usize,
 }
 
 // The sequence of a record that lies whole in a piece: its first line, its bases, and where the next record begins; 0 if there is none.
-#[derive(Drop)]
+#[derive(Clone, Copy)]
 struct Sequence {
     line: Line,
     bases: usize,
@@ -102,7 +102,7 @@ struct Sequence {
 }
 
 // Where the next record begins in the file, how many rows are written, and where the piece goes on.
-#[derive(Drop)]
+#[derive(Clone, Copy)]
 struct Reached {
     next: usize,
     rows: usize,
@@ -110,7 +110,7 @@ struct Reached {
 }
 
 // A file on its way: the rule, how many bytes have come, how many rows are written, what to await, and the line that waits.
-#[derive(Drop)]
+#[derive(Clone, Copy)]
 pub struct Feeder {
     pub rule: Rule,
     pub total: usize,

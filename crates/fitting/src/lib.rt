@@ -24,7 +24,7 @@ use table::{Filled, Kept, Next, Stop};
 use walking::Placed;
 
 // Position, line bases and line width.
-#[derive(Drop)]
+#[derive(Clone, Copy)]
 pub struct Numbers {
     pub position: usize,
     pub bases: usize,
@@ -32,7 +32,7 @@ pub struct Numbers {
 }
 
 // A place of a sequence, and the line there; width and bases are 0 where there is none.
-#[derive(Drop)]
+#[derive(Clone, Copy)]
 struct LineAt {
     at: usize,
     line: Line,
@@ -57,7 +57,7 @@ fn past_blank_lines(s: &[u8], at: usize) -> LineAt
 }
 
 // Even lines: how many bases they have, and where they end. Or lines that may be uneven.
-#[derive(Drop)]
+#[derive(Clone, Copy)]
 enum Even {
     Lines { bases: usize, next: usize },
     Not,
@@ -192,14 +192,14 @@ fn fit_at(s: &[u8], at: usize) -> Step
 }
 
 // A record's row, and the place behind it, which is 0 where nothing is told.
-#[derive(Drop)]
+#[derive(Clone, Copy)]
 pub struct Told {
     pub row: Record,
     pub next: usize,
 }
 
 // The rule that a file is indexed by: the original's, or the complete one.
-#[derive(Drop)]
+#[derive(Clone, Copy)]
 pub enum Rule {
     Strict,
     Complete,

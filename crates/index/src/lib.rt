@@ -15,14 +15,14 @@ use refusal::Refusal;
 use table::{Filled, Held, InUse, Kept, Next, Stop};
 
 // The first row that has a name, or why there is none.
-#[derive(Drop)]
+#[derive(Clone, Copy)]
 pub enum Found {
     Row(usize),
     Refused(Refusal),
 }
 
 // The row of the index line at a place, and the place behind it; or that there is no line; or why it has no row.
-#[derive(Drop)]
+#[derive(Clone, Copy)]
 pub enum LineRow {
     Row(Record, Cursor),
     End,
@@ -103,7 +103,7 @@ fn is_named(names: &[u8], x: Record, name: &[u8]) -> bool
 }
 
 // Does a row have the name; or why it is refused.
-#[derive(Drop)]
+#[derive(Clone, Copy)]
 pub enum Compared {
     Same,
     Other,

@@ -13,13 +13,13 @@ use record::{Offset, Record};
 use refusal::Refusal;
 
 // A place in a file: the record that begins there is indexed.
-#[derive(Drop)]
+#[derive(Clone, Copy)]
 pub struct Indexer {
     pub at: usize,
 }
 
 // What is at a place: a record's row, or the end of the file, or a refusal.
-#[derive(Drop)]
+#[derive(Clone, Copy)]
 pub enum Indexed {
     Row(Record),
     End,
@@ -27,21 +27,21 @@ pub enum Indexed {
 }
 
 // The answer of a step, and where it stops: behind the record, or where it was.
-#[derive(Drop)]
+#[derive(Clone, Copy)]
 pub struct Step {
     pub answer: Indexed,
     pub next: Indexer,
 }
 
 // What the lines after a record's first say: all the bases, and the offset behind them.
-#[derive(Drop)]
+#[derive(Clone, Copy)]
 enum Rest {
     Done { length: usize, next: usize },
     Refused(Refusal),
 }
 
 // A good sequence: its first line, how many bases all its lines have, and where it ends; that is 0 where nothing is told.
-#[derive(Drop)]
+#[derive(Clone, Copy)]
 pub struct Good {
     pub first: Line,
     pub bases: usize,

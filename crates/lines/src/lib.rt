@@ -9,27 +9,27 @@ ghost use Rattle.std.specs.Prelude.{◌≡◌, length};
 ghost use Rattle.lines.specs.Lines.{chop, bases_of, content_of, first_line, seq_at, none, read_line};
 
 // A line: all its bytes, and its bases.
-#[derive(Drop)]
+#[derive(Clone, Copy)]
 pub struct Line {
     pub width: usize,
     pub bases: usize,
 }
 
 // Some bytes in a row, by their place in those that hold them.
-#[derive(Drop)]
+#[derive(Clone, Copy)]
 pub struct Span {
     pub start: usize,
     pub length: usize,
 }
 
 // A place in a file.
-#[derive(Drop)]
+#[derive(Clone, Copy)]
 pub struct Cursor {
     pub at: usize,
 }
 
 // A line's content, with the place behind the line; or that there is no line.
-#[derive(Drop)]
+#[derive(Clone, Copy)]
 pub enum Step {
     Read(Span, Cursor),
     End,

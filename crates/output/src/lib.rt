@@ -3,7 +3,7 @@
 use refusal::Refusal;
 
 // How many bytes were written to the front of an output, or why none.
-#[derive(Drop)]
+#[derive(Clone, Copy)]
 pub enum Written {
     Bytes(usize),
     Refused(Refusal),

@@ -20,21 +20,21 @@ ghost use Rattle.primer.specs.Live.{mask_of, mask_by, state_of, Passed, Reading}
 use refusal::Refusal;
 
 // The first place of a primer in a text, if there is one.
-#[derive(Drop)]
+#[derive(Clone, Copy)]
 pub enum Found {
     At(usize),
     Nothing,
 }
 
 // Is a primer valid: it has 1 to 31 letters, and each has a code.
-#[derive(Drop)]
+#[derive(Clone, Copy)]
 pub enum Judged {
     Fit,
     Refused(Refusal),
 }
 
 // A place of a primer in a text, or none, or why the call is refused.
-#[derive(Drop)]
+#[derive(Clone, Copy)]
 pub enum Place {
     At(usize),
     Nothing,
@@ -42,7 +42,7 @@ pub enum Place {
 }
 
 // How many plain sequences a primer stands for.
-#[derive(Drop)]
+#[derive(Clone, Copy)]
 pub enum Counted {
     Sequences(u64),
     Refused(Refusal),
@@ -170,7 +170,7 @@ fn masks_by_byte(primer: &[u8]) -> [u32; 256]
 }
 
 // A state of the search, and the bits of all states on the way to it.
-#[derive(Drop)]
+#[derive(Clone, Copy)]
 struct Run {
     state: u32,
     seen: u32,

@@ -5,15 +5,15 @@ ghost use Rattle.record.specs.Place.{offset_of, address_of};
 ghost use Rattle.record.specs.Description.{described_at};
 
 // A base position, from 1.
-#[derive(Drop)]
+#[derive(Clone, Copy)]
 pub struct Position(pub u64);
 
 // A byte offset, from 0.
-#[derive(Drop)]
+#[derive(Clone, Copy)]
 pub struct Offset(pub u64);
 
 // A record: its name's span, the four numbers of its index line, and its description's span, which is 0 and 0 if there is none.
-#[derive(Drop)]
+#[derive(Clone, Copy)]
 pub struct Record {
     pub name_start: u64,
     pub name_length: u64,
@@ -26,7 +26,7 @@ pub struct Record {
 }
 
 // Where a base lies: `Nowhere` if the offset does not fit in 64 bits.
-#[derive(Drop)]
+#[derive(Clone, Copy)]
 pub enum Address {
     At(Offset),
     Nowhere,

@@ -5,7 +5,7 @@ ghost use Rattle.refusal.specs.Numbers.{numbers_of, over_limit};
 
 // Lines and records count from 1; rows, places and offsets from 0. A definition line that does not read has as its two numbers the offset
 // where reading failed, and 0; in the checker they are the record, and that offset.
-#[derive(Drop)]
+#[derive(Clone, Copy)]
 pub enum Refusal {
     TooLong,
     EmptyDefinition { first: u64, second: u64 },
@@ -52,7 +52,7 @@ pub enum Refusal {
 }
 
 // A refusal as a host sees it.
-#[derive(Drop)]
+#[derive(Clone, Copy)]
 pub struct Numbers {
     pub refusal: u64,
     pub first: u64,

@@ -18,7 +18,7 @@ use refusal::Refusal;
 
 // Where the bases of a region lie: the offset of the first, how many of them are in its line, and how many there are. Or why they
 // can't be read.
-#[derive(Drop)]
+#[derive(Clone, Copy)]
 pub(crate) enum Judged {
     Bases { at: usize, run: usize, count: usize },
     Refused(Refusal),

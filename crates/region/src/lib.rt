@@ -32,21 +32,21 @@ use refusal::Refusal;
 use table::{Held, InUse};
 
 // A bound of a region: a base position, or none.
-#[derive(Drop)]
+#[derive(Clone, Copy)]
 pub enum Bound {
     Given(Position),
     Absent,
 }
 
 // A part of a file: the bytes from one offset up to another.
-#[derive(Drop)]
+#[derive(Clone, Copy)]
 pub struct Part {
     pub from: Offset,
     pub to: Offset,
 }
 
 // The part of a file that a region needs, or why it can't be read.
-#[derive(Drop)]
+#[derive(Clone, Copy)]
 pub enum Needed {
     Bytes(Part),
     Refused(Refusal),

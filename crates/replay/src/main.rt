@@ -9,7 +9,7 @@ use libc::STDOUT_FILENO;
 use std::num::wrapping_add_u64;
 
 // How many answers were compared, how many differ, and the number of the first that does.
-#[derive(Drop)]
+#[derive(Clone, Copy)]
 struct Tally {
     answers: u64,
     differ: u64,

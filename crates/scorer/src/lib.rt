@@ -20,7 +20,7 @@ use scoring::Scored;
 use table::InUse;
 
 // What is asked: an exercise, and the row of its sequence; or why not.
-#[derive(Drop)]
+#[derive(Clone, Copy)]
 enum Asked {
     Row(Exercise, usize),
     Refused(Refusal),

@@ -6,7 +6,7 @@ ghost use Rattle.scoring.specs.Meant.{is_clear, is_thymine, meant, clear, fits};
 ghost use Rattle.scoring.specs.Counting.{Counted, agrees};
 
 // What is seen of some places: how many are right if all of them are told, and how many are told.
-#[derive(Drop)]
+#[derive(Clone, Copy)]
 pub(crate) struct Seen {
     pub(crate) right: u8,
     pub(crate) told: u8,

@@ -12,7 +12,7 @@ ghost use Rattle.scoring.specs.Lanes.{IsLanes, sum_to};
 ghost use Rattle.scoring.specs.Bits.{place, word_at};
 
 // What the lanes have: how many of their places are right and settled, and the bits of their open places, the first block's the lowest.
-#[derive(Drop)]
+#[derive(Clone, Copy)]
 pub(crate) struct Lanes {
     pub(crate) right: [u8; 32],
     pub(crate) opens: [u8; 32],

@@ -18,7 +18,7 @@ ghost use Rattle.scoring.specs.Counting.{Counted, agrees};
 use refusal::Refusal;
 
 // The counts over a key's places, the typed bytes past it, and the score in tenths of a percent.
-#[derive(Drop)]
+#[derive(Clone, Copy)]
 pub struct Score {
     pub right: u64,
     pub wrong: u64,
@@ -27,14 +27,14 @@ pub struct Score {
     pub score: u64,
 }
 
-#[derive(Drop)]
+#[derive(Clone, Copy)]
 pub enum Scored {
     Score(Score),
     Refused(Refusal),
 }
 
 // Some places from the front of others: how many they are, and how many of them are right.
-#[derive(Drop)]
+#[derive(Clone, Copy)]
 struct Passed {
     places: usize,
     right: usize,

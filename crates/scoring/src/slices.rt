@@ -12,14 +12,14 @@ ghost use Rattle.scoring.specs.Turning.{row, Turned};
 ghost use Rattle.scoring.specs.Slices.{Gated, IsSets, IsLane};
 
 // Two bytes.
-#[derive(Drop)]
+#[derive(Clone, Copy)]
 struct Pair {
     low: u8,
     high: u8,
 }
 
 // Eight letters, or eight planes.
-#[derive(Drop)]
+#[derive(Clone, Copy)]
 struct Eight {
     p0: u8,
     p1: u8,
@@ -33,7 +33,7 @@ struct Eight {
 
 // Of eight letters, a bit for each: it does not stand for A; it stands for C, for G, for T; it has a code. Where it has none the others say
 // nothing.
-#[derive(Drop)]
+#[derive(Clone, Copy)]
 struct Sets {
     na: u8,
     c: u8,
@@ -43,7 +43,7 @@ struct Sets {
 }
 
 // Of places: how many are right if all letters have a code, and whether they have: then it is 255.
-#[derive(Drop)]
+#[derive(Clone, Copy)]
 pub(crate) struct Cut {
     pub(crate) right: u8,
     pub(crate) coded: u8,

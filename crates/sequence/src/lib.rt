@@ -14,14 +14,14 @@ use refusal::Refusal;
 
 // How many bases were read, and the place where the scan stopped: just behind the last base if it gave as many as were wanted, and else
 // at a '>' or the end.
-#[derive(Drop)]
+#[derive(Clone, Copy)]
 pub enum SequenceRead {
     Bases { count: usize, next: Cursor },
     Refused(Refusal),
 }
 
 // Where the bases of one step are.
-#[derive(Drop)]
+#[derive(Clone, Copy)]
 pub enum RunRead {
     Run(Span),
     Refused(Refusal),

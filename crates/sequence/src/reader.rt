@@ -5,7 +5,7 @@ ghost use Rattle.sequence.specs.Scan.{run_at};
 
 use lines::Span;
 
-#[derive(Drop)]
+#[derive(Clone, Copy)]
 pub struct Reader<'a> {
     pub src: &'a [u8],
     pub at: usize,

@@ -12,7 +12,7 @@ use refusal::Refusal;
 use table::InUse;
 
 // What is known so far: the bytes of the regions judged, or of those written; or why there is no more to do.
-#[derive(Drop)]
+#[derive(Clone, Copy)]
 pub(crate) enum Pass {
     Judging(u64),
     Writing(usize),
@@ -20,7 +20,7 @@ pub(crate) enum Pass {
 }
 
 // Where a sheet stands: how many turns are left, how many regions it has, and the place of the next.
-#[derive(Drop)]
+#[derive(Clone, Copy)]
 pub(crate) struct Going {
     pub left: usize,
     pub count: usize,

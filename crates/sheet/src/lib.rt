@@ -18,7 +18,7 @@ use refusal::Refusal;
 use region::Bound;
 
 // A region of the sequence of a row.
-#[derive(Drop)]
+#[derive(Clone, Copy)]
 pub struct Region {
     pub row: usize,
     pub start: Bound,
@@ -26,7 +26,7 @@ pub struct Region {
 }
 
 // How many bytes a sheet's regions have; or why none was read, and the place of the region that was refused.
-#[derive(Drop)]
+#[derive(Clone, Copy)]
 pub enum SheetRead {
     Bytes(usize),
     Refused { place: usize, refusal: Refusal },

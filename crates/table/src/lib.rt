@@ -18,49 +18,49 @@ use refusal::Refusal;
 pub const WORDS: usize = 8;
 
 // A row in use, by its number and its record; or why there is none.
-#[derive(Drop)]
+#[derive(Clone, Copy)]
 pub enum InUse {
     Row(usize, Record),
     Refused(Refusal),
 }
 
 // The record that a row holds, or why there is none.
-#[derive(Drop)]
+#[derive(Clone, Copy)]
 pub enum Held {
     Row(Record),
     Refused(Refusal),
 }
 
 // Is a record in its row, or why not.
-#[derive(Drop)]
+#[derive(Clone, Copy)]
 pub enum Stored {
     Kept,
     Refused(Refusal),
 }
 
 // Why there are no more rows.
-#[derive(Drop)]
+#[derive(Clone, Copy)]
 pub enum Stop {
     Ended,
     Refused(Refusal),
 }
 
 // How many rows are held, and why there are no more.
-#[derive(Drop)]
+#[derive(Clone, Copy)]
 pub struct Filled {
     pub rows: usize,
     pub stop: Stop,
 }
 
 // The next record and the place behind it, in what a table is filled from; or why there is none.
-#[derive(Drop)]
+#[derive(Clone, Copy)]
 pub enum Next {
     Row(Record, usize),
     Stop(Stop),
 }
 
 // The next record is in its row, and filling goes on at a place; or why it does not.
-#[derive(Drop)]
+#[derive(Clone, Copy)]
 pub enum Kept {
     On(usize),
     Stop(Stop),

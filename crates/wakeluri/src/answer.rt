@@ -16,7 +16,7 @@ use table::{Filled, Stop};
 
 // A refusal, 0 if there is none; a count (of bytes or of rows, or a row's number), and the place where a read stopped.
 #[repr(C)]
-#[derive(Drop)]
+#[derive(Clone, Copy)]
 pub struct Answer {
     pub refusal: u64,
     pub first: u64,
@@ -27,7 +27,7 @@ pub struct Answer {
 
 // A name and a description by their places in a definition line; 0 and 0 if there is no description.
 #[repr(C)]
-#[derive(Drop)]
+#[derive(Clone, Copy)]
 pub struct DefinitionAnswer {
     pub refusal: u64,
     pub first: u64,
@@ -40,7 +40,7 @@ pub struct DefinitionAnswer {
 
 // Some bytes of a file by their place, and the place behind them; `found` is 0 if there is no line.
 #[repr(C)]
-#[derive(Drop)]
+#[derive(Clone, Copy)]
 pub struct SpanAnswer {
     pub refusal: u64,
     pub first: u64,
@@ -54,7 +54,7 @@ pub struct SpanAnswer {
 // A record's row, and the offset behind the record; `found` is 0 at the end of a file, and `plain` is 1 for a plain index line that was
 // given with its end.
 #[repr(C)]
-#[derive(Drop)]
+#[derive(Clone, Copy)]
 pub struct RowAnswer {
     pub refusal: u64,
     pub first: u64,

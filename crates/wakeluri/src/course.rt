@@ -17,7 +17,7 @@ use scoring::{Score, Scored};
 
 // An exercise: where its name lies in its bytes, its first and last base, and its edition.
 #[repr(C)]
-#[derive(Drop)]
+#[derive(Clone, Copy)]
 pub struct ExerciseAnswer {
     pub refusal: u64,
     pub first: u64,
@@ -31,7 +31,7 @@ pub struct ExerciseAnswer {
 
 // The counts over a key's places, the typed bytes past it, and the score in tenths of a percent.
 #[repr(C)]
-#[derive(Drop)]
+#[derive(Clone, Copy)]
 pub struct ScoreAnswer {
     pub refusal: u64,
     pub first: u64,

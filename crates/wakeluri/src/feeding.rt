@@ -14,7 +14,7 @@ use lines::Span;
 
 // A file on its way. The refusal that stands, 0 for none, and the rows that are written; behind them what the next call goes on from.
 #[repr(C)]
-#[derive(Drop)]
+#[derive(Clone, Copy)]
 pub struct Feed {
     pub refusal: u64,
     pub first: u64,
@@ -158,7 +158,7 @@ fn feeder_by(f: Feed) -> Feeder
 }
 
 // A record's lines so far, as numbers.
-#[derive(Drop)]
+#[derive(Clone, Copy)]
 struct Told {
     lines: u64,
     numbers: Numbers,

@@ -24,7 +24,7 @@ use refusal::Numbers;
 
 // The row of an index line of six columns, and whether the line is plain.
 #[repr(C)]
-#[derive(Drop)]
+#[derive(Clone, Copy)]
 pub struct FastqAnswer {
     pub refusal: u64,
     pub first: u64,

@@ -15,7 +15,7 @@ use region::{Needed, Part};
 
 // A part of a file: the offset of its first byte, and the one behind its last.
 #[repr(C)]
-#[derive(Drop)]
+#[derive(Clone, Copy)]
 pub struct PartAnswer {
     pub refusal: u64,
     pub first: u64,

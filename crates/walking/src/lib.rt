@@ -14,7 +14,7 @@ use lines::Line;
 use record::{Offset, Position, Record};
 
 // Is every base where the numbers say, or which is the first that is not, and where that is.
-#[derive(Drop)]
+#[derive(Clone, Copy)]
 pub enum Placed {
     There,
     Elsewhere(Position, Offset),
@@ -22,14 +22,14 @@ pub enum Placed {
 
 // The stride of the next base: where it begins, and how many of its bases are passed. A stride that would begin past the largest
 // offset begins there.
-#[derive(Drop)]
+#[derive(Clone, Copy)]
 struct Stride {
     start: Offset,
     passed: u64,
 }
 
 // A part of a sequence: how many bases it has, where they are, and the stride behind them.
-#[derive(Drop)]
+#[derive(Clone, Copy)]
 struct Walk {
     bases: u64,
     placed: Placed,
@@ -37,14 +37,14 @@ struct Walk {
 }
 
 // A walk that goes on at an offset.
-#[derive(Drop)]
+#[derive(Clone, Copy)]
 struct Begun {
     walk: Walk,
     next: usize,
 }
 
 // A whole sequence: how many bases it has, where they are, and the offset behind it.
-#[derive(Drop)]
+#[derive(Clone, Copy)]
 pub struct Walked {
     pub bases: u64,
     pub placed: Placed,
