@@ -1,0 +1,27 @@
+-- `checker::Place::check_record` meets its contract: the record at the place is its definition line and the sequence lines behind it, and
+-- the line at the place is the first that is left.
+use Rattle.std.proofs.Common.{arith}
+use Rattle.lines.specs.Laws.{line_end-le}
+use Rattle.checker.specs.Steps.{line-span, stepped-refused, stepped-next}
+use Rattle.checker.proofs.Place.check_record.Goals as goal
+
+pub slice_bounds-judge_record-end : goal.slice_bounds-judge_record-end
+slice_bounds-judge_record-end c =
+    omega (arith, c.line_end-start.ensures, line_end-le c.args.fasta.now c.args.self.fasta (omega arith))
+
+pub slice_bounds-judge_record-end-2 : goal.slice_bounds-judge_record-end-2
+slice_bounds-judge_record-end-2 c =
+    omega (arith, c.line_end-behind.ensures, line_end-le c.args.index.now c.args.self.index (omega arith))
+
+pub judge_record-requires : goal.judge_record-requires
+judge_record-requires c =
+    let h = c.requires.1 in
+    rw (c.line_end-start.ensures, line-span c.args.fasta.now c.args.self.fasta h) (line_end-le c.args.fasta.now c.args.self.fasta (omega arith))
+
+pub returns-in-Refused : goal.returns-in-Refused
+returns-in-Refused c =
+    stepped-refused _ _ _ c.requires.1 c.requires.2 _ _ c.line_end-start.ensures c.line_end-behind.ensures _ c.judge_record.ensures _ c.in-Refused.is
+
+pub returns-in-Behind : goal.returns-in-Behind
+returns-in-Behind c =
+    stepped-next _ _ _ c.requires.1 c.requires.2 _ _ c.line_end-start.ensures c.line_end-behind.ensures _ c.judge_record.ensures _ c.in-Behind.is

@@ -1,0 +1,5 @@
+-- `feeder::Feeder::start` meets its contract: case by case.
+use Rattle.feeder.proofs.Feeder.start.Goals as goal
+
+pub returns : goal.returns
+returns c = rw c.no_line.ensures

@@ -1,0 +1,5 @@
+-- `feeder::refused` meets its contract: case by case.
+use Rattle.feeder.proofs.refused.Goals as goal
+
+pub returns : goal.returns
+returns c = rw c.numbers.ensures at c.stopped.ensures

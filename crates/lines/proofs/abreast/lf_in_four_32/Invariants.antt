@@ -1,0 +1,10 @@
+-- `lines::abreast::lf_in_four_32` meets its contract: at each place `any` says whether the bytes so far of the four blocks hold an LF.
+use Rattle.std.proofs.Common.{◌-◌, ◌≤◌, ◌≡◌, ◌||◌}
+use Rattle.lines.specs.Blocks.{lf_in_either}
+use Rattle.lines.proofs.abreast.lf_in_four_32.Given as goal
+
+abbrev pub invariant-loop-k : goal.invariant-loop-k
+invariant-loop-k l = (l.k ≤ 32) × (l.any ≡ (lf_in_either l.s l.p l.q l.k || lf_in_either l.s l.u l.v l.k))
+
+abbrev pub decreases-loop-k : goal.decreases-loop-k
+decreases-loop-k l = 32 - l.k

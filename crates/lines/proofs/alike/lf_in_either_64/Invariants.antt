@@ -1,0 +1,10 @@
+-- `lines::alike::lf_in_either_64` meets its contract: at each place `any` says whether the bytes so far of the two blocks hold an LF.
+use Rattle.std.proofs.Common.{◌-◌, ◌≤◌, ◌≡◌}
+use Rattle.lines.specs.Blocks.{lf_in_either}
+use Rattle.lines.proofs.alike.lf_in_either_64.Given as goal
+
+abbrev pub invariant-loop-k : goal.invariant-loop-k
+invariant-loop-k l = (l.k ≤ 64) × (l.any ≡ lf_in_either l.s l.p l.q l.k)
+
+abbrev pub decreases-loop-k : goal.decreases-loop-k
+decreases-loop-k l = 64 - l.k

@@ -1,0 +1,18 @@
+-- `scorer::score_exercise` meets its contract: the size is judged first, then what is asked, and `score_row` gives the score for a row.
+use Rattle.std.proofs.Common.{sym, ◌∙◌}
+use Rattle.table.specs.Rows.{held_at}
+use Rattle.scorer.specs.Laws.{scorer-long, scorer-refused, scorer-row}
+use Rattle.scorer.proofs.score_exercise.Goals as goal
+
+pub returns-then-any_over : goal.returns-then-any_over
+returns-then-any_over c = scorer-long _ _ _ _ _ _ _ (sym c.any_over.ensures ∙ c.if-any_over.true)
+
+pub returns-in-Refused : goal.returns-in-Refused
+returns-in-Refused c =
+    scorer-refused _ _ _ _ _ _ _ (sym c.any_over.ensures ∙ c.if-any_over.false) _ (sym c.asked_row.ensures ∙ c.in-Refused.is)
+
+pub returns-in-Row : goal.returns-in-Row
+unfolding held_at
+returns-in-Row c =
+    rw c.row.ensures at c.score_row.ensures
+    ∙ scorer-row _ _ _ _ _ _ _ (sym c.any_over.ensures ∙ c.if-any_over.false) _ _ (sym c.asked_row.ensures ∙ c.in-Row.is)

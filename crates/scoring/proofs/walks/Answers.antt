@@ -1,0 +1,69 @@
+-- `scoring::walks` meets its contract: each word has the places of eight lanes.
+use Rattle.std.proofs.Common.{ℕ, ◌+◌, ◌*◌, ◌<◌, min, ◌≡◌, refl, Bool, true, false, not, ◌&&◌, List, arith, ltb, length, lt-ltb}
+use Rattle.scoring.specs.Rules.{lies}
+use Rattle.scoring.specs.Counting.{agrees}
+use Rattle.scoring.specs.Open.{is_open, open_lies}
+use Rattle.scoring.specs.Lanes.{weigh, sum_to}
+use Rattle.scoring.specs.Bits.{hits, hits-most, word_at, word_lanes, word_none, place, place-at}
+use Rattle.scoring.proofs.walks.Goals as goal
+
+abbrev key_of : tie.At-loop invariant-loop decreases-loop → List ℕ
+key_of l = l.before.before.before.args.key.now
+
+abbrev typed-of : tie.At-loop invariant-loop decreases-loop → List ℕ
+typed-of l = l.before.before.before.args.typed.now
+
+abbrev at_of : tie.At-loop invariant-loop decreases-loop → ℕ
+at_of l = l.before.before.before.args.at
+
+and-false : (a : Bool) → (a && false) ≡ false
+and-false true = refl
+and-false false = refl
+
+-- eight lanes more
+lanes-more : (l : tie.At-loop invariant-loop decreases-loop) → l.loop.i < 4
+    → sum_to (weigh (agrees open_lies (key_of l) (typed-of l)) 1 (at_of l) l.before.before.before.args.blocks) (8 * l.loop.i + 8)
+    ≡ sum_to (weigh (agrees open_lies (key_of l) (typed-of l)) 1 (at_of l) l.before.before.before.args.blocks) (8 * l.loop.i)
+    + hits (λ z. agrees lies (key_of l) (typed-of l) (at_of l + 8 * l.loop.i + place z)) 64 0 (word_at l.before.before.before.args.opens.now (8 * l.loop.i))
+unfolding agrees open_lies
+lanes-more l h =
+    let s = l.before.before.before in
+    let a = s.args in
+    word_lanes (agrees is_open a.key.now a.typed.now) (λ z. agrees lies a.key.now a.typed.now (a.at + 8 * l.loop.i + place z)) (agrees open_lies a.key.now a.typed.now) a.at
+    a.blocks (8 * l.loop.i) a.opens.now s.requires.0.1 (omega arith) s.requires.2 (λ j b p q. same j b q)
+  where
+    same : (j b : ℕ) → b < l.before.before.before.args.blocks
+        → (agrees is_open (key_of l) (typed-of l) (at_of l + 32 * b + (8 * l.loop.i + j)) && agrees lies (key_of l) (typed-of l) (at_of l + 8 * l.loop.i + place (8 * j + b)))
+        ≡ agrees open_lies (key_of l) (typed-of l) (at_of l + 32 * b + (8 * l.loop.i + j))
+    same j b q =
+        let e : at_of l + 8 * l.loop.i + (32 * b + j) ≡ at_of l + 32 * b + (8 * l.loop.i + j) = omega arith in
+        let n : b < 8 = omega (arith, l.before.before.before.requires.0.1) in
+        rw (place-at j b n, e)
+
+pub loop-i-init : goal.loop-i-init
+unfolding sum_to
+loop-i-init c = (omega arith, omega arith, omega arith)
+
+pub walk-right-requires : goal.walk-right-requires
+walk-right-requires c =
+    let a = c.args in (
+      c.requires.0.0,
+      rw c.word.ensures
+          (word_none (agrees is_open a.key.now a.typed.now) (λ z. not (ltb (a.at + 8 * c.loop-i.i + place z) (min (length a.key.now) (length a.typed.now)))) a.at a.blocks (8 * c.loop-i.i)
+          a.opens.now c.requires.0.1 (omega arith) c.requires.2
+          (λ j b p q. rw (place-at j b (omega arith), lt-ltb (a.at + 8 * c.loop-i.i + (32 * b + j)) (min (length a.key.now) (length a.typed.now)) (omega arith)) (and-false (agrees is_open a.key.now a.typed.now (a.at + 32 * b + (8 * c.loop-i.i + j)))))),
+    )
+
+pub overflow_add-right : goal.overflow_add-right
+overflow_add-right c = omega (arith, c.loop-i.invariant.1, c.walk-right.ensures, hits-most (λ z. agrees lies (key_of c) (typed-of c) (at_of c + 8 * c.loop-i.i + place z)) 64 0 c.word.result)
+
+pub loop-i-preserved : goal.loop-i-preserved
+loop-i-preserved c =
+    let e : 8 * (c.loop-i.i + 1) ≡ 8 * c.loop-i.i + 8 = omega arith in (
+      omega arith,
+      omega (arith, c.loop-i.invariant.1, c.walk-right.ensures, hits-most (λ z. agrees lies (key_of c) (typed-of c) (at_of c + 8 * c.loop-i.i + place z)) 64 0 c.word.result),
+      rw e (omega (arith, c.loop-i.invariant.2, lanes-more c (omega arith), rw c.word.ensures at c.walk-right.ensures)),
+    )
+
+pub returns : goal.returns
+returns c = let e : 8 * c.loop-i.i ≡ 32 = omega arith in rw e at c.loop-i.invariant.2

@@ -1,0 +1,7 @@
+-- `wakeluri::qualities::wakeluri_fastq_check` meets its contract: it gives the call's answer as numbers.
+use Rattle.std.proofs.Common.{ap, ◌∙◌}
+use Rattle.wakeluri.specs.Answer.{verdict_answer}
+use Rattle.wakeluri.proofs.qualities.wakeluri_fastq_check.Goals as goal
+
+pub returns : goal.returns
+returns c = c.verdict_answer.ensures ∙ ap verdict_answer c.check.ensures

@@ -1,0 +1,19 @@
+-- `wakeluri::scan::wakeluri_read_run` meets its contract: it gives the call's answer as numbers; the place behind a run is inside the file, or where the run would begin.
+use Rattle.std.proofs.Common.{sym, ◌∙◌, arith}
+use Rattle.wakeluri.specs.Answer.{run_answer}
+use Rattle.wakeluri.specs.Laws.{run_fits}
+use Rattle.wakeluri.proofs.scan.wakeluri_read_run.Goals as goal
+
+pub overflow_add-s : goal.overflow_add-s
+overflow_add-s c =
+    record { fits = run_fits _ _ _ _ c.read_run.ensures c.in-Run.is (omega arith) (omega (arith, c.struct_known-1.given)) }
+
+pub returns-in-Run : goal.returns-in-Run
+unfolding run_answer
+returns-in-Run c =
+    rw (sym c.read_run.ensures ∙ c.in-Run.is) (rw c.fine.ensures at c.span_answer.ensures)
+
+pub returns-in-Refused : goal.returns-in-Refused
+unfolding run_answer
+returns-in-Refused c =
+    rw (sym c.read_run.ensures ∙ c.in-Refused.is) (rw (c.numbers.ensures, c.no_span.ensures) at c.span_answer-in-Refused.ensures)

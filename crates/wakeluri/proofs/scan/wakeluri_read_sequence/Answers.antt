@@ -1,0 +1,6 @@
+-- `wakeluri::scan::wakeluri_read_sequence` meets its contract: it gives the call's answer as numbers, and leaves the lent bytes as the call does.
+use Rattle.wakeluri.specs.Laws.{sequence-told}
+use Rattle.wakeluri.proofs.scan.wakeluri_read_sequence.Goals as goal
+
+pub returns : goal.returns
+returns c = sequence-told _ _ _ _ c.read_sequence-read.ensures c.sequence_answer.ensures

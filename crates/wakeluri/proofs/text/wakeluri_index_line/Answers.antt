@@ -1,0 +1,7 @@
+-- `wakeluri::text::wakeluri_index_line` meets its contract: it gives the call's answer as numbers.
+use Rattle.std.proofs.Common.{ap, ◌∙◌}
+use Rattle.wakeluri.specs.Answer.{entry_answer}
+use Rattle.wakeluri.proofs.text.wakeluri_index_line.Goals as goal
+
+pub returns : goal.returns
+returns c = c.entry_answer.ensures ∙ ap entry_answer c.read_line.ensures
