@@ -114,6 +114,13 @@ module _ {S : Type 0} (step : S → List ℕ → Bool → S) where
       go false (k ∷ ms) = refl
   first-kept st l (b ∷ m) (k ∷ ls) ms h = refl
 
+  -- a line more in front
+  glue-more : (l m : List ℕ) (ls : List (List ℕ)) (st : S) (b : List ℕ) → judge_most (step st l (begins m)) (glue (m ∷ ls) (lines b)) ≡ feed (judge_most (step st l (begins m)) (m ∷ ls)) b
+      → judge_most st (l ∷ glue (m ∷ ls) (lines b)) ≡ judge_most (step st l (begins m)) (glue (m ∷ ls) (lines b))
+      → judge_most st (glue (l ∷ m ∷ ls) (lines b)) ≡ feed (judge_most st (l ∷ m ∷ ls)) b
+  unfolding glue judge_most
+  glue-more l m ls st b h k = k ∙ h
+
   most-glue : (ls : List (List ℕ)) (s : List ℕ) → lines s ≡ ls → (st : S) (b : List ℕ) → judge_most st (glue ls (lines b)) ≡ feed (judge_most st ls) b
   unfolding feed
   most-glue [] s e st b = unfold glue judge_most in refl
@@ -123,12 +130,7 @@ module _ {S : Type 0} (step : S → List ℕ → Bool → S) where
       q = ap lines (sym (lines-one s l e)) ∙ e
   most-glue (l ∷ m ∷ ls) s e st b =
       let n = lines-behind s l (m ∷ ls) e in
-      more (most-glue (m ∷ ls) (drop (length l) s) n (step st l (begins m)) b) (first-kept st l m ls (lines b) (lines-some (drop (length l) s) m ls n))
-    where
-      more : judge_most (step st l (begins m)) (glue (m ∷ ls) (lines b)) ≡ feed (judge_most (step st l (begins m)) (m ∷ ls)) b
-          → judge_most st (l ∷ glue (m ∷ ls) (lines b)) ≡ judge_most (step st l (begins m)) (glue (m ∷ ls) (lines b))
-          → judge_most st (glue (l ∷ m ∷ ls) (lines b)) ≡ feed (judge_most st (l ∷ m ∷ ls)) b
-      more h k = unfold glue judge_most in k ∙ h
+      glue-more l m ls st b (most-glue (m ∷ ls) (drop (length l) s) n (step st l (begins m)) b) (first-kept st l m ls (lines b) (lines-some (drop (length l) s) m ls n))
 
   pub feed-pieces : (x : Fed S) (a b : List ℕ) → feed (feed x a) b ≡ feed x (a ++ b)
   feed-pieces x a b = unfold feed in sym (ap (judge_most x.state) (ap lines (sym (append_assoc x.waiting a b)) ∙ lines-append (x.waiting ++ a) b) ∙ most-glue (lines (x.waiting ++ a)) (x.waiting ++ a) refl x.state b)

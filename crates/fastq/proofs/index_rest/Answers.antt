@@ -1,7 +1,6 @@
 -- `fastq::index_rest` meets its contract: the lines passed, at once or one by one, and what those from here on say, together are what all say.
 use Rattle.std.proofs.Common.{◌≡◌, sym, ◌∙◌, false, ◌≤◌, ◌<◌, ◌+◌, ◌*◌, arith, length}
 use Rattle.lines.specs.Lines.{none}
-use borrow.Author.Tests.{not-true, not-false}
 use Rattle.fastq.specs.Fastq.{lines_at, body_at}
 use Rattle.fastq.specs.Laws.{rest-ends, rest-on, rest-stops, some-here, line-within, bases-most}
 use Rattle.fastq.specs.Passing.{rest-passed, passed-room, passed-few}
@@ -47,7 +46,7 @@ loop-last-init c =
 
 -- there is a line at i
 some : (c : After-line_at-l) → none (body_at c.args.s.now c.loop-last.i) ≡ false
-some c = sym c.body_ends.ensures ∙ not-true _ c.loop-last-test.true-raw
+some c = sym c.body_ends.ensures ∙ c.loop-last-test.true
 
 within : (c : After-line_at-l)
     → (c.loop-last.i < c.loop-last.i + c.line_at-l.result.width)
@@ -86,4 +85,4 @@ loop-last-preserved c =
     )
 
 pub returns : goal.returns
-returns c = rest-ends _ _ _ _ _ _ (sym c.body_ends.ensures ∙ not-false _ c.loop-last-test.false-raw) ∙ c.loop-last.invariant.3
+returns c = rest-ends _ _ _ _ _ _ (sym c.body_ends.ensures ∙ c.loop-last-test.false) ∙ c.loop-last.invariant.3

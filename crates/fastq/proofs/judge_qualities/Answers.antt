@@ -1,6 +1,5 @@
 -- `fastq::judge_qualities` meets its contract: what the lines and partners behind those passed say is what all say.
 use Rattle.std.proofs.Common.{◌≡◌, sym, ◌∙◌, ◌≤◌, ◌<◌, ◌+◌, ◌*◌, arith, length}
-use borrow.Author.Tests.{not-true, not-false}
 use Rattle.lines.specs.Lines.{part, line_end}
 use Rattle.lines.specs.Laws.{line_end-gt, line_end-le}
 use Rattle.fastq.specs.Fastq.{fits_partner}
@@ -62,7 +61,7 @@ pub returns-then-not-fits_partner : goal.returns-then-not-fits_partner
 returns-then-not-fits_partner c =
     let a = c.args in
     rw (c.base_count-found.ensures, c.partner-p.ensures, c.line_end-e.ensures)
-    (qualities-bad a.s.now c.loop-left.i c.loop-left.left a.first a.last c.loop-left-test.true c.if-s-i.false (sym (said (goal.at.returns-then-not-fits_partner c).After-fits_partner) ∙ not-true _ c.if-not-fits_partner.true-raw))
+    (qualities-bad a.s.now c.loop-left.i c.loop-left.left a.first a.last c.loop-left-test.true c.if-s-i.false (sym (said (goal.at.returns-then-not-fits_partner c).After-fits_partner) ∙ c.if-not-fits_partner.true))
     ∙ c.loop-left.invariant
 
 pub overflow_sub-left-in-loop-left : goal.overflow_sub-left-in-loop-left
@@ -75,7 +74,7 @@ pub loop-left-preserved : goal.loop-left-preserved
 loop-left-preserved c =
     let a = c.args in
     rw c.line_end-e.ensures
-    (qualities-on a.s.now c.loop-left.i c.loop-left.left a.first a.last c.loop-left-test.true c.if-s-i.false (sym (said (goal.at.loop-left-preserved c).After-fits_partner) ∙ not-false _ c.if-not-fits_partner.false-raw))
+    (qualities-on a.s.now c.loop-left.i c.loop-left.left a.first a.last c.loop-left-test.true c.if-s-i.false (sym (said (goal.at.loop-left-preserved c).After-fits_partner) ∙ c.if-not-fits_partner.false))
     ∙ c.loop-left.invariant
 
 pub returns : goal.returns

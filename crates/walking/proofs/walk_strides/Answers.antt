@@ -1,6 +1,5 @@
 -- `walking::walk_strides` meets its contract: the offsets of the bases passed, and those of the lines from `i` on, are all.
 use Rattle.std.proofs.Common.{◌≤◌, ◌<◌, ◌+◌, ◌≡◌, refl, sym, ◌∙◌, false, arith, length}
-use borrow.Author.Tests.{not-true, not-false}
 use Rattle.lines.specs.Lines.{seq_at, none}
 use Rattle.walking.specs.Walk.{Onward, onward-line, onward-end, line-within}
 use Rattle.walking.proofs.walk_strides.Goals as goal
@@ -16,7 +15,7 @@ onward c = c.loop-e.invariant _ c.pass_strides-begun.ensures
 
 -- there is a line at i
 some : (c : After-line_end-e) → none (seq_at c.args.s.now c.loop-e.i) ≡ false
-some c = sym c.sequence_ends.ensures ∙ not-true _ c.loop-e-test.true-raw
+some c = sym c.sequence_ends.ensures ∙ c.loop-e-test.true
 
 pub slice_bounds-base_count-end : goal.slice_bounds-base_count-end
 slice_bounds-base_count-end c = omega (arith, line-within _ _ _ _ (some (goal.at.slice_bounds-base_count-end c).After-line_end-e) c.line_end-e.ensures refl)
@@ -40,4 +39,4 @@ loop-e-preserved c = λ p o.
     onward-line _ _ _ _ _ _ _ (c.loop-e.invariant p o) _ _ _ (some (goal.at.loop-e-preserved c).After-line_end-e) c.line_end-e.ensures c.base_count-bases.ensures c.walk_line-walk.ensures
 
 pub returns : goal.returns
-returns c = onward-end _ _ _ _ _ _ _ (onward (goal.at.returns c).At-loop-e) (sym c.sequence_ends.ensures ∙ not-false _ c.loop-e-test.false-raw)
+returns c = onward-end _ _ _ _ _ _ _ (onward (goal.at.returns c).At-loop-e) (sym c.sequence_ends.ensures ∙ c.loop-e-test.false)

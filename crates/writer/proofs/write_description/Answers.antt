@@ -1,6 +1,5 @@
 -- `writer::write_description` meets its contract: the space, and the description behind it.
 use Rattle.std.proofs.Common.{◌+◌, ◌≤◌, ◌≡◌, ap, ◌∙◌, length, set, length-set, arith}
-use borrow.Author.Tests.{not-true, not-false}
 use Rattle.columns.specs.Bytes.{overlaid-length}
 use Rattle.writer.specs.Laws.{description-none, description-size, description-put}
 use Rattle.writer.proofs.write_description.Goals as goal
@@ -9,10 +8,10 @@ use Rattle.writer.proofs.write_description.Goals.{Else-not-described}
 -- there is room for the space and the description
 room : (c : Else-not-described) → (let a = c.args in a.at + 1 + length a.description.now ≤ length a.out.now)
 room c =
-    omega (arith, rw (not-false c.args.described c.if-not-described.false-raw, description-size c.args.description.now) at c.requires)
+    omega (arith, rw (c.if-not-described.false, description-size c.args.description.now) at c.requires)
 
 pub returns-then-not-described : goal.returns-then-not-described
-returns-then-not-described c = rw (not-true c.args.described c.if-not-described.true-raw) (description-none _ _ _)
+returns-then-not-described c = rw (c.if-not-described.true) (description-none _ _ _)
 
 pub bounds-out-at : goal.bounds-out-at
 bounds-out-at c = omega (arith, room (goal.at.bounds-out-at c).Else-not-described)
@@ -36,4 +35,4 @@ shape_of-out c =
     ap length c.put_bytes.ensures ∙ (overlaid-length _ _ _ (omega (arith, room (goal.at.shape_of-out c).Else-not-described, e)) ∙ e)
 
 pub returns : goal.returns
-returns c = rw (not-false c.args.described c.if-not-described.false-raw) (description-put c.args.out.now c.args.at c.args.description.now _ (rw (not-false c.args.described c.if-not-described.false-raw) at c.requires) c.put_bytes.ensures)
+returns c = rw (c.if-not-described.false) (description-put c.args.out.now c.args.at c.args.description.now _ (rw (c.if-not-described.false) at c.requires) c.put_bytes.ensures)

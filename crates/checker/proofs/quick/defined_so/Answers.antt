@@ -1,6 +1,5 @@
 -- `checker::quick::defined_so` meets its contract: by its tests. The line has no LF in its name, nor behind it up to its end.
 use Rattle.std.proofs.Common.{◌+◌, ◌-◌, ◌≡◌, sym, ◌∙◌, true≢false, arith}
-use borrow.Author.Tests.{not-false}
 use Rattle.checker.specs.Quick.{defined-end}
 use Rattle.checker.proofs.quick.defined_so.Goals as goal
 
@@ -35,10 +34,10 @@ returns c = λ h.
     let word = c.same_word.ensures h in
     record {
       here = omega arith;
-      end = rw q at (defined-end _ _ (start - 1) _ _ _ (omega arith) (omega arith) c.if-fasta-at-ne62.false word (c.clear_to.ensures (not-false _ c.if-not-clear_to.false-raw)) c.if-fasta-last-ne10.false);
+      end = rw q at (defined-end _ _ (start - 1) _ _ _ (omega arith) (omega arith) c.if-fasta-at-ne62.false word (c.clear_to.ensures c.if-not-clear_to.false) c.if-fasta-last-ne10.false);
       inside = omega arith;
       some = omega arith;
       c.if-fasta-at-ne62.false = c.if-fasta-at-ne62.false;
-      space = sym c.is_space.ensures ∙ not-false _ c.if-not-is_space.false-raw;
+      space = sym c.is_space.ensures ∙ c.if-not-is_space.false;
       word = word;
     }

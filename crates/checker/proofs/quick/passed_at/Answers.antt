@@ -1,6 +1,5 @@
 -- `checker::quick::passed_at` meets its contract: the line is as it is written, the definition line has its name, and the sequence its numbers.
 use Rattle.std.proofs.Common.{refl, arith}
-use borrow.Author.Tests.{not-false}
 use Rattle.checker.specs.Quick.{passed-told}
 use Rattle.checker.proofs.quick.passed_at.Goals as goal
 
@@ -15,4 +14,4 @@ returns-then-not-defined_so c = λ h. absurd (omega arith)
 
 pub returns : goal.returns
 returns c = λ h.
-    passed-told _ _ _ _ _ _ (c.defined_so.ensures (not-false _ c.if-not-defined_so.false-raw)) _ _ _ (omega arith) (c.line_at-found.ensures (omega arith)) refl (c.even_end-end.ensures h)
+    passed-told _ _ _ _ _ _ (c.defined_so.ensures c.if-not-defined_so.false) _ _ _ (omega arith) (c.line_at-found.ensures (omega arith)) refl (c.even_end-end.ensures h)

@@ -1,6 +1,5 @@
 -- `checker::quick::same_word` meets its contract: the blocks cover every byte, and the last may overlap the one before.
 use Rattle.std.proofs.Common.{◌+◌, ◌-◌, ◌≡◌, sym, true≢false, arith}
-use borrow.Author.Tests.{not-false}
 use Rattle.checker.specs.Quick.{word_none, word_on}
 use Rattle.checker.proofs.quick.same_word.Goals as goal
 
@@ -15,7 +14,7 @@ returns-then-not-word_8 c = λ h. absurd (true≢false (sym h))
 
 pub loop-i-preserved : goal.loop-i-preserved
 loop-i-preserved c =
-    (omega arith, word_on _ _ _ _ c.loop-i.i c.loop-i.i 8 c.loop-i.invariant.1 (omega arith) (c.word_8.ensures (not-false _ c.if-not-word_8.false-raw)))
+    (omega arith, word_on _ _ _ _ c.loop-i.i c.loop-i.i 8 c.loop-i.invariant.1 (omega arith) (c.word_8.ensures c.if-not-word_8.false))
 
 pub returns : goal.returns
 returns c = λ h.

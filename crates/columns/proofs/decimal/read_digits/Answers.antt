@@ -1,7 +1,6 @@
 -- `columns::read_digits` meets its contract. The loop's invariant: the digits passed make `value`, and the number from here, with
 -- those before it, is the number from the start. Each way out is a law of `numberFrom`.
 use Rattle.std.proofs.Common.{◌≤◌, ◌<◌, ◌+◌, ◌-◌, ◌*◌, ◌^◌, ◌≡◌, sym, ◌∙◌, arith, drop, get_or, ltb-true, ltb-false}
-use borrow.Author.Tests.{not-true, not-false}
 use Rattle.columns.specs.Decimal.{number_from, digits_of}
 use Rattle.columns.specs.Digits.{digits-none, digits-start, number-end, number-low, number-high, number_more, number-over}
 use Rattle.columns.proofs.decimal.read_digits.Goals as goal
@@ -36,13 +35,13 @@ turn c =
 
 pub returns-then-not-may_follow : goal.returns-then-not-may_follow
 returns-then-not-may_follow c =
-    let over : 2 ^ 64 ≤ c.loop-i.value * 10 + (c.wide-b.result - 48) = ltb-false _ _ (sym c.may_follow.ensures ∙ not-true _ c.if-not-may_follow.true-raw) in
+    let over : 2 ^ 64 ≤ c.loop-i.value * 10 + (c.wide-b.result - 48) = ltb-false _ _ (sym c.may_follow.ensures ∙ c.if-not-may_follow.true) in
     sym (number-over _ _ (omega (arith, over, c.wide-b.ensures))) ∙ turn (goal.at.returns-then-not-may_follow c).Else-b-gt-NINE
 
 -- the digit that follows keeps the number small
 small : (c : Else-not-may_follow)
     → c.loop-i.value * 10 + (c.wide-b.result - 48) < 2 ^ 64
-small c = ltb-true _ _ (sym c.may_follow.ensures ∙ not-false _ c.if-not-may_follow.false-raw)
+small c = ltb-true _ _ (sym c.may_follow.ensures ∙ c.if-not-may_follow.false)
 
 pub overflow_mul-value : goal.overflow_mul-value
 overflow_mul-value c = omega (arith, small (goal.at.overflow_mul-value c).Else-not-may_follow)

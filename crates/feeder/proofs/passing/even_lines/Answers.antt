@@ -13,7 +13,7 @@ pub returns-then-is_place : goal.returns-then-is_place
 returns-then-is_place c =
     λ h.
     record {
-      same = sym c.is_same.ensures ∙ not-false c.is_same.result c.if-not-is_same.false-raw;
+      same = sym c.is_same.ensures ∙ c.if-not-is_same.false;
       column = c.if-count-n-ne0.false;
       place = eqb-true _ _ (sym c.is_place.ensures ∙ c.if-is_place.true);
       count = c.lines_like-k.ensures;

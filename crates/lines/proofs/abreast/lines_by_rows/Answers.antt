@@ -1,6 +1,5 @@
 -- `lines::abreast::lines_by_rows` meets its contract: each run of lines that is passed is alike, and begins where the one before it ends.
 use Rattle.std.proofs.Common.{◌*◌, refl, arith}
-use borrow.Author.Tests.{not-false}
 use Rattle.lines.specs.Abreast.{all_none, all_join, rows-reach}
 use Rattle.lines.proofs.abreast.lines_by_rows.Goals as goal
 
@@ -46,7 +45,7 @@ loop-n-smaller c = omega arith
 pub loop-n-preserved : goal.loop-n-preserved
 loop-n-preserved c =
     let a = c.args in
-    let r = c.rows_are_like.ensures (not-false _ c.if-not-rows_are_like.false-raw) in (
+    let r = c.rows_are_like.ensures c.if-not-rows_are_like.false in (
       c.loop-n.invariant.0,
       c.loop-n.invariant.1,
       omega arith,

@@ -1,6 +1,5 @@
 -- `lines::abreast::rows_are_like` meets its contract: each row passed adds a line in each place, and the four runs in a row are one.
 use Rattle.std.proofs.Common.{◌+◌, ◌≤◌, ◌≡◌, sym, true≢false, arith, length}
-use borrow.Author.Tests.{not-false}
 use Rattle.lines.specs.Abreast.{all_none, all-four, row_more, row_within, row-reach}
 use Rattle.lines.proofs.abreast.rows_are_like.Goals as goal
 use Rattle.lines.proofs.abreast.rows_are_like.Goals.{After-row_is_like}
@@ -41,7 +40,7 @@ loop-n-preserved c =
       omega arith,
       omega (arith, row-reach c.loop-n.n a.like.width),
       row_more a.s.now a.like a.mark c.loop-n.n a.at c.loop-n.i a.apart (omega arith) c.loop-n.invariant.1 (omega (arith, fits (goal.at.loop-n-preserved c).After-row_is_like)) c.loop-n.invariant.2
-          (c.row_is_like.ensures (not-false _ c.if-not-row_is_like.false-raw)),
+          (c.row_is_like.ensures c.if-not-row_is_like.false),
     )
 
 pub returns : goal.returns

@@ -1,7 +1,6 @@
 -- `lines::alike::lines_one_by_one` meets its contract: the lines passed and those alike from the place on are all that are alike.
 use Rattle.std.proofs.Common.{◌+◌, ◌-◌, ◌≤◌, ◌<◌, ◌≡◌, sym, ◌∙◌, true, arith, zero-add, length}
 use native.Mathlib.Nat.{sub-zero}
-use borrow.Author.Tests.{not-true, not-false}
 use Rattle.lines.specs.Alike.{alike-flat}
 use Rattle.lines.specs.Clear.{like-fits}
 use Rattle.lines.specs.UpTo.{up_to_at, alike-past, alike-marked, alike-other, alike-more, alike-done}
@@ -27,7 +26,7 @@ is_like-requires c = (c.loop-n.invariant.0, omega arith)
 pub returns-then-not-is_like : goal.returns-then-not-is_like
 returns-then-not-is_like c =
     let a = c.args in
-    omega (arith, c.loop-n.invariant.3, alike-other a.s.now a.like a.mark (a.most - c.loop-n.n) c.loop-n.i (sym c.is_like.ensures ∙ not-true _ c.if-not-is_like.true-raw))
+    omega (arith, c.loop-n.invariant.3, alike-other a.s.now a.like a.mark (a.most - c.loop-n.n) c.loop-n.i (sym c.is_like.ensures ∙ c.if-not-is_like.true))
 
 -- a line that is like the other ends in the file
 fits : (c : After-is_like) → c.is_like.result ≡ true
@@ -39,17 +38,17 @@ fits c t =
     (like-fits a.s.now c.loop-n.i a.like c.loop-n.invariant.0 z (sym c.is_like.ensures ∙ t), z)
 
 pub bounds-s-i : goal.bounds-s-i
-bounds-s-i c = omega (arith, fits (goal.at.bounds-s-i c).After-is_like (not-false _ c.if-not-is_like.false-raw))
+bounds-s-i c = omega (arith, fits (goal.at.bounds-s-i c).After-is_like c.if-not-is_like.false)
 
 pub returns-then-s-i : goal.returns-then-s-i
 returns-then-s-i c =
     let a = c.args in
-    let f = fits (goal.at.returns-then-s-i c).After-is_like (not-false _ c.if-not-is_like.false-raw) in
+    let f = fits (goal.at.returns-then-s-i c).After-is_like c.if-not-is_like.false in
     omega (arith, c.loop-n.invariant.3, alike-marked a.s.now a.like a.mark (a.most - c.loop-n.n) c.loop-n.i (omega arith) c.if-s-i.true)
 
 -- the line at the place is like the other
 like : (c : After-struct_known-in-loop-n-1) → c.is_like.result ≡ true
-like c = not-false _ c.if-not-is_like.false-raw
+like c = c.if-not-is_like.false
 
 pub overflow_add-i : goal.overflow_add-i
 overflow_add-i c = omega (arith, fits (goal.at.overflow_add-i c).After-is_like (like (goal.at.overflow_add-i c).After-struct_known-in-loop-n-1))

@@ -1,6 +1,5 @@
 -- `walking::quick::blank_end` meets its contract: the lines passed have no base, so that what is behind them is all.
 use Rattle.std.proofs.Common.{◌+◌, ◌≤◌, ◌<◌, sym, ◌∙◌, false, arith, length}
-use borrow.Author.Tests.{not-true, not-false}
 use Rattle.lines.specs.Laws.{first-within, first-grows}
 use Rattle.walking.specs.Even.{blank-start, blank-more, blank-end}
 use Rattle.walking.proofs.quick.blank_end.Goals as goal
@@ -18,7 +17,7 @@ within : (c : After-sequence_line-line)
     × (c.loop-line.i + c.sequence_line-line.result.width ≤ length c.args.s.now)
 within c =
     rw c.sequence_line-line.ensures
-    (first-grows _ _ c.loop-line.invariant.within (sym c.sequence_ends.ensures ∙ not-true _ c.loop-line-test.true-raw), first-within _ _ c.loop-line.invariant.within)
+    (first-grows _ _ c.loop-line.invariant.within (sym c.sequence_ends.ensures ∙ c.loop-line-test.true), first-within _ _ c.loop-line.invariant.within)
 
 pub overflow_add-i : goal.overflow_add-i
 overflow_add-i c = omega (arith, within (goal.at.overflow_add-i c).After-sequence_line-line)
@@ -31,4 +30,4 @@ loop-line-preserved c =
     blank-more _ _ _ c.loop-line.invariant _ c.sequence_line-line.ensures c.if-line-ne0.false
 
 pub returns : goal.returns
-returns c = λ _. blank-end _ _ _ c.loop-line.invariant (sym c.sequence_ends.ensures ∙ not-false _ c.loop-line-test.false-raw)
+returns c = λ _. blank-end _ _ _ c.loop-line.invariant (sym c.sequence_ends.ensures ∙ c.loop-line-test.false)
