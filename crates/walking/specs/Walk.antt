@@ -46,7 +46,7 @@ pub record MovedOn (stride : Stride) (b w k : ℕ) (next : Stride) : Type 0 wher
 
 -- a walk with one line more
 pub record WalkedLine (b w : ℕ) (before : Walk) (at : Offset) (k : ℕ) (after : Walk) : Type 0 where
-  pub goes-on : (p : ℕ) (os : List ℕ) → Walking p b w os before → Walking p b w (os ++ up_from at.0 k) after
+  pub goes_on : (p : ℕ) (os : List ℕ) → Walking p b w os before → Walking p b w (os ++ up_from at.0 k) after
 
 -- ---- the end of a stride, and the next
 
@@ -183,7 +183,7 @@ module _ (stride : Stride) (b w k : ℕ) (inside : stride.passed < b) where
 module _ (b w : ℕ) (v : Walk) (at : Offset) (k : ℕ) where
   pub walked-elsewhere : (q : Position) (o : Offset) → v.placed ≡ Elsewhere q o → WalkedLine b w v at k (record { bases = v.bases + k; placed = Elsewhere q o; stride = v.stride })
   walked-elsewhere q o e = record {
-    goes-on = λ p os o. record {
+    goes_on = λ p os o. record {
       bases = rw (length-append, length-up_from) (omega (arith, o.bases));
       placed = rw (elsewhere-append, ← o.placed, e);
       stride = λ g. let z : ◌≡◌ {A = ℕ} 0 1 = cc in absurd (omega arith);
@@ -194,7 +194,7 @@ module _ (b w : ℕ) (v : Walk) (at : Offset) (k : ℕ) where
   pub walked-there : (said : Placed) (next : Stride) → v.placed ≡ There → v.bases ≤ at.0 → at.0 + k < 2 ^ 64 → (w ≡ b → 2 ^ 64 - 1 ≤ b)
       → LineJudged v.stride b v.bases at k said → MovedOn v.stride b w k next → WalkedLine b w v at k (record { bases = v.bases + k; placed = said; stride = next })
   walked-there said next e l f g j m = record {
-    goes-on = λ p os o.
+    goes_on = λ p os o.
         let r : v.stride ≡ walk_stride p b w v.bases = rw o.bases (o.stride e) in record {
           bases = rw (length-append, length-up_from) (omega (arith, o.bases));
           placed = rw (elsewhere-append, ← o.placed, e, zero-add, ← o.bases) (j.says p w r (λ h. omega (arith, g h)));

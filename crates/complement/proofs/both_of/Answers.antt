@@ -18,7 +18,7 @@ good-first x y r e q = rw e q
 
 pub returns-then-not-block_of : goal.returns-then-not-block_of
 returns-then-not-block_of c =
-    bad-first _ _ (sym c.loop-i.invariant.1.0 ∙ block-bad _ _ c.loop-i.i _ (omega arith) _ c.Block-of.ensures c.if-not-block_of.true-raw)
+    bad-first _ _ (sym c.loop-i.invariant.1.0 ∙ block-bad _ _ c.loop-i.i _ (omega arith) _ c.block_of.ensures c.if-not-block_of.true-raw)
 
 pub returns-then-not-block_of-2 : goal.returns-then-not-block_of-2
 returns-then-not-block_of-2 c =
@@ -29,7 +29,7 @@ pub loop-i-preserved : goal.loop-i-preserved
 loop-i-preserved c =
     (
       omega (arith, c.loop-i-test.true, c.loop-i.invariant.0),
-      (sym (block-good _ _ c.loop-i.i _ (omega arith) _ c.Block-of.ensures c.if-not-block_of.false-raw) ∙ c.loop-i.invariant.1.0, sym (block-good _ _ c.loop-i.i _ (omega arith) _ c.block_of-in-loop-i.ensures c.if-not-block_of-2.false-raw) ∙ c.loop-i.invariant.1.1),
+      (sym (block-good _ _ c.loop-i.i _ (omega arith) _ c.block_of.ensures c.if-not-block_of.false-raw) ∙ c.loop-i.invariant.1.0, sym (block-good _ _ c.loop-i.i _ (omega arith) _ c.block_of-in-loop-i.ensures c.if-not-block_of-2.false-raw) ∙ c.loop-i.invariant.1.1),
     )
 
 pub returns-then-not-block_of-3 : goal.returns-then-not-block_of-3

@@ -5,11 +5,11 @@ use Rattle.complement.proofs.run_of.Goals as goal
 
 pub returns-then-not-block_of : goal.returns-then-not-block_of
 returns-then-not-block_of c =
-    sym (block-bad _ _ c.loop-i.i _ (omega arith) _ c.Block-of.ensures c.if-not-block_of.true-raw) ∙ c.loop-i.invariant.1
+    sym (block-bad _ _ c.loop-i.i _ (omega arith) _ c.block_of.ensures c.if-not-block_of.true-raw) ∙ c.loop-i.invariant.1
 
 pub loop-i-preserved : goal.loop-i-preserved
 loop-i-preserved c =
-    (search rules, sym (block-good _ _ c.loop-i.i _ (omega arith) _ c.Block-of.ensures c.if-not-block_of.false-raw) ∙ c.loop-i.invariant.1)
+    (search rules, sym (block-good _ _ c.loop-i.i _ (omega arith) _ c.block_of.ensures c.if-not-block_of.false-raw) ∙ c.loop-i.invariant.1)
 
 pub returns : goal.returns
 returns c =

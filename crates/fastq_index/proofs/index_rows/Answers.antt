@@ -6,7 +6,7 @@ use Rattle.fastq_table.specs.Rows.{row_words, quality_rows}
 use Rattle.fastq_index.specs.Part.{rows_before, behind}
 use Rattle.fastq_index.specs.PartLaws.{next-before, turn-place, behind_more, behind-none}
 use Rattle.fastq_index.proofs.index_rows.Goals as goal
-use Rattle.fastq_index.proofs.index_rows.Goals.{At-loop-behind, In-On-2}
+use Rattle.fastq_index.proofs.index_rows.Goals.{At-loop-behind, In-On}
 
 -- so many rows are in, of those that the table has
 counted : (c : At-loop-behind) → c.loop-behind.n ≤ length c.args.table.now / 8 / row_words
@@ -16,13 +16,13 @@ pub loop-behind-init : goal.loop-behind-init
 loop-behind-init c = (refl, in_start _ _, behind-none _ _)
 
 -- a turn that goes on: what the file from its place on still gives is the row that was kept, and what the file behind it gives
-turn : (c : In-On-2) → let a = c.args in OnwardIn quality_rows a.table.now (rows_before a.s.now a.to a.from) (c.loop-behind.n + 1) (rows_before a.s.now a.to c.in-On.behind) c.keep.new.table
+turn : (c : In-On) → let a = c.args in OnwardIn quality_rows a.table.now (rows_before a.s.now a.to a.from) (c.loop-behind.n + 1) (rows_before a.s.now a.to c.in-On.behind) c.keep.new.table
     × (c.loop-behind.at < length a.s.now) × (c.loop-behind.at < c.in-On.behind)
 turn c =
     in_on _ _ _ _ _ c.loop-behind.invariant.1 _ _ _ _ (next-before _ _ _ _ c.next_row.ensures) _ _ c.keep.ensures _ c.in-On.is
 
 -- and the place is behind one record more
-place : (c : In-On-2) → let a = c.args in
+place : (c : In-On) → let a = c.args in
     c.in-On.behind ≡ behind a.s.now (c.loop-behind.n + 1) a.from
 place c =
     behind_more _ _ _ _ _ c.loop-behind.invariant.2 (turn-place _ _ _ _ c.next_row.ensures _ _ _ _ c.keep.ensures _ c.in-On.is)
@@ -31,10 +31,10 @@ pub overflow_add-n : goal.overflow_add-n
 overflow_add-n c = omega (arith, counted (goal.at.overflow_add-n c).At-loop-behind)
 
 pub loop-behind-smaller : goal.loop-behind-smaller
-loop-behind-smaller c = omega (arith, turn (goal.at.loop-behind-smaller c).In-On-2)
+loop-behind-smaller c = omega (arith, turn (goal.at.loop-behind-smaller c).In-On)
 
 pub loop-behind-preserved : goal.loop-behind-preserved
-loop-behind-preserved c = (c.keep.auto.table ∙ c.loop-behind.invariant.0, (turn (goal.at.loop-behind-preserved c).In-On-2).0, place (goal.at.loop-behind-preserved c).In-On-2)
+loop-behind-preserved c = (c.keep.auto.table ∙ c.loop-behind.invariant.0, (turn (goal.at.loop-behind-preserved c).In-On).0, place (goal.at.loop-behind-preserved c).In-On)
 
 pub shape_of-table-in-Stop : goal.shape_of-table-in-Stop
 shape_of-table-in-Stop c = c.keep.auto.table ∙ c.loop-behind.invariant.0

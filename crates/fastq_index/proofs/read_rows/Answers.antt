@@ -4,7 +4,7 @@ use Rattle.table.specs.KindLaws.{OnwardIn, in_start, in_count, in_on, in-stops}
 use Rattle.fastq_table.specs.Rows.{row_words, quality_rows}
 use Rattle.fastq_index.specs.Text.{index_at}
 use Rattle.fastq_index.proofs.read_rows.Goals as goal
-use Rattle.fastq_index.proofs.read_rows.Goals.{At-loop-behind, In-On-2}
+use Rattle.fastq_index.proofs.read_rows.Goals.{At-loop-behind, In-On}
 
 -- so many rows are in, of those that the table has
 counted : (c : At-loop-behind) → c.loop-behind.n ≤ length c.args.table.now / 8 / row_words
@@ -17,7 +17,7 @@ pub overflow_add-n : goal.overflow_add-n
 overflow_add-n c = omega (arith, counted (goal.at.overflow_add-n c).At-loop-behind)
 
 -- a turn that goes on: what the text from its place on still gives is the row that was kept, and what the text behind it gives
-turn : (c : In-On-2) → let a = c.args in OnwardIn quality_rows a.table.now (index_at a.text.now 1 0) (c.loop-behind.n + 1) (index_at a.text.now (c.loop-behind.n + 1 + 1) c.in-On.behind) c.keep.new.table
+turn : (c : In-On) → let a = c.args in OnwardIn quality_rows a.table.now (index_at a.text.now 1 0) (c.loop-behind.n + 1) (index_at a.text.now (c.loop-behind.n + 1 + 1) c.in-On.behind) c.keep.new.table
     × (c.loop-behind.at < length a.text.now) × (c.loop-behind.at < c.in-On.behind)
 turn c =
     in_on _ _ _ _ _ c.loop-behind.invariant.1 _ _ _ _ c.next_line.ensures _ _ c.keep.ensures _ c.in-On.is
@@ -26,10 +26,10 @@ pub overflow_add-n-in-On : goal.overflow_add-n-in-On
 overflow_add-n-in-On c = omega (arith, counted (goal.at.overflow_add-n-in-On c).At-loop-behind)
 
 pub loop-behind-smaller : goal.loop-behind-smaller
-loop-behind-smaller c = omega (arith, turn (goal.at.loop-behind-smaller c).In-On-2)
+loop-behind-smaller c = omega (arith, turn (goal.at.loop-behind-smaller c).In-On)
 
 pub loop-behind-preserved : goal.loop-behind-preserved
-loop-behind-preserved c = (c.keep.auto.table ∙ c.loop-behind.invariant.0, (turn (goal.at.loop-behind-preserved c).In-On-2).0)
+loop-behind-preserved c = (c.keep.auto.table ∙ c.loop-behind.invariant.0, (turn (goal.at.loop-behind-preserved c).In-On).0)
 
 pub shape_of-table-in-Stop : goal.shape_of-table-in-Stop
 shape_of-table-in-Stop c = c.keep.auto.table ∙ c.loop-behind.invariant.0

@@ -4,7 +4,7 @@ use Rattle.table.specs.Rows.{row_words, row_count}
 use Rattle.table.specs.Laws.{Onward, onward-start, onward-count, turn_on, turn-stops}
 use Rattle.fitting.specs.Rules.{rows_by}
 use Rattle.fitting.proofs.index_rows.Goals as goal
-use Rattle.fitting.proofs.index_rows.Goals.{At-loop-behind, In-On-2}
+use Rattle.fitting.proofs.index_rows.Goals.{At-loop-behind, In-On}
 
 -- so many rows are in, of those that the table has
 counted : (c : At-loop-behind) → c.loop-behind.n ≤ length c.args.table.now / row_words
@@ -15,7 +15,7 @@ pub loop-behind-init : goal.loop-behind-init
 loop-behind-init c = (refl, onward-start _ _ _ refl)
 
 -- a turn that goes on: what the file from its place on still gives is the row that was kept, and what the file behind it gives
-turn : (c : In-On-2) → let a = c.args in Onward (row_count a.table.now) a.table.now (rows_by a.rule a.s.now 0) (c.loop-behind.n + 1) (rows_by a.rule a.s.now c.in-On.behind) c.keep.new.table
+turn : (c : In-On) → let a = c.args in Onward (row_count a.table.now) a.table.now (rows_by a.rule a.s.now 0) (c.loop-behind.n + 1) (rows_by a.rule a.s.now c.in-On.behind) c.keep.new.table
     × (c.loop-behind.at < length a.s.now) × (c.loop-behind.at < c.in-On.behind)
 turn c =
     turn_on _ _ _ _ _ _ _ _ _ _ c.next_row.ensures c.loop-behind.invariant.1 _ _ c.keep.ensures _ c.in-On.is
@@ -24,10 +24,10 @@ pub overflow_add-n : goal.overflow_add-n
 overflow_add-n c = omega (arith, counted (goal.at.overflow_add-n c).At-loop-behind)
 
 pub loop-behind-smaller : goal.loop-behind-smaller
-loop-behind-smaller c = omega (arith, turn (goal.at.loop-behind-smaller c).In-On-2)
+loop-behind-smaller c = omega (arith, turn (goal.at.loop-behind-smaller c).In-On)
 
 pub loop-behind-preserved : goal.loop-behind-preserved
-loop-behind-preserved c = (c.keep.auto.table ∙ c.loop-behind.invariant.0, (turn (goal.at.loop-behind-preserved c).In-On-2).0)
+loop-behind-preserved c = (c.keep.auto.table ∙ c.loop-behind.invariant.0, (turn (goal.at.loop-behind-preserved c).In-On).0)
 
 pub shape_of-table-in-Stop : goal.shape_of-table-in-Stop
 shape_of-table-in-Stop c = c.keep.auto.table ∙ c.loop-behind.invariant.0

@@ -32,7 +32,8 @@ within : (c : After-sequence_line-l)
     × (c.sequence_line-l.result.bases ≤ c.sequence_line-l.result.width)
 within c =
     let a = c.args in
-    let h = (room c.before.before.before.before).0 in
+    let h = (let room : (c.args.at + c.lines_like-alike.result * c.args.first.width ≤ length c.args.s.now)
+    × (c.lines_like-alike.result * c.args.first.bases ≤ c.lines_like-alike.result * c.args.first.width) = like-room _ _ _ c.requires.0 _ c.lines_like-alike.ensures c.requires.2 in room).0 in
     rw c.sequence_line-l.ensures (h, first-within a.s.now _ h, bases-le (seq_at a.s.now _))
 
 -- what it says with those before it is what all say

@@ -18,7 +18,7 @@ byte c = omega (arith, c.shared_slice_known-1.given c.loop-i.i)
 hit : (c : Then-last-state) → (length c.args.primer.now ≤ c.loop-i.i + 1)
     × (At (c.loop-i.i + 1 - length c.args.primer.now) ≡ first_of c.args.primer.now c.args.text.now)
 hit c =
-    found _ _ _ _ _ c.loop-i.invariant.0 c.loop-i-test.true (byte c.before.before.before) c.loop-i.invariant.1 (omega (arith, c.if-last-state.true))
+    found _ _ _ _ _ c.loop-i.invariant.0 c.loop-i-test.true (let byte : get_or c.args.text.now c.loop-i.i 0 < 256 = omega (arith, c.shared_slice_known-1.given c.loop-i.i) in byte) c.loop-i.invariant.1 (omega (arith, c.if-last-state.true))
 
 pub overflow_mul-state : goal.overflow_mul-state
 overflow_mul-state c = omega (arith, tiny (goal.at.overflow_mul-state c).In-loop-i)

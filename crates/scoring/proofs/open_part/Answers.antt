@@ -15,7 +15,8 @@ settled c = counted-total _ _ _ _ _ c.lanes_in-lanes.ensures.0 c.total-settled.e
 
 both : (c : After-walks)
     → Counted (agrees lies c.args.key.now c.args.typed.now) c.args.at (32 * c.args.blocks) (c.total-settled.result + c.walks.result)
-both c = counted-open _ _ _ _ _ _ (settled c.before.before.before.before.before) (counted-lanes _ _ _ _ c.walks.ensures)
+both c = counted-open _ _ _ _ _ _ (let settled : Counted (agrees hit c.args.key.now c.args.typed.now) c.args.at
+    (32 * c.args.blocks) c.total-settled.result = counted-total _ _ _ _ _ c.lanes_in-lanes.ensures.0 c.total-settled.ensures in settled) (counted-lanes _ _ _ _ c.walks.ensures)
 
 pub total-settled-requires : goal.total-settled-requires
 total-settled-requires c = lanes-most _ _ _ _ (omega arith) c.lanes_in-lanes.ensures.0

@@ -19,10 +19,12 @@ cleared : (c : After-struct_known-in-loop-j-2-1)
     c.args.at
     (c.loop-j.j + c.open_in-looked.result.places + c.clear_in-clear.result.places)
     (c.loop-j.right + c.open_in-looked.result.right + c.clear_in-clear.result.right)
-cleared c = counted-join _ _ _ _ _ _ (looked c.before.before.before) c.clear_in-clear.ensures.1
+cleared c = counted-join _ _ _ _ _ _ (let looked : Counted (agrees lies c.args.key.now c.args.typed.now)
+    c.args.at (c.loop-j.j + c.open_in-looked.result.places)
+    (c.loop-j.right + c.open_in-looked.result.right) = counted-join _ _ _ _ _ _ c.loop-j.invariant.1 c.open_in-looked.ensures.2 in looked) c.clear_in-clear.ensures.1
 
 pub loop-j-init : goal.loop-j-init
-loop-j-init c = c.Clear-in.ensures
+loop-j-init c = c.clear_in-first.ensures
 
 pub overflow_add-right : goal.overflow_add-right
 overflow_add-right c = let w = looked (goal.at.overflow_add-right c).After-struct_known-1 in omega (arith, w.most, c.open_in-looked.ensures.0)

@@ -6,6 +6,7 @@ use Rattle.scoring.specs.Open.{is_open, open_lies}
 use Rattle.scoring.specs.Lanes.{weigh, sum_to}
 use Rattle.scoring.specs.Bits.{hits, hits-most, word_at, word_lanes, word_none, place, place-at}
 use Rattle.scoring.proofs.walks.Goals as goal
+use Rattle.scoring.proofs.walks.Goals.{At-loop-i}
 
 abbrev key_of : tie.At-loop invariant-loop decreases-loop → List ℕ
 key_of l = l.before.before.before.args.key.now
@@ -21,23 +22,22 @@ and-false true = refl
 and-false false = refl
 
 -- eight lanes more
-lanes-more : (l : tie.At-loop invariant-loop decreases-loop) → l.loop.i < 4
-    → sum_to (weigh (agrees open_lies (key_of l) (typed-of l)) 1 (at_of l) l.before.before.before.args.blocks) (8 * l.loop.i + 8)
-    ≡ sum_to (weigh (agrees open_lies (key_of l) (typed-of l)) 1 (at_of l) l.before.before.before.args.blocks) (8 * l.loop.i)
-    + hits (λ z. agrees lies (key_of l) (typed-of l) (at_of l + 8 * l.loop.i + place z)) 64 0 (word_at l.before.before.before.args.opens.now (8 * l.loop.i))
+lanes-more : (l : At-loop-i) → l.loop-i.i < 4
+    → sum_to (weigh (agrees open_lies (key_of l) (typed-of l)) 1 (at_of l) l.args.blocks) (8 * l.loop-i.i + 8)
+    ≡ sum_to (weigh (agrees open_lies (key_of l) (typed-of l)) 1 (at_of l) l.args.blocks) (8 * l.loop-i.i)
+    + hits (λ z. agrees lies (key_of l) (typed-of l) (at_of l + 8 * l.loop-i.i + place z)) 64 0 (word_at l.args.opens.now (8 * l.loop-i.i))
 unfolding agrees open_lies
 lanes-more l h =
-    let s = l.before.before.before in
-    let a = s.args in
-    word_lanes (agrees is_open a.key.now a.typed.now) (λ z. agrees lies a.key.now a.typed.now (a.at + 8 * l.loop.i + place z)) (agrees open_lies a.key.now a.typed.now) a.at
-    a.blocks (8 * l.loop.i) a.opens.now s.requires.0.1 (omega arith) s.requires.2 (λ j b p q. same j b q)
+    let a = c.args in
+    word_lanes (agrees is_open a.key.now a.typed.now) (λ z. agrees lies a.key.now a.typed.now (a.at + 8 * l.loop-i.i + place z)) (agrees open_lies a.key.now a.typed.now) a.at
+    a.blocks (8 * l.loop-i.i) a.opens.now l.requires.0.1 (omega arith) l.requires.2 (λ j b p q. same j b q)
   where
-    same : (j b : ℕ) → b < l.before.before.before.args.blocks
-        → (agrees is_open (key_of l) (typed-of l) (at_of l + 32 * b + (8 * l.loop.i + j)) && agrees lies (key_of l) (typed-of l) (at_of l + 8 * l.loop.i + place (8 * j + b)))
-        ≡ agrees open_lies (key_of l) (typed-of l) (at_of l + 32 * b + (8 * l.loop.i + j))
+    same : (j b : ℕ) → b < l.args.blocks
+        → (agrees is_open (key_of l) (typed-of l) (at_of l + 32 * b + (8 * l.loop-i.i + j)) && agrees lies (key_of l) (typed-of l) (at_of l + 8 * l.loop-i.i + place (8 * j + b)))
+        ≡ agrees open_lies (key_of l) (typed-of l) (at_of l + 32 * b + (8 * l.loop-i.i + j))
     same j b q =
-        let e : at_of l + 8 * l.loop.i + (32 * b + j) ≡ at_of l + 32 * b + (8 * l.loop.i + j) = omega arith in
-        let n : b < 8 = omega (arith, l.before.before.before.requires.0.1) in
+        let e : at_of l + 8 * l.loop-i.i + (32 * b + j) ≡ at_of l + 32 * b + (8 * l.loop-i.i + j) = omega arith in
+        let n : b < 8 = omega (arith, l.requires.0.1) in
         rw (place-at j b n, e)
 
 pub loop-i-init : goal.loop-i-init
@@ -62,7 +62,7 @@ loop-i-preserved c =
     let e : 8 * (c.loop-i.i + 1) ≡ 8 * c.loop-i.i + 8 = omega arith in (
       omega arith,
       omega (arith, c.loop-i.invariant.1, c.walk-right.ensures, hits-most (λ z. agrees lies (key_of c) (typed-of c) (at_of c + 8 * c.loop-i.i + place z)) 64 0 c.word.result),
-      rw e (omega (arith, c.loop-i.invariant.2, lanes-more c (omega arith), rw c.word.ensures at c.walk-right.ensures)),
+      rw e (omega (arith, c.loop-i.invariant.2, lanes-more (goal.at.loop-i-preserved c).At-loop-i (omega arith), rw c.word.ensures at c.walk-right.ensures)),
     )
 
 pub returns : goal.returns

@@ -25,7 +25,7 @@ within : (c : After-base_count-bases)
     → (c.loop-e.i < c.line_end-e.result)
     × (c.line_end-e.result ≤ length c.args.s.now)
     × (c.loop-e.i + c.base_count-bases.result ≤ c.line_end-e.result)
-within c = line-within _ _ _ _ (some c.before.before) c.line_end-e.ensures c.base_count-bases.ensures
+within c = line-within _ _ _ _ (let some : none (seq_at c.args.s.now c.loop-e.i) ≡ false = sym c.sequence_ends.ensures ∙ c.loop-e-test.true in some) c.line_end-e.ensures c.base_count-bases.ensures
 
 pub walk_line-walk-requires : goal.walk_line-walk-requires
 walk_line-walk-requires c =

@@ -17,7 +17,7 @@ named c =
 
 described : (c : After-write_description-end) → length c.write_description-end.new.out ≡ length c.args.out.now
 described c =
-    ap length c.write_description-end.ensures.holds ∙ (overlaid-length _ _ _ (omega (arith, room c.before.before.before.before.before.before.before.before.before, named c.before.before.before.before)) ∙ named c.before.before.before.before)
+    ap length c.write_description-end.ensures.holds ∙ (overlaid-length _ _ _ (omega (arith, (let room : length c.args.name.now + length (described_text c.args.described c.args.description.now) + 2 ≤ length c.args.out.now = rw (← line-parts c.args.name.now c.args.described c.args.description.now) c.requires in room), (let named : length c.put_bytes.new.out ≡ length c.args.out.now = ap length c.put_bytes.ensures ∙ name-length c.args.name.now c.args.described c.args.description.now c.args.out.now c.requires in named))) ∙ (let named : length c.put_bytes.new.out ≡ length c.args.out.now = ap length c.put_bytes.ensures ∙ name-length c.args.name.now c.args.described c.args.description.now c.args.out.now c.requires in named))
 
 pub bounds-out-0 : goal.bounds-out-0
 bounds-out-0 c = omega (arith, room (goal.at.bounds-out-0 c).Start)

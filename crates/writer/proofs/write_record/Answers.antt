@@ -40,7 +40,7 @@ sequence_length-requires c = record { bases_len_bound = (short (goal.at.sequence
 small : (c : After-sequence_length) → c.definition_length.result + c.sequence_length.result ≤ 4398046511110
 small c =
     let a = c.args in
-    let w = short c.before.before in
+    let w = (let short : (let a = c.args in (length a.name.now ≤ 1099511627776) × ((length a.description.now ≤ 1099511627776) × (length a.bases.now ≤ 1099511627776))) = short-enough _ _ _ (sym c.too_long.ensures ∙ c.if-too_long.false) in short) in
     let z : 0 < a.width = omega (arith, c.if-width-eq0.false) in
     omega (arith, c.definition_length.ensures, c.sequence_length.ensures, w.0, w.1.0, w.1.1, definition-within a.name.now a.described a.description.now, text-within a.width z a.bases.now)
 

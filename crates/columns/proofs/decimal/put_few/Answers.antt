@@ -33,7 +33,7 @@ returns-then-n-lt1000 c =
 
 pub shape_of-out-then-n-lt1000 : goal.shape_of-out-then-n-lt1000
 shape_of-out-then-n-lt1000 c =
-    put-kept _ _ _ _ _ (returns-3 c) (omega (arith, width-3 c.args.n c.args.out.now c.args.at c.if-n-lt100.false c.if-n-lt1000.true))
+    put-kept _ _ _ _ _ (returns-then-n-lt1000 c) (omega (arith, width-3 c.args.n c.args.out.now c.args.at c.if-n-lt100.false c.if-n-lt1000.true))
 
 pub put_four-requires : goal.put_four-requires
 put_four-requires c =

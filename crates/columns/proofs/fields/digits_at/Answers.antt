@@ -2,6 +2,7 @@
 use Rattle.std.proofs.Common.{arith}
 use Rattle.columns.specs.Quick.{DigitsAt, at_none, at_first, at_more}
 use Rattle.columns.proofs.fields.digits_at.Goals as goal
+use Rattle.columns.proofs.fields.digits_at.Goals.{At-loop-i}
 
 pub returns-then-first-le-ZERO : goal.returns-then-first-le-ZERO
 returns-then-first-le-ZERO c = at_none _ _
@@ -21,18 +22,18 @@ loop-i-init c =
     (omega arith, rw w (at_first _ _ c.requires (omega (arith, w)) (omega (arith, w))))
 
 -- what is told where the digits end
-told : (l : tie.At-loop invariant-loop decreases-loop)
-    → (let a = l.before.before.before.before.before.before.args in DigitsAt a.content.now a.at l.loop.value l.loop.i)
-told l = record { from = omega (arith, l.loop.invariant.0); digits = l.loop.invariant.1; plain = λ h e. omega (arith, l.before.before.before.wide.ensures, l.before.before.if1.false) }
+told : (l : At-loop-i)
+    → (let a = c.args in DigitsAt a.content.now a.at l.loop-i.value l.loop-i.i)
+told l = record { from = omega (arith, l.loop-i.invariant.0); digits = l.loop-i.invariant.1; plain = λ h e. omega (arith, l.wide-first.ensures, l.if-first-le-ZERO.false) }
 
 pub returns-then-b-lt-ZERO : goal.returns-then-b-lt-ZERO
-returns-then-b-lt-ZERO c = told c
+returns-then-b-lt-ZERO c = told (goal.at.returns-then-b-lt-ZERO c).At-loop-i
 
 pub returns-then-b-gt-NINE : goal.returns-then-b-gt-NINE
-returns-then-b-gt-NINE c = told c
+returns-then-b-gt-NINE c = told (goal.at.returns-then-b-gt-NINE c).At-loop-i
 
 pub returns-then-value-ge-ROOMY : goal.returns-then-value-ge-ROOMY
-returns-then-value-ge-ROOMY c = told c
+returns-then-value-ge-ROOMY c = told (goal.at.returns-then-value-ge-ROOMY c).At-loop-i
 
 pub overflow_mul-value : goal.overflow_mul-value
 overflow_mul-value c = omega arith
@@ -52,4 +53,4 @@ loop-i-preserved c =
     (omega (arith, c.loop-i.invariant.0), rw w (at_more _ _ _ _ (omega (arith, c.loop-i.invariant.0)) c.loop-i.invariant.1 (omega arith) (omega (arith, w)) (omega (arith, w)) (omega arith)))
 
 pub returns : goal.returns
-returns c = told c
+returns c = told (goal.at.returns c).At-loop-i

@@ -7,7 +7,7 @@ use Rattle.columns.specs.Fields.{field_says}
 use Rattle.columns.specs.Reading.{field_len, after_none, on-end, on-absent, on-refused, on-within, on-good}
 use Rattle.columns.specs.declared.fields.FieldRead.TheVariants.{Good}
 use Rattle.columns.proofs.fields.read_each.Goals as goal
-use Rattle.columns.proofs.fields.read_each.Goals.{After-number_field, In-Good-2}
+use Rattle.columns.proofs.fields.read_each.Goals.{After-number_field, In-Good}
 
 pub loop-i-init : goal.loop-i-init
 loop-i-init c = (omega arith, (refl, (omega arith, rw sub-zero (after_none _))))
@@ -59,18 +59,21 @@ pub bounds-numbers-i : goal.bounds-numbers-i
 bounds-numbers-i c = omega arith
 
 -- the field behind the tab is good
-good : (c : In-Good-2)
+good : (c : In-Good)
     → (let a = c.args in
     let r = drop (c.loop-i.tab + 1) a.content.now in
     Good c.in-Good.f ≡ field_says a.line c.loop-i.place (take (field_len (length a.numbers.now - c.loop-i.i - 1) r) r))
-good c = sym c.in-Good.is ∙ said c.before.before
+good c = sym c.in-Good.is ∙ (let said : (let a = c.args in
+    let r = drop (c.loop-i.tab + 1) a.content.now in
+    c.number_field.result ≡ field_says a.line c.loop-i.place (take (field_len (length a.numbers.now - c.loop-i.i - 1) r) r)) = let a = c.args in
+    rw (← c.loop-i.invariant.1.0, ← take_rest (c.loop-i.tab + 1) a.content.now) c.number_field.ensures in said)
 
 pub overflow_add-tab-in-Good : goal.overflow_add-tab-in-Good
 overflow_add-tab-in-Good c = omega arith
 
 pub overflow_add-tab-in-Good-2 : goal.overflow_add-tab-in-Good-2
 overflow_add-tab-in-Good-2 c =
-    omega (arith, on-within _ _ _ _ _ _ _ _ c.loop-i.invariant.1.1.1 (omega arith) c.if-content-tab.false _ (good (goal.at.overflow_add-tab-in-Good-2 c).In-Good-2))
+    omega (arith, on-within _ _ _ _ _ _ _ _ c.loop-i.invariant.1.1.1 (omega arith) c.if-content-tab.false _ (good (goal.at.overflow_add-tab-in-Good-2 c).In-Good))
 
 pub overflow_add-place : goal.overflow_add-place
 overflow_add-place c = omega arith
@@ -91,7 +94,7 @@ loop-i-preserved c =
         (
           omega arith,
           rw (k, add-one c.loop-i.i, take-suc-set c.loop-i.numbers c.loop-i.i _ (omega arith))
-              (on-good _ _ _ _ _ _ _ _ c.loop-i.invariant.1.1.1 (omega arith) c.if-content-tab.false _ (good (goal.at.loop-i-preserved c).In-Good-2)),
+              (on-good _ _ _ _ _ _ _ _ c.loop-i.invariant.1.1.1 (omega arith) c.if-content-tab.false _ (good (goal.at.loop-i-preserved c).In-Good)),
         ),
       ),
     )

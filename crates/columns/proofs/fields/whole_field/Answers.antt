@@ -4,14 +4,14 @@ use Rattle.columns.specs.Decimal.{number_of}
 use Rattle.columns.specs.declared.Number.TheVariants.{Value}
 use Rattle.columns.specs.Reading.{field-bad, field-zero, field-good}
 use Rattle.columns.proofs.fields.whole_field.Goals as goal
-use Rattle.columns.proofs.fields.whole_field.Goals.{In-Value-2}
+use Rattle.columns.proofs.fields.whole_field.Goals.{In-Value}
 
 -- the value that was read
-value : (c : In-Value-2) → number_of c.args.f.now ≡ Value c.in-Value.value
+value : (c : In-Value) → number_of c.args.f.now ≡ Value c.in-Value.value
 value c = sym c.read_number.ensures ∙ c.in-Value.is
 
 pub returns-then-zero_barred : goal.returns-then-zero_barred
-returns-then-zero_barred c = field-zero _ _ _ _ (value (goal.at.returns-then-zero_barred c).In-Value-2) (sym c.zero_barred.ensures ∙ c.if-zero_barred.true)
+returns-then-zero_barred c = field-zero _ _ _ _ (value (goal.at.returns-then-zero_barred c).In-Value) (sym c.zero_barred.ensures ∙ c.if-zero_barred.true)
 
 pub returns-in-Bad : goal.returns-in-Bad
 returns-in-Bad c = field-bad _ _ _ (sym c.read_number.ensures ∙ c.in-Bad.is)
@@ -19,4 +19,4 @@ returns-in-Bad c = field-bad _ _ _ (sym c.read_number.ensures ∙ c.in-Bad.is)
 pub returns-else-zero_barred : goal.returns-else-zero_barred
 returns-else-zero_barred c =
     rw c.plain_number-plain.ensures
-    (field-good _ _ _ _ (value (goal.at.returns-else-zero_barred c).In-Value-2) (sym c.zero_barred.ensures ∙ c.if-zero_barred.false))
+    (field-good _ _ _ _ (value (goal.at.returns-else-zero_barred c).In-Value) (sym c.zero_barred.ensures ∙ c.if-zero_barred.false))

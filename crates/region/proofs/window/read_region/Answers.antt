@@ -4,16 +4,17 @@ use Rattle.region.specs.Laws.{good-bounds}
 use Rattle.region.specs.Judge.{judged-fine}
 use Rattle.region.specs.WindowLaws.{fine-judged, window-refused, window-fine}
 use Rattle.region.proofs.window.read_region.Goals as goal
+use Rattle.region.proofs.window.read_region.Goals.{Start}
 
 -- a record's length has 64 bits
-fits : (s : tie.Start) → s.args.x.length < 2 ^ 64
+fits : (s : Start) → s.args.x.length < 2 ^ 64
 fits s = omega arith
 
 pub read_seen-requires : goal.read_seen-requires
 read_seen-requires c =
     let f = judged-fine _ _ _ _ _ _ _ _ (sym c.judge_region-judged.ensures ∙ c.in-Bases.is) in
     let b = good-bounds _ _ c.args.x.length c.requires.line_bases_nonzero.2 in
-    (rw c.first_base-first.ensures (fine-judged _ _ _ _ _ _ _ _ c.requires.line_bases_nonzero.0 c.requires.line_bases_nonzero.1 b.from_one b.in_order (fits c) f), (c.requires.from_bound, f.enough))
+    (rw c.first_base-first.ensures (fine-judged _ _ _ _ _ _ _ _ c.requires.line_bases_nonzero.0 c.requires.line_bases_nonzero.1 b.from_one b.in_order (fits (goal.at.read_seen-requires c).Start) f), (c.requires.from_bound, f.enough))
 
 pub returns-in-Refused : goal.returns-in-Refused
 returns-in-Refused c = window-refused _ _ _ _ _ _ _ _ (sym c.judge_region-judged.ensures ∙ c.in-Refused.is)

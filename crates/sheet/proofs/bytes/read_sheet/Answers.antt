@@ -15,7 +15,7 @@ small c = omega (arith, c.well_formed.1.1.1.1.0.1)
 
 -- there is a region at the place
 placed : (c : In-loop-g) → c.loop-g.g.place < length (regions_in c.args.regions.now)
-placed c = stands-place _ _ _ _ _ _ (small c.before.before.before) _ (omega arith) _ _ c.loop-g.invariant.2
+placed c = stands-place _ _ _ _ _ _ (let small : length c.args.out.now < 18446744073709551615 = omega (arith, c.well_formed.1.1.1.1.0.1) in small) _ (omega arith) _ _ c.loop-g.invariant.2
 
 pub region_at-r-requires : goal.region_at-r-requires
 region_at-r-requires c = region-inside _ _ (placed (goal.at.region_at-r-requires c).In-loop-g)
@@ -29,7 +29,7 @@ turn : (c : After-turn-g) → let a = c.args in
     Stands a.file.now (numbers_in a.table.now) a.in_use (regions_in a.regions.now) a.out.now a.starts.now (stage c.turn-g.result c.turn-g.new.out c.turn-g.new.starts)
     × (c.turn-g.result.left < c.loop-g.g.left)
 turn c =
-    stands-next _ _ _ _ _ _ (small c.before.before.before.before.before.before.before.before) _ (omega arith) _ _ c.loop-g.invariant.2 _ (c.region_at-r.ensures ∙ region-here _ _ (placed c.before.before.before.before.before) no_region) _ (c.turn-g.ensures ∙ turned-row _ _ _ _ _ _ _ _ c.row_at-row.ensures)
+    stands-next _ _ _ _ _ _ (let small : length c.args.out.now < 18446744073709551615 = omega (arith, c.well_formed.1.1.1.1.0.1) in small) _ (omega arith) _ _ c.loop-g.invariant.2 _ (c.region_at-r.ensures ∙ region-here _ _ (let placed : c.loop-g.g.place < length (regions_in c.args.regions.now) = stands-place _ _ _ _ _ _ (let small : length c.args.out.now < 18446744073709551615 = omega (arith, c.well_formed.1.1.1.1.0.1) in small) _ (omega arith) _ _ c.loop-g.invariant.2 in placed) no_region) _ (c.turn-g.ensures ∙ turned-row _ _ _ _ _ _ _ _ c.row_at-row.ensures)
 
 pub loop-g-smaller : goal.loop-g-smaller
 loop-g-smaller c = (turn (goal.at.loop-g-smaller c).After-turn-g).1
