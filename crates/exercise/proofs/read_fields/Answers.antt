@@ -32,4 +32,4 @@ pub loop-at-preserved : goal.loop-at-preserved
 loop-at-preserved c = (reach (goal.at.loop-at-preserved c).In-Next, step-pass 2 _ _ _ c.loop-at-test.true _ _ (sym c.judge_field.ensures ∙ c.in-Next.is) ∙ c.loop-at.invariant.1)
 
 pub returns : goal.returns
-returns c = c.end_of_lem.ensures ∙ (sym (walk_end 2 _ _ _ c.loop-at-test.false) ∙ c.loop-at.invariant.1)
+returns c = c.end_of.ensures ∙ (sym (walk_end 2 _ _ _ c.loop-at-test.false) ∙ c.loop-at.invariant.1)

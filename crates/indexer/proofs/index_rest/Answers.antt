@@ -51,13 +51,13 @@ overflow_add-result c = omega (arith, within (goal.at.overflow_add-result c).Aft
 
 pub returns-then-fits : goal.returns-then-fits
 returns-then-fits c =
-    turn-done _ _ _ _ _ (within (goal.at.returns-then-fits c).After-sequence_line-l).0 c.sequence_line-l.ensures _ _ c.sequence_ends.ensures c.fits2.ensures c.if-fits.true ∙ passed (goal.at.returns-then-fits c).After-sequence_line-l
+    turn-done _ _ _ _ _ (within (goal.at.returns-then-fits c).After-sequence_line-l).0 c.sequence_line-l.ensures _ _ c.sequence_ends.ensures c.fits.ensures c.if-fits.true ∙ passed (goal.at.returns-then-fits c).After-sequence_line-l
 
 pub returns-then-l-first : goal.returns-then-l-first
 returns-then-l-first c =
-    turn-bases _ _ _ _ _ (within (goal.at.returns-then-l-first c).After-sequence_line-l).0 c.sequence_line-l.ensures _ _ c.sequence_ends.ensures c.fits2.ensures c.if-fits.false c.if-l-first.true ∙ passed (goal.at.returns-then-l-first c).After-sequence_line-l
+    turn-bases _ _ _ _ _ (within (goal.at.returns-then-l-first c).After-sequence_line-l).0 c.sequence_line-l.ensures _ _ c.sequence_ends.ensures c.fits.ensures c.if-fits.false c.if-l-first.true ∙ passed (goal.at.returns-then-l-first c).After-sequence_line-l
 
 pub returns : goal.returns
 returns c =
-    turn-width _ _ _ _ _ (within (goal.at.returns c).After-sequence_line-l).0 c.sequence_line-l.ensures _ _ c.sequence_ends.ensures c.fits2.ensures c.if-fits.false c.if-l-first.false
-    (width-differs _ _ _ c.requires.0 _ _ _ _ _ c.lines_like-alike.ensures refl c.sequence_line-l.ensures c.sequence_ends.ensures c.fits2.ensures c.requires.1 c.if-fits.false c.if-l-first.false) ∙ passed (goal.at.returns c).After-sequence_line-l
+    turn-width _ _ _ _ _ (within (goal.at.returns c).After-sequence_line-l).0 c.sequence_line-l.ensures _ _ c.sequence_ends.ensures c.fits.ensures c.if-fits.false c.if-l-first.false
+    (width-differs _ _ _ c.requires.0 _ _ _ _ _ c.lines_like-alike.ensures refl c.sequence_line-l.ensures c.sequence_ends.ensures c.fits.ensures c.requires.1 c.if-fits.false c.if-l-first.false) ∙ passed (goal.at.returns c).After-sequence_line-l

@@ -8,35 +8,26 @@ use Rattle.scoring.specs.Bits.{hits, hits-most, word_at, word_lanes, word_none, 
 use Rattle.scoring.proofs.walks.Goals as goal
 use Rattle.scoring.proofs.walks.Goals.{At-loop-i}
 
-abbrev key_of : tie.At-loop invariant-loop decreases-loop → List ℕ
-key_of l = l.before.before.before.args.key.now
-
-abbrev typed-of : tie.At-loop invariant-loop decreases-loop → List ℕ
-typed-of l = l.before.before.before.args.typed.now
-
-abbrev at_of : tie.At-loop invariant-loop decreases-loop → ℕ
-at_of l = l.before.before.before.args.at
-
 and-false : (a : Bool) → (a && false) ≡ false
 and-false true = refl
 and-false false = refl
 
 -- eight lanes more
 lanes-more : (l : At-loop-i) → l.loop-i.i < 4
-    → sum_to (weigh (agrees open_lies (key_of l) (typed-of l)) 1 (at_of l) l.args.blocks) (8 * l.loop-i.i + 8)
-    ≡ sum_to (weigh (agrees open_lies (key_of l) (typed-of l)) 1 (at_of l) l.args.blocks) (8 * l.loop-i.i)
-    + hits (λ z. agrees lies (key_of l) (typed-of l) (at_of l + 8 * l.loop-i.i + place z)) 64 0 (word_at l.args.opens.now (8 * l.loop-i.i))
+    → sum_to (weigh (agrees open_lies l.args.key.now l.args.typed.now) 1 l.args.at l.args.blocks) (8 * l.loop-i.i + 8)
+    ≡ sum_to (weigh (agrees open_lies l.args.key.now l.args.typed.now) 1 l.args.at l.args.blocks) (8 * l.loop-i.i)
+    + hits (λ z. agrees lies l.args.key.now l.args.typed.now (l.args.at + 8 * l.loop-i.i + place z)) 64 0 (word_at l.args.opens.now (8 * l.loop-i.i))
 unfolding agrees open_lies
 lanes-more l h =
-    let a = c.args in
+    let a = l.args in
     word_lanes (agrees is_open a.key.now a.typed.now) (λ z. agrees lies a.key.now a.typed.now (a.at + 8 * l.loop-i.i + place z)) (agrees open_lies a.key.now a.typed.now) a.at
     a.blocks (8 * l.loop-i.i) a.opens.now l.requires.0.1 (omega arith) l.requires.2 (λ j b p q. same j b q)
   where
     same : (j b : ℕ) → b < l.args.blocks
-        → (agrees is_open (key_of l) (typed-of l) (at_of l + 32 * b + (8 * l.loop-i.i + j)) && agrees lies (key_of l) (typed-of l) (at_of l + 8 * l.loop-i.i + place (8 * j + b)))
-        ≡ agrees open_lies (key_of l) (typed-of l) (at_of l + 32 * b + (8 * l.loop-i.i + j))
+        → (agrees is_open l.args.key.now l.args.typed.now (l.args.at + 32 * b + (8 * l.loop-i.i + j)) && agrees lies l.args.key.now l.args.typed.now (l.args.at + 8 * l.loop-i.i + place (8 * j + b)))
+        ≡ agrees open_lies l.args.key.now l.args.typed.now (l.args.at + 32 * b + (8 * l.loop-i.i + j))
     same j b q =
-        let e : at_of l + 8 * l.loop-i.i + (32 * b + j) ≡ at_of l + 32 * b + (8 * l.loop-i.i + j) = omega arith in
+        let e : l.args.at + 8 * l.loop-i.i + (32 * b + j) ≡ l.args.at + 32 * b + (8 * l.loop-i.i + j) = omega arith in
         let n : b < 8 = omega (arith, l.requires.0.1) in
         rw (place-at j b n, e)
 
@@ -55,13 +46,13 @@ walk-right-requires c =
     )
 
 pub overflow_add-right : goal.overflow_add-right
-overflow_add-right c = omega (arith, c.loop-i.invariant.1, c.walk-right.ensures, hits-most (λ z. agrees lies (key_of c) (typed-of c) (at_of c + 8 * c.loop-i.i + place z)) 64 0 c.word.result)
+overflow_add-right c = omega (arith, c.loop-i.invariant.1, c.walk-right.ensures, hits-most (λ z. agrees lies c.args.key.now c.args.typed.now (c.args.at + 8 * c.loop-i.i + place z)) 64 0 c.word.result)
 
 pub loop-i-preserved : goal.loop-i-preserved
 loop-i-preserved c =
     let e : 8 * (c.loop-i.i + 1) ≡ 8 * c.loop-i.i + 8 = omega arith in (
       omega arith,
-      omega (arith, c.loop-i.invariant.1, c.walk-right.ensures, hits-most (λ z. agrees lies (key_of c) (typed-of c) (at_of c + 8 * c.loop-i.i + place z)) 64 0 c.word.result),
+      omega (arith, c.loop-i.invariant.1, c.walk-right.ensures, hits-most (λ z. agrees lies c.args.key.now c.args.typed.now (c.args.at + 8 * c.loop-i.i + place z)) 64 0 c.word.result),
       rw e (omega (arith, c.loop-i.invariant.2, lanes-more (goal.at.loop-i-preserved c).At-loop-i (omega arith), rw c.word.ensures at c.walk-right.ensures)),
     )
 

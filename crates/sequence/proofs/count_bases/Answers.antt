@@ -14,14 +14,10 @@ turn : (c : Else-piece-eq0)
     → Turn c.args.s.now c.args.limit c.loop-n.n c.loop-n.i c.next_piece-piece.result
 turn c = piece-step _ _ _ _ _ c.loop-n-test.true c.next_piece-piece.ensures c.if-piece-eq0.false
 
--- how many bases a scan for the rest gives
-abbrev rest : tie.At-loop invariant-loop decreases-loop → ℕ
-rest l = length (scan_at l.before.before.args.s.now (l.before.before.args.limit - l.loop.n) l.loop.i).bases
-
 pub returns-then-piece-eq0 : goal.returns-then-piece-eq0
 returns-then-piece-eq0 c = omega (arith, stopped)
   where
-    stopped : rest c ≡ 0
+    stopped : length (scan_at c.args.s.now (c.args.limit - c.loop-n.n) c.loop-n.i).bases ≡ 0
     stopped = rw (piece-stop _ _ _ _ _ c.loop-n-test.true c.next_piece-piece.ensures c.if-piece-eq0.true)
 
 pub overflow_add-n : goal.overflow_add-n
@@ -39,5 +35,5 @@ loop-n-preserved c = let t = turn (goal.at.loop-n-preserved c).Else-piece-eq0 in
 pub returns : goal.returns
 returns c = omega (arith, full)
   where
-    full : rest c ≡ 0
+    full : length (scan_at c.args.s.now (c.args.limit - c.loop-n.n) c.loop-n.i).bases ≡ 0
     full = rw (piece-full _ _ _ _ c.loop-n-test.false)

@@ -10,7 +10,7 @@ loop-e-init c = λ p o. o
 
 -- the walk so far
 onward : (c : At-loop-e)
-    → let a = c.args in Onward a.s.now a.at a.x.position.0 a.stride-bases a.x.line_width c.loop-e.i c.loop-e.walk
+    → let a = c.args in Onward a.s.now a.at a.x.position.0 a.stride_bases a.x.line_width c.loop-e.i c.loop-e.walk
 onward c = c.loop-e.invariant _ c.pass_strides-begun.ensures
 
 -- there is a line at i

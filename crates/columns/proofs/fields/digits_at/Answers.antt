@@ -23,7 +23,7 @@ loop-i-init c =
 
 -- what is told where the digits end
 told : (l : At-loop-i)
-    → (let a = c.args in DigitsAt a.content.now a.at l.loop-i.value l.loop-i.i)
+    → (let a = l.args in DigitsAt a.content.now a.at l.loop-i.value l.loop-i.i)
 told l = record { from = omega (arith, l.loop-i.invariant.0); digits = l.loop-i.invariant.1; plain = λ h e. omega (arith, l.wide-first.ensures, l.if-first-le-ZERO.false) }
 
 pub returns-then-b-lt-ZERO : goal.returns-then-b-lt-ZERO

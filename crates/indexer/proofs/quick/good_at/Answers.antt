@@ -87,7 +87,7 @@ overflow_add-result c = omega (arith, small (goal.at.overflow_add-result c).Afte
 pub returns-then-fits : goal.returns-then-fits
 returns-then-fits c =
     all_told _ _ c.if-s-e.false _ c.sequence_line-first.ensures c.if-first-eq0.false (within (goal.at.returns-then-fits c).After-sequence_line-first).0 _ c.lines_like-alike.ensures (room (goal.at.returns-then-fits c).After-lines_like-alike).0 _ c.sequence_line-last.ensures _ _
-    c.sequence_ends-2.ensures c.fits2.ensures c.if-fits.true
+    c.sequence_ends-2.ensures c.fits.ensures c.if-fits.true
 
 pub returns : goal.returns
 returns c = nothing-told _ _ _ c.untold-2.ensures
