@@ -2,7 +2,7 @@
 use Prim.Native.Nat.{ℕ, zero, suc, ◌+◌, ◌-◌, ◌≤◌, ◌<◌}
 use Rattle.std.specs.Prelude.{◌≡◌, refl, Bool, true, false, cond, ◌⊎◌, eqb, leb}
 use Rattle.std.proofs.Math.Path.{ap, sym}
-use Rattle.std.proofs.Common.{◌∙◌, true≢false, inl, inr, eqb-true, leb-true, leb-false}
+use Rattle.std.proofs.Common.{◌∙◌, subst, true≢false, inl, inr, eqb-true, leb-true, leb-false}
 use mathlib.Core.List.{List, [], ◌∷◌, ◌++◌}
 use Rattle.std.proofs.Math.ListN.{length, take}
 use Rattle.std.proofs.lemmas.List.{take-append-le}
@@ -78,11 +78,15 @@ front [] clean line = inl (refl, refl)
 front (b ∷ k) clean line = lf (eqb b 10) refl
   where
     cr : (t : Bool) → eqb b 13 ≡ t → eqb b 10 ≡ false → ((bare (b ∷ k) ≡ []) × (bases_of (b ∷ k) ≡ [])) ⊎ ((skipped (b ∷ k) ≡ 0) × (begins (b ∷ k) ≡ false))
-    cr true e q = inl (rw (eqb-true b 13 e) (blank-cr k (rw (eqb-true b 13 e) at clean.no_return)))
+    cr true e q =
+        let z = eqb-true b 13 e in
+        inl (subst (λ (x : ℕ). (bare (x ∷ k) ≡ []) × (bases_of (x ∷ k) ≡ [])) (sym z) (blank-cr k (subst (λ (x : ℕ). has 13 (bases_of (x ∷ k)) ≡ false) z clean.no_return)))
     cr false e q = inr (rw (e, q) (refl, has_first 62 b k clean.no-prefix))
 
     lf : (t : Bool) → eqb b 10 ≡ t → ((bare (b ∷ k) ≡ []) × (bases_of (b ∷ k) ≡ [])) ⊎ ((skipped (b ∷ k) ≡ 0) × (begins (b ∷ k) ≡ false))
-    lf true e = inl (rw (eqb-true b 10 e) (blank-lf k (rw (eqb-true b 10 e) at line)))
+    lf true e =
+        let z = eqb-true b 10 e in
+        inl (subst (λ (x : ℕ). (bare (x ∷ k) ≡ []) × (bases_of (x ∷ k) ≡ [])) (sym z) (blank-lf k (subst (λ (x : ℕ). has 10 (chop 10 (x ∷ k)) ≡ false) z line)))
     lf false e = cr (eqb b 13) refl e
 
 module _ (l : List ℕ) (clean : CleanLine l) (line : has 10 (chop 10 l) ≡ false) where

@@ -18,7 +18,10 @@ returns-then-any_barred c = rw (sym c.over_limit.ensures ∙ c.if-over_limit.fal
 
 pub sequence_length-needed-requires : goal.sequence_length-needed-requires
 sequence_length-needed-requires c =
-    (not-over _ (sym c.over_limit.ensures ∙ c.if-over_limit.false), omega (arith, c.if-width-eq0.false))
+    record {
+      bases_len_bound = not-over _ (sym c.over_limit.ensures ∙ c.if-over_limit.false);
+      width_nonzero = omega (arith, c.if-width-eq0.false);
+    }
 
 pub returns-then-out-needed : goal.returns-then-out-needed
 unfolding sequence_written

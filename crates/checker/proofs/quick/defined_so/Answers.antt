@@ -37,7 +37,7 @@ returns c = λ h.
       end = rw q at (defined-end _ _ (start - 1) _ _ _ (omega arith) (omega arith) c.if-fasta-at-ne62.false word (c.clear_to.ensures c.if-not-clear_to.false) c.if-fasta-last-ne10.false);
       inside = omega arith;
       some = omega arith;
-      c.if-fasta-at-ne62.false = c.if-fasta-at-ne62.false;
+      prefix = c.if-fasta-at-ne62.false;
       space = sym c.is_space.ensures ∙ c.if-not-is_space.false;
       word = word;
     }
