@@ -5,16 +5,16 @@ use Rattle.feeder.proofs.strict.judge_further.Goals as goal
 
 pub returns-then-fits : goal.returns-then-fits
 unfolding further_out
-returns-then-fits c = rw (sym c.fits2.ensures ∙ c.if-fits.true, c.row.ensures)
+returns-then-fits c = rw (sym c.fits.ensures ∙ c.if-fits.true, c.row.ensures)
 
 pub returns-then-x-n : goal.returns-then-x-n
 unfolding further_out
-returns-then-x-n c = rw (sym c.fits2.ensures ∙ c.if-fits.false, ne_eqb _ _ c.if-x-n.true) c.halted.ensures
+returns-then-x-n c = rw (sym c.fits.ensures ∙ c.if-fits.false, ne_eqb _ _ c.if-x-n.true) c.halted.ensures
 
 pub returns-then-x-n-2 : goal.returns-then-x-n-2
 unfolding further_out
-returns-then-x-n-2 c = rw (sym c.fits2.ensures ∙ c.if-fits.false, eq-eqb _ _ c.if-x-n.false, ne_eqb _ _ c.if-x-n-2.true) c.halted-then-x-n-2.ensures
+returns-then-x-n-2 c = rw (sym c.fits.ensures ∙ c.if-fits.false, eq-eqb _ _ c.if-x-n.false, ne_eqb _ _ c.if-x-n-2.true) c.halted-then-x-n-2.ensures
 
 pub returns : goal.returns
 unfolding further_out
-returns c = rw (sym c.fits2.ensures ∙ c.if-fits.false, eq-eqb _ _ c.if-x-n.false, eq-eqb _ _ c.if-x-n-2.false)
+returns c = rw (sym c.fits.ensures ∙ c.if-fits.false, eq-eqb _ _ c.if-x-n.false, eq-eqb _ _ c.if-x-n-2.false)
