@@ -19,7 +19,7 @@ pub needed_region-requires : goal.needed_region-requires
 needed_region-requires c =
     let b = bounded-known _ _ _ _ (sym c.bounded_row-held.ensures ∙ c.in-Row.is) in
     let h = held-of _ _ b.1 in
-    ((h.some-bases, h.some-width, b.0), within-limit _ (short (goal.at.needed_region-requires c).After-bounded_row-held))
+    record { line_bases_nonzero = (h.some-bases, h.some-width, b.0); bytes_bound = within-limit _ (short (goal.at.needed_region-requires c).After-bounded_row-held) }
 
 pub returns-in-Refused : goal.returns-in-Refused
 returns-in-Refused c = needed-none _ _ _ _ _ (short (goal.at.returns-in-Refused c).After-bounded_row-held) _ (sym c.bounded_row-held.ensures ∙ c.in-Refused.is)

@@ -31,7 +31,7 @@ read_region-requires c =
     let b = bounded-known _ _ _ _ (sym c.bounded_row-held.ensures ∙ c.in-Row.is) in
     let h = held-of _ _ b.1 in
     let s = short (goal.at.read_region-requires c).After-bounded_row-held in
-    ((h.some-bases, h.some-width, b.0), window-fits _ _ _ s.1 s.2)
+    record { line_bases_nonzero = (h.some-bases, h.some-width, b.0); from_bound = window-fits _ _ _ s.1 s.2 }
 
 pub returns-in-Refused : goal.returns-in-Refused
 returns-in-Refused c =

@@ -9,7 +9,7 @@ pub copy_bases-requires : goal.copy_bases-requires
 copy_bases-requires c =
     let f = judged-fine _ _ _ _ _ _ _ _ (sym c.judge_region-judged.ensures ∙ c.in-Bases.is) in
     let b = good-bounds _ _ c.args.x.length c.requires.2 in
-    (record { front = 0; base = _; starts = fine-starts _ _ _ _ _ _ _ _ c.requires.0 c.requires.1 b.from_one b.in_order (omega arith) f }, f.enough)
+    record { begins = record { front = 0; base = _; starts = fine-starts _ _ _ _ _ _ _ _ c.requires.0 c.requires.1 b.from_one b.in_order (omega arith) f }; n_in_bounds = f.enough }
 
 pub returns-in-Refused : goal.returns-in-Refused
 returns-in-Refused c = refused-read _ _ _ _ _ _ _ (sym c.judge_region-judged.ensures ∙ c.in-Refused.is)

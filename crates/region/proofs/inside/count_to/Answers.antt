@@ -3,14 +3,8 @@ use Rattle.std.proofs.Common.{ℕ, ◌+◌, ◌-◌, ◌/◌, ◌≤◌, min, �
 use Rattle.record.specs.declared.Record.{Record}
 use Rattle.record.specs.declared.Position.{Position}
 use Rattle.region.specs.declared.Part.{Part}
-use Rattle.region.specs.Exact.{offsets_of}
-use Rattle.region.specs.Part.{in_part}
 use Rattle.region.specs.PartLaws.{half, part-fewer}
 use Rattle.region.proofs.inside.count_to.Goals as goal
-
--- the count
-abbrev all : Part → Record → Position → ℕ → ℕ
-all part x a n = in_part part.from.0 part.to.0 (offsets_of x a.0 n)
 
 pub loop-high-init : goal.loop-high-init
 loop-high-init c = (omega arith, c.requires.n_bound, omega arith)

@@ -12,7 +12,7 @@ part_of-requires c =
     let b = good-bounds _ _ c.args.x.length c.requires.line_bases_nonzero.2 in
     let o = fine-bases _ _ _ _ _ _ _ _ c.requires.line_bases_nonzero.0 c.requires.line_bases_nonzero.1 b.from_one b.in_order (omega arith) f in
     let l = fine-lie _ _ _ _ _ _ _ _ c.requires.line_bases_nonzero.0 c.requires.line_bases_nonzero.1 b.from_one b.in_order (omega arith) f in
-    (rw c.first_base-first.ensures o, rw c.first_base-first.ensures (lie-more 0 c.args.bytes 0 (2 ^ 63) _ _ _ (omega arith) (omega (arith, c.requires.bytes_bound)) l))
+    record { addressable = rw c.first_base-first.ensures o; lie_in = rw c.first_base-first.ensures (lie-more 0 c.args.bytes 0 (2 ^ 63) _ _ _ (omega arith) (omega (arith, c.requires.bytes_bound)) l) }
 
 pub returns-in-Refused : goal.returns-in-Refused
 unfolding needed_by

@@ -14,7 +14,7 @@ pub read_seen-requires : goal.read_seen-requires
 read_seen-requires c =
     let f = judged-fine _ _ _ _ _ _ _ _ (sym c.judge_region-judged.ensures ∙ c.in-Bases.is) in
     let b = good-bounds _ _ c.args.x.length c.requires.line_bases_nonzero.2 in
-    (rw c.first_base-first.ensures (fine-judged _ _ _ _ _ _ _ _ c.requires.line_bases_nonzero.0 c.requires.line_bases_nonzero.1 b.from_one b.in_order (fits (goal.at.read_seen-requires c).Start) f), (c.requires.from_bound, f.enough))
+    record { judged_in = rw c.first_base-first.ensures (fine-judged _ _ _ _ _ _ _ _ c.requires.line_bases_nonzero.0 c.requires.line_bases_nonzero.1 b.from_one b.in_order (fits (goal.at.read_seen-requires c).Start) f); from_bound = c.requires.from_bound; n_in_bounds = f.enough }
 
 pub returns-in-Refused : goal.returns-in-Refused
 returns-in-Refused c = window-refused _ _ _ _ _ _ _ _ (sym c.judge_region-judged.ensures ∙ c.in-Refused.is)

@@ -20,7 +20,7 @@ pub overflow_sub-at : goal.overflow_sub-at
 overflow_sub-at c = omega (arith, seen_first _ c.args.window.now c.args.x _ _ _ (counted (goal.at.overflow_sub-at c).After-count_in-covered) c.requires.judged_in.bases c.if-covered-n.false, c.requires.judged_in.place)
 
 pub copy_bases-requires : goal.copy_bases-requires
-copy_bases-requires c = record { begins = record { front = c.args.from; base = c.args.first.0; starts = seen-starts _ c.args.window.now c.args.x _ _ _ (counted (goal.at.copy_bases-requires c).After-count_in-covered) _ _ c.requires.judged_in c.if-covered-n.false }; n_in_bounds = c.requires.from_bound.1 }
+copy_bases-requires c = record { begins = record { front = c.args.from; base = c.args.first.0; starts = seen-starts _ c.args.window.now c.args.x _ _ _ (counted (goal.at.copy_bases-requires c).After-count_in-covered) _ _ c.requires.judged_in c.if-covered-n.false }; n_in_bounds = c.requires.n_in_bounds }
 
 pub returns : goal.returns
 returns c =
