@@ -4,6 +4,7 @@ use Rattle.record.specs.declared.Record.{Record}
 use Rattle.record.specs.declared.Position.{Position}
 use Rattle.region.specs.declared.Part.{Part}
 use Rattle.region.specs.PartLaws.{half, part-fewer}
+use Rattle.region.proofs.inside.count_to.Invariants.{all}
 use Rattle.region.proofs.inside.count_to.Goals as goal
 
 pub loop-high-init : goal.loop-high-init

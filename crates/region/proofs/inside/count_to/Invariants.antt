@@ -8,7 +8,7 @@ use Rattle.region.specs.Part.{in_part}
 use Rattle.region.proofs.inside.count_to.Given as goal
 
 -- the count
-abbrev all : Part → Record → Position → ℕ → ℕ
+abbrev pub all : Part → Record → Position → ℕ → ℕ
 all part x a n = in_part part.from.0 part.to.0 (offsets_of x a.0 n)
 
 abbrev pub invariant-loop-high : goal.invariant-loop-high
