@@ -8,8 +8,7 @@ use crate::answer;
 use crate::answer::Answer;
 
 // The complement of some bases.
-#[unsafe(no_mangle)]
-pub extern "C" fn wakeluri_complement(bases: &[u8], out: &mut [u8]) -> Answer
+pub fn wakeluri_complement(bases: &[u8], out: &mut [u8]) -> Answer
     ensures { leaves result out.new ≡ written_told (complement_written bases.now (complement_of bases.now) out.old) }
 {
     let told = complement::complement(bases, out);
@@ -17,8 +16,7 @@ pub extern "C" fn wakeluri_complement(bases: &[u8], out: &mut [u8]) -> Answer
 }
 
 // The complement of some bases, from the last to the first.
-#[unsafe(no_mangle)]
-pub extern "C" fn wakeluri_reverse_complement(bases: &[u8], out: &mut [u8]) -> Answer
+pub fn wakeluri_reverse_complement(bases: &[u8], out: &mut [u8]) -> Answer
     ensures { leaves result out.new ≡ written_told (complement_written bases.now (reverse_complement_of bases.now) out.old) }
 {
     let told = complement::reverse_complement(bases, out);

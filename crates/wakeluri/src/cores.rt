@@ -14,8 +14,7 @@ use crate::{answer, feeding};
 
 // A row for each record of a file that begins at `from` or behind it, and before `to`, from the table's first on: by the original's rule
 // for 0, else by the complete one.
-#[unsafe(no_mangle)]
-pub extern "C" fn wakeluri_index_part(
+pub fn wakeluri_index_part(
     file: &[u8],
     from: u64,
     to: u64,
@@ -31,8 +30,7 @@ pub extern "C" fn wakeluri_index_part(
 
 // Whether the index lines that begin at `first` or behind it, and before `last`, lead to every base of the records that begin at `from` or
 // behind it, and before `to`.
-#[unsafe(no_mangle)]
-pub extern "C" fn wakeluri_check_part(
+pub fn wakeluri_check_part(
     fasta: &[u8],
     from: u64,
     to: u64,

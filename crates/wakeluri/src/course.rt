@@ -120,16 +120,14 @@ fn score_answer(r: Scored) -> ScoreAnswer
 }
 
 // What the bytes of an exercise say.
-#[unsafe(no_mangle)]
-pub extern "C" fn wakeluri_read_exercise(exercise: &[u8]) -> ExerciseAnswer
+pub fn wakeluri_read_exercise(exercise: &[u8]) -> ExerciseAnswer
     ensures { result ≡ exercise_answer (read_as 2 exercise.now) }
 {
     exercise_answer(exercise::read_exercise(exercise))
 }
 
 // The bytes of an exercise.
-#[unsafe(no_mangle)]
-pub extern "C" fn wakeluri_write_exercise(
+pub fn wakeluri_write_exercise(
     name: &[u8],
     start: u64,
     end: u64,
@@ -143,16 +141,14 @@ pub extern "C" fn wakeluri_write_exercise(
 }
 
 // What was typed against a key, by the rules of an edition.
-#[unsafe(no_mangle)]
-pub extern "C" fn wakeluri_score_typed(key: &[u8], typed: &[u8], edition: u64) -> ScoreAnswer
+pub fn wakeluri_score_typed(key: &[u8], typed: &[u8], edition: u64) -> ScoreAnswer
     ensures { result ≡ score_answer (scored_as key.now typed.now edition) }
 {
     score_answer(scoring::score_typed(key, typed, edition))
 }
 
 // What was typed for an exercise: its key is fetched into the room.
-#[unsafe(no_mangle)]
-pub extern "C" fn wakeluri_score_exercise(
+pub fn wakeluri_score_exercise(
     exercise: &[u8],
     typed: &[u8],
     file: &[u8],

@@ -279,16 +279,14 @@ fn feed_told(f: Feeder) -> Feed
 }
 
 // The start of a file that is indexed as it arrives: by the original's rule for 0, else by the complete one.
-#[unsafe(no_mangle)]
-pub extern "C" fn wakeluri_feed_start(complete: u64) -> Feed
+pub fn wakeluri_feed_start(complete: u64) -> Feed
     ensures { result ≡ feed_told (begun_by (rule_by complete)) }
 {
     feed_told(Feeder::start(rule_by(complete)))
 }
 
 // The next bytes of the file.
-#[unsafe(no_mangle)]
-pub extern "C" fn wakeluri_feed_piece(feed: Feed, piece: &[u8], table: &mut [u8]) -> Feed
+pub fn wakeluri_feed_piece(feed: Feed, piece: &[u8], table: &mut [u8]) -> Feed
     ensures { leaves result table.new ≡ call_told (piece_of (feeder_by feed) piece.now (numbers_in table.old)) table.old }
 {
     let f = feeder_by(feed);
@@ -297,8 +295,7 @@ pub extern "C" fn wakeluri_feed_piece(feed: Feed, piece: &[u8], table: &mut [u8]
 }
 
 // The end of the file.
-#[unsafe(no_mangle)]
-pub extern "C" fn wakeluri_feed_end(feed: Feed, table: &mut [u8]) -> Feed
+pub fn wakeluri_feed_end(feed: Feed, table: &mut [u8]) -> Feed
     ensures { leaves result table.new ≡ call_told (end_of (feeder_by feed) (numbers_in table.old)) table.old }
 {
     let f = feeder_by(feed);

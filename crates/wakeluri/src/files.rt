@@ -18,16 +18,14 @@ use fitting::Rule;
 use indexer::Indexer;
 
 // The row of the record at an offset, and the offset behind it.
-#[unsafe(no_mangle)]
-pub extern "C" fn wakeluri_index_record(file: &[u8], at: u64) -> RowAnswer
+pub fn wakeluri_index_record(file: &[u8], at: u64) -> RowAnswer
     ensures { result ≡ step_answer (record_read file.now (record { at = at })) }
 {
     answer::step_answer(Indexer { at: at as usize }.index_record(file))
 }
 
 // A row for each record of a file, by the original's rule, from the table's first on.
-#[unsafe(no_mangle)]
-pub extern "C" fn wakeluri_index_file(file: &[u8], table: &mut [u8]) -> Answer
+pub fn wakeluri_index_file(file: &[u8], table: &mut [u8]) -> Answer
     ensures { leaves result table.new ≡ filled_told (file_in file.now (row_count (numbers_in table.old))) table.old }
 {
     let filled = fitting::bytes::index_file(file, table, Rule::Strict);
@@ -35,8 +33,7 @@ pub extern "C" fn wakeluri_index_file(file: &[u8], table: &mut [u8]) -> Answer
 }
 
 // The same by the complete rule, which takes every file that has a right index at all.
-#[unsafe(no_mangle)]
-pub extern "C" fn wakeluri_index_complete(file: &[u8], table: &mut [u8]) -> Answer
+pub fn wakeluri_index_complete(file: &[u8], table: &mut [u8]) -> Answer
     ensures { leaves result table.new ≡ filled_told (rows_in Complete file.now (row_count (numbers_in table.old))) table.old }
 {
     let filled = fitting::bytes::index_file(file, table, Rule::Complete);
@@ -44,8 +41,7 @@ pub extern "C" fn wakeluri_index_complete(file: &[u8], table: &mut [u8]) -> Answ
 }
 
 // A row for each line of an index, from the table's first on.
-#[unsafe(no_mangle)]
-pub extern "C" fn wakeluri_read_index(index: &[u8], table: &mut [u8]) -> Answer
+pub fn wakeluri_read_index(index: &[u8], table: &mut [u8]) -> Answer
     ensures { leaves result table.new ≡ filled_told (index_in index.now (row_count (numbers_in table.old))) table.old }
 {
     let filled = index::bytes::read_index(index, table);
@@ -53,8 +49,7 @@ pub extern "C" fn wakeluri_read_index(index: &[u8], table: &mut [u8]) -> Answer
 }
 
 // Whether an index of any program leads to every base of a FASTA file.
-#[unsafe(no_mangle)]
-pub extern "C" fn wakeluri_check(fasta: &[u8], index: &[u8]) -> Answer
+pub fn wakeluri_check(fasta: &[u8], index: &[u8]) -> Answer
     ensures { result ≡ verdict_answer (check_of fasta.now index.now) }
 {
     answer::verdict_answer(checker::check(fasta, index))

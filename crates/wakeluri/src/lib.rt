@@ -1,6 +1,9 @@
-// The entry points for a host, as include/wakeluri.h declares them: on numbers and lent bytes. Nothing is judged here: each calls one
-// proved function, and gives its answer as numbers. A table is bytes, eight to a number, low byte first. An answer begins with the
-// refusal's number, 0 for none, and its two numbers; all else in it is 0 after a refusal, except the count of rows that stand.
+// The entry points for a host, on numbers and lent bytes: the crate wakeluri_c exports them, as include/wakeluri.h declares them. Nothing is
+// judged here: each calls one proved function, and gives its answer as numbers. A table is bytes, eight to a number, low byte first. An
+// answer begins with the refusal's number, 0 for none, and its two numbers; all else in it is 0 after a refusal, except the count of rows
+// that stand.
+#![tactic(auto)]
+
 pub mod answer;
 pub mod bases;
 pub mod cores;

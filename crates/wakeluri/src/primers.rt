@@ -29,16 +29,14 @@ fn place_answer(r: Place) -> Answer
 }
 
 // How many plain sequences a primer stands for.
-#[unsafe(no_mangle)]
-pub extern "C" fn wakeluri_degeneracy(primer: &[u8]) -> Answer
+pub fn wakeluri_degeneracy(primer: &[u8]) -> Answer
     ensures { result ≡ counted_answer (degeneracy_read primer.now) }
 {
     counted_answer(primer::degeneracy(primer))
 }
 
 // The first place of a primer in a text that is not before a given place.
-#[unsafe(no_mangle)]
-pub extern "C" fn wakeluri_find_primer(primer: &[u8], text: &[u8], from: u64) -> Answer
+pub fn wakeluri_find_primer(primer: &[u8], text: &[u8], from: u64) -> Answer
     ensures { result ≡ place_answer (place_read primer.now text.now from) }
 {
     place_answer(primer::find_next(primer, text, from as usize))

@@ -93,8 +93,7 @@ fn part(qualities: u64) -> Part
 }
 
 // A row for each record of a FASTQ file, from the table's first on.
-#[unsafe(no_mangle)]
-pub extern "C" fn wakeluri_fastq_index(file: &[u8], table: &mut [u8]) -> Answer
+pub fn wakeluri_fastq_index(file: &[u8], table: &mut [u8]) -> Answer
     ensures { leaves result table.new ≡ rows_told (file_in file.now (row_count (numbers_in table.old))) table.old }
 {
     let filled = fastq_index::index_file(file, table);
@@ -116,13 +115,7 @@ fn stopped(a: Answer, next: usize) -> Answer
 
 // A row for each record of a FASTQ file from `from` on, where one begins, that begins before `to`, from the table's first on; and the offset behind
 // the last of them, so that the next part goes on from there.
-#[unsafe(no_mangle)]
-pub extern "C" fn wakeluri_fastq_index_part(
-    file: &[u8],
-    from: u64,
-    to: u64,
-    table: &mut [u8],
-) -> Answer
+pub fn wakeluri_fastq_index_part(file: &[u8], from: u64, to: u64, table: &mut [u8]) -> Answer
     ensures { leaves result table.new ≡ part_told file.now from (part_in file.now from to (row_count (numbers_in table.old))) table.old }
 {
     let part = fastq_index::index_part(file, from as usize, to as usize, table);
@@ -131,8 +124,7 @@ pub extern "C" fn wakeluri_fastq_index_part(
 }
 
 // A row for each line of an index of six columns, from the table's first on.
-#[unsafe(no_mangle)]
-pub extern "C" fn wakeluri_fastq_read_index(index: &[u8], table: &mut [u8]) -> Answer
+pub fn wakeluri_fastq_read_index(index: &[u8], table: &mut [u8]) -> Answer
     ensures { leaves result table.new ≡ rows_told (index_in index.now (row_count (numbers_in table.old))) table.old }
 {
     let filled = fastq_index::read_index(index, table);
@@ -140,16 +132,14 @@ pub extern "C" fn wakeluri_fastq_read_index(index: &[u8], table: &mut [u8]) -> A
 }
 
 // What an index line of six columns says, given with its end.
-#[unsafe(no_mangle)]
-pub extern "C" fn wakeluri_fastq_read_line(line: &[u8]) -> FastqAnswer
+pub fn wakeluri_fastq_read_line(line: &[u8]) -> FastqAnswer
     ensures { result ≡ fastq_answer (read_line line.now) }
 {
     fastq_answer(fastq_line::read_line(line))
 }
 
 // The index line of a row, of six columns and with its LF.
-#[unsafe(no_mangle)]
-pub extern "C" fn wakeluri_fastq_write_line(
+pub fn wakeluri_fastq_write_line(
     names: &[u8],
     table: &[u8],
     in_use: u64,
@@ -165,8 +155,7 @@ pub extern "C" fn wakeluri_fastq_write_line(
 }
 
 // Exactly the bases, or the qualities, of a region of a row's record.
-#[unsafe(no_mangle)]
-pub extern "C" fn wakeluri_fastq_read(
+pub fn wakeluri_fastq_read(
     file: &[u8],
     table: &[u8],
     in_use: u64,
@@ -188,8 +177,7 @@ pub extern "C" fn wakeluri_fastq_read(
 }
 
 // Whether an index of six columns, of any program, leads to every base and to every quality of a FASTQ file.
-#[unsafe(no_mangle)]
-pub extern "C" fn wakeluri_fastq_check(fastq: &[u8], index: &[u8]) -> Answer
+pub fn wakeluri_fastq_check(fastq: &[u8], index: &[u8]) -> Answer
     ensures { result ≡ verdict_answer (check_of fastq.now index.now) }
 {
     answer::verdict_answer(fastq_checker::check(fastq, index))
@@ -206,8 +194,7 @@ fn passed_answer(r: PartChecked) -> Answer
 }
 
 // How far the records of a FASTQ file from `from` on, where one begins, that begin before `to` are accepted with the index lines from `first` on.
-#[unsafe(no_mangle)]
-pub extern "C" fn wakeluri_fastq_check_part(
+pub fn wakeluri_fastq_check_part(
     fastq: &[u8],
     from: u64,
     to: u64,

@@ -34,16 +34,14 @@ pub(crate) fn used_row(table: &[u8], in_use: u64, row: u64) -> InUse
 }
 
 // The first row in use that has the name.
-#[unsafe(no_mangle)]
-pub extern "C" fn wakeluri_find(names: &[u8], table: &[u8], in_use: u64, name: &[u8]) -> Answer
+pub fn wakeluri_find(names: &[u8], table: &[u8], in_use: u64, name: &[u8]) -> Answer
     ensures { result ≡ found_answer (row_read names.now (numbers_in table.now) in_use name.now) }
 {
     answer::found_answer(index::bytes::find(names, table, in_use as usize, name))
 }
 
 // The index line of a row, with its LF.
-#[unsafe(no_mangle)]
-pub extern "C" fn wakeluri_write_index_line(
+pub fn wakeluri_write_index_line(
     names: &[u8],
     table: &[u8],
     in_use: u64,
@@ -57,8 +55,7 @@ pub extern "C" fn wakeluri_write_index_line(
 }
 
 // Exactly the bases of a region of a row's record.
-#[unsafe(no_mangle)]
-pub extern "C" fn wakeluri_read_exact(
+pub fn wakeluri_read_exact(
     file: &[u8],
     table: &[u8],
     in_use: u64,
@@ -78,8 +75,7 @@ pub extern "C" fn wakeluri_read_exact(
 }
 
 // The bases that a scan finds from the start of a region of a row's record on.
-#[unsafe(no_mangle)]
-pub extern "C" fn wakeluri_read_raw(
+pub fn wakeluri_read_raw(
     file: &[u8],
     table: &[u8],
     in_use: u64,

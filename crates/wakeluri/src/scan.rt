@@ -11,8 +11,7 @@ use lines::Cursor;
 use sequence::RunRead;
 
 // The next run of bases from an offset on, and the place behind it.
-#[unsafe(no_mangle)]
-pub extern "C" fn wakeluri_read_run(file: &[u8], at: u64) -> SpanAnswer
+pub fn wakeluri_read_run(file: &[u8], at: u64) -> SpanAnswer
     ensures { result ≡ run_answer (read_run file.now (record { at = at })) }
 {
     match sequence::read_run(file, Cursor { at: at as usize }) {
@@ -22,8 +21,7 @@ pub extern "C" fn wakeluri_read_run(file: &[u8], at: u64) -> SpanAnswer
 }
 
 // The bases from an offset on.
-#[unsafe(no_mangle)]
-pub extern "C" fn wakeluri_read_sequence(file: &[u8], at: u64, out: &mut [u8]) -> Answer
+pub fn wakeluri_read_sequence(file: &[u8], at: u64, out: &mut [u8]) -> Answer
     ensures { leaves result out.new ≡ sequence_told (read_whole file.now (record { at = at }) out.old) }
 {
     let read = sequence::read_sequence(file, Cursor { at: at as usize }, out);
@@ -31,13 +29,7 @@ pub extern "C" fn wakeluri_read_sequence(file: &[u8], at: u64, out: &mut [u8]) -
 }
 
 // At most so many bases from an offset on.
-#[unsafe(no_mangle)]
-pub extern "C" fn wakeluri_read_sequence_limit(
-    file: &[u8],
-    at: u64,
-    limit: u64,
-    out: &mut [u8],
-) -> Answer
+pub fn wakeluri_read_sequence_limit(file: &[u8], at: u64, limit: u64, out: &mut [u8]) -> Answer
     ensures { leaves result out.new ≡ sequence_told (read_limit file.now limit (record { at = at }) out.old) }
 {
     let read = sequence::read_sequence_limit(file, Cursor { at: at as usize }, limit as usize, out);

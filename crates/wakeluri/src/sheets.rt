@@ -21,8 +21,7 @@ fn sheet_answer(r: SheetRead) -> Answer
 }
 
 // Exactly the bases of each region, one after another, and where each begins.
-#[unsafe(no_mangle)]
-pub extern "C" fn wakeluri_read_sheet(
+pub fn wakeluri_read_sheet(
     file: &[u8],
     table: &[u8],
     in_use: u64,

@@ -11,24 +11,21 @@ use lines::Cursor;
 use refusal::Refusal;
 
 // What a definition line says, given with its end.
-#[unsafe(no_mangle)]
-pub extern "C" fn wakeluri_definition_line(line: &[u8]) -> DefinitionAnswer
+pub fn wakeluri_definition_line(line: &[u8]) -> DefinitionAnswer
     ensures { result ≡ definition_answer (line_read line.now) }
 {
     answer::definition_told(definition::read_line(line))
 }
 
 // What the content of a definition line says, without its end.
-#[unsafe(no_mangle)]
-pub extern "C" fn wakeluri_definition_content(content: &[u8]) -> DefinitionAnswer
+pub fn wakeluri_definition_content(content: &[u8]) -> DefinitionAnswer
     ensures { result ≡ definition_answer (content_read content.now) }
 {
     answer::definition_told(definition::read_content(content))
 }
 
 // The content of the line at an offset.
-#[unsafe(no_mangle)]
-pub extern "C" fn wakeluri_read_line(file: &[u8], at: u64) -> SpanAnswer
+pub fn wakeluri_read_line(file: &[u8], at: u64) -> SpanAnswer
     ensures { result ≡ line_told file.now at }
 {
     if refusal::over_limit(file.len()) {
@@ -38,16 +35,14 @@ pub extern "C" fn wakeluri_read_line(file: &[u8], at: u64) -> SpanAnswer
 }
 
 // What an index line says, given with its end.
-#[unsafe(no_mangle)]
-pub extern "C" fn wakeluri_index_line(line: &[u8]) -> RowAnswer
+pub fn wakeluri_index_line(line: &[u8]) -> RowAnswer
     ensures { result ≡ entry_answer (read_line line.now) }
 {
     answer::entry_answer(index_line::read_line(line))
 }
 
 // What the content of an index line says, without its end.
-#[unsafe(no_mangle)]
-pub extern "C" fn wakeluri_index_content(content: &[u8]) -> RowAnswer
+pub fn wakeluri_index_content(content: &[u8]) -> RowAnswer
     ensures { result ≡ entry_answer (read_content content.now) }
 {
     answer::entry_answer(index_line::read_content(content))

@@ -58,8 +58,7 @@ fn part_answer(r: Needed) -> PartAnswer
 }
 
 // Exactly the bases of a region of a row's record, from a window of a file of so many bytes that begins at an offset.
-#[unsafe(no_mangle)]
-pub extern "C" fn wakeluri_read_window(
+pub fn wakeluri_read_window(
     length: u64,
     window: &[u8],
     from: u64,
@@ -82,8 +81,7 @@ pub extern "C" fn wakeluri_read_window(
 }
 
 // The part of a file of so many bytes that has the bases of a region of a row's record, for an output of so much room.
-#[unsafe(no_mangle)]
-pub extern "C" fn wakeluri_needed_bytes(
+pub fn wakeluri_needed_bytes(
     length: u64,
     room: u64,
     table: &[u8],

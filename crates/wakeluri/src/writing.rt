@@ -16,8 +16,7 @@ fn is_given(flag: u64) -> bool
 }
 
 // A record: its definition line, and its bases in lines of a width. There is no description if its flag is 0.
-#[unsafe(no_mangle)]
-pub extern "C" fn wakeluri_write_record(
+pub fn wakeluri_write_record(
     name: &[u8],
     has_description: u64,
     description: &[u8],
@@ -33,8 +32,7 @@ pub extern "C" fn wakeluri_write_record(
 }
 
 // Bases alone, in lines of a width: the next piece of a record whose first pieces were whole lines.
-#[unsafe(no_mangle)]
-pub extern "C" fn wakeluri_write_sequence(bases: &[u8], width: u64, out: &mut [u8]) -> Answer
+pub fn wakeluri_write_sequence(bases: &[u8], width: u64, out: &mut [u8]) -> Answer
     ensures { leaves result out.new ≡ written_told (sequence_written bases.now width out.old) }
 {
     let written = writer::write_sequence(bases, width as usize, out);
