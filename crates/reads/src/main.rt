@@ -2,10 +2,16 @@
 // differences of runs (tools/dev instruction-goals). Standard input, at most 65,536 bytes, is one byte that says how, and then the record's
 // lines of 60 bases: `e`, by the exact read; `w`, from the window of all bytes from 1,000 on; anything else, not at all. It writes its
 // room of 65,536 bytes in each case: a room that nobody reads, the compiler would not write. Nothing of an input below 1,000 bytes.
-use libc::{STDIN_FILENO, STDOUT_FILENO};
+// A read or a write that fails ends the program.
+#![tactic(auto)]
+
+ghost use Rattle.std.specs.Prelude.{◌≤◌, length, IfOk};
+
 use output::Written;
 use record::{Offset, Position, Record};
 use region::Bound;
+use std::io;
+use std::io::Read;
 use table::InUse;
 
 // The record.
@@ -53,29 +59,42 @@ fn read_into(letter: u8, file: &[u8], out: &mut [u8]) -> Written {
 }
 
 // Writes the room, or why there is nothing in it.
-fn say(read: Written, out: &[u8]) {
+fn say(rt: &impl Print, read: Written, out: &[u8]) -> io::Result<()> {
     match read {
-        Written::Bytes(_) => {
-            io::write_all(STDOUT_FILENO, out);
-        }
+        Written::Bytes(_) => rt.write_all(out),
         Written::Refused(why) => {
             let told = why.numbers();
-            io::print_decimal(STDOUT_FILENO, told.refusal);
+            rt.print(told.refusal)
         }
     }
 }
 
-fn read(file: &[u8]) {
+fn read(rt: &impl Print, file: &[u8]) -> io::Result<()> {
     if file.len() < 1000 {
-        return;
+        return Ok(());
     }
-    let mut out = io::large_buffer();
+    let mut out = [0u8; 65536];
     let read = read_into(file[0], file, &mut out);
-    say(read, &out);
+    say(rt, read, &out)
 }
 
-fn main() {
-    let mut file = io::large_buffer();
-    let n = io::read_full(STDIN_FILENO, &mut file);
-    read(&file[..n]);
+// Reads until a room is full or the input ends, and answers how many bytes of it were read.
+fn read_full<F: Read>(from: &mut F, room: &mut [u8]) -> io::Result<usize>
+    ensures { IfOk result (λ n. n ≤ length room.new) }
+{
+    let mut done = 0;
+    while done < room.len() {
+        let n = from.read(&mut room[done..])?;
+        if n == 0 {
+            break;
+        }
+        done += n;
+    }
+    Ok(done)
+}
+
+fn main(rt: HostRuntime) -> io::Result<()> {
+    let mut file = [0u8; 65536];
+    let n = read_full(&mut rt.reader(), &mut file)?;
+    read(&rt, &file[..n])
 }

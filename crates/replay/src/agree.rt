@@ -1,7 +1,6 @@
 // Whether an answer is the one that the original gave: compares its numbers with those in the list. The first three are the refusal and its
 // numbers. If the list has fewer numbers than the answer, the others agree with any.
 use crate::list::number_at;
-use std::num::wrapping_add_usize;
 use wakeluri::answer::{Answer, DefinitionAnswer, RowAnswer, SpanAnswer};
 
 // The number of an answer at a place.
@@ -15,7 +14,7 @@ fn number(told: &[u8], at: usize, n: u64) -> bool {
 // Two numbers, the first of them at a place.
 fn two(told: &[u8], at: usize, a: u64, b: u64) -> bool {
     if number(told, at, a) {
-        return number(told, wrapping_add_usize(at, 8), b);
+        return number(told, at.wrapping_add(8), b);
     }
     false
 }
@@ -70,11 +69,11 @@ pub fn run(told: &[u8], a: SpanAnswer) -> bool {
 // The numbers of a row, the first of them at a place.
 fn row(told: &[u8], at: usize, a: RowAnswer) -> bool {
     if two(told, at, a.name_start, a.name_length) {
-        if two(told, wrapping_add_usize(at, 16), a.length, a.position) {
-            if two(told, wrapping_add_usize(at, 32), a.line_bases, a.line_width) {
+        if two(told, at.wrapping_add(16), a.length, a.position) {
+            if two(told, at.wrapping_add(32), a.line_bases, a.line_width) {
                 return two(
                     told,
-                    wrapping_add_usize(at, 48),
+                    at.wrapping_add(48),
                     a.description_start,
                     a.description_length,
                 );

@@ -1,6 +1,5 @@
 // The list's form: numbers, low byte first, and the parts of a record. Every function takes anything: a byte that isn't there is 0,
 // and a part that isn't there is empty.
-use std::num::wrapping_add_usize;
 
 fn wide(b: u8) -> u64 {
     b as u64
@@ -17,21 +16,21 @@ fn byte_at(s: &[u8], at: usize) -> u8 {
 // The number of two bytes at a place.
 fn two_at(s: &[u8], at: usize) -> u64 {
     let low = wide(byte_at(s, at));
-    let high = wide(byte_at(s, wrapping_add_usize(at, 1)));
+    let high = wide(byte_at(s, at.wrapping_add(1)));
     low | high << 8
 }
 
 // The number of four bytes at a place.
 fn four_at(s: &[u8], at: usize) -> u64 {
     let low = two_at(s, at);
-    let high = two_at(s, wrapping_add_usize(at, 2));
+    let high = two_at(s, at.wrapping_add(2));
     low | high << 16
 }
 
 // The number of eight bytes at a place.
 pub fn number_at(s: &[u8], at: usize) -> u64 {
     let low = four_at(s, at);
-    let high = four_at(s, wrapping_add_usize(at, 4));
+    let high = four_at(s, at.wrapping_add(4));
     low | high << 32
 }
 
@@ -58,7 +57,7 @@ pub fn part(s: &[u8], from: usize, to: usize) -> &[u8] {
 // The part of a record whose place stands at `at`; it ends at the place that follows.
 fn part_at(record: &[u8], at: usize) -> &[u8] {
     let from = place_at(record, at);
-    let to = place_at(record, wrapping_add_usize(at, 2));
+    let to = place_at(record, at.wrapping_add(2));
     part(record, from, to)
 }
 

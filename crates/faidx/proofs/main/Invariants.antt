@@ -1,9 +1,0 @@
--- `faidx::main` is safe and ends: the arguments are counted up.
-use Rattle.std.proofs.Common.{◌-◌, ◌≤◌}
-use Rattle.faidx.proofs.main.Given as goal
-
-abbrev pub invariant-loop-i : goal.invariant-loop-i
-invariant-loop-i l = 0 ≤ l.i
-
-abbrev pub decreases-loop-i : goal.decreases-loop-i
-decreases-loop-i l = l.count - l.i
