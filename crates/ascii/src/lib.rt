@@ -1,1 +1,2 @@
 // Bytes written as text, for examples: see specs/.
+#![tactic(auto)]

@@ -2,6 +2,8 @@
 // every base. Refuses inputs over the size limit (1), a definition line that does not read (2 to 4), a record without a line (19), a
 // line that does not read (9 to 12), another name (21), another length (22), a base that is not where the line says (23), and what is
 // left of the index behind the last record (20). Refusals tell the record, from 1; 2 to 4 tell the offset too.
+#![tactic(auto)]
+
 pub(crate) mod quick;
 
 ghost use Rattle.std.specs.Prelude.{◌≡◌, ◌+◌, ◌≤◌, ◌<◌, length};

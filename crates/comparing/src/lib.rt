@@ -1,5 +1,7 @@
 // Are bytes the same. Names are compared once for every record and row, so 8 bytes or more go by blocks of 8, of which the last may begin inside
 // the one before. Fewer go byte by byte. Nothing is refused: bytes of different count are not the same, and a span ends with its bytes.
+#![tactic(auto)]
+
 ghost use Rattle.std.specs.Prelude.{◌≡◌, ◌+◌, ◌≤◌, min, length, take, drop};
 ghost use Rattle.lines.specs.Same.{same_bytes};
 

@@ -9,6 +9,8 @@
 // by a few bit operations a base, of any other by flipping the bits in which its pair differs, which are looked up once, before the
 // loop. All write the same `partner`, and both kinds are judged by bits, since a look a base would cost more. No loop has a branch
 // in it, but for the kind, which stays the same.
+#![tactic(auto)]
+
 ghost use Rattle.std.specs.Prelude.{◌≡◌, true, false, cond, map, reverse, ◌≤◌, length};
 ghost use Rattle.refusal.specs.declared.Refusal.TheVariants.{NoRoom, NoComplement};
 ghost use Rattle.output.specs.Outcome.{leaves};

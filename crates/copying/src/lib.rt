@@ -1,5 +1,7 @@
 // One copy of bytes, for all that write to a lent output. A few go byte by byte, more by blocks of 8, 16 or 32 bytes, the last of
 // which may begin inside the one before. A copy takes what is there and what has room: it refuses nothing.
+#![tactic(auto)]
+
 ghost use Rattle.std.specs.Prelude.{◌≡◌, ◌+◌, ◌-◌, ◌≤◌, ◌<◌, min, length, drop};
 ghost use Rattle.std.proofs.Math.Seq.{paste};
 ghost use Rattle.copying.specs.Copied.{after_copy};

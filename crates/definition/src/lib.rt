@@ -1,5 +1,7 @@
 // A definition line: '>', a name, whitespace, and a description. Refuses an empty line (2), a line without '>' (3), and one without a name
 // (4). The two calls at the bottom also refuse bytes over the size limit (1).
+#![tactic(auto)]
+
 ghost use Rattle.std.specs.Prelude.{◌≡◌, false, ◌+◌, ◌≤◌, length, drop};
 ghost use Rattle.lines.specs.Lines.{content_of};
 ghost use Rattle.definition.specs.Low.{any_low};

@@ -2,6 +2,8 @@
 // read back (K3), a written exercise scored (K5), a file that arrives in pieces (K1), and a file in parts on several cores. The theorems are in
 // specs/AtTheEdge.antt, LookUp.antt, Fetching.antt, Writing.antt, Scoring.antt, Fed.antt, Parted.antt, PartedReads.antt and PartedChecks.antt, over the calls' promises as relations (specs/Calls.antt). Here each call is made, and has its relation for a contract: so the
 // theorems are about the calls themselves.
+#![tactic(auto)]
+
 ghost use Rattle.fitting.specs.declared.Rule.TheVariants.{Strict, Complete};
 ghost use Rattle.demands.specs.Parted.{IndexPart, CheckPart};
 ghost use Rattle.demands.specs.PartedReads.{FastqIndexPart};

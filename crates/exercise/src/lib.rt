@@ -2,6 +2,8 @@
 // bytes, high byte first, and so many bytes. Each of the tags 1 to 4 stands once, in rising order; any other tag below 128 is passed over.
 // Reading refuses 1; then, from the front, 32 for an unknown tag from 128 on, 31 for a malformed or missing field, and 33 for an unknown
 // edition. Writing refuses 1; 31 for a name over 65,535 bytes; 33; and 14 for no room.
+#![tactic(auto)]
+
 ghost use Rattle.std.specs.Prelude.{◌≡◌, ◌∷◌, ◌+◌, ◌^◌, ◌≤◌, ◌<◌, length, take, drop, get_or};
 ghost use Rattle.copying.specs.Copied.{after_copy};
 ghost use Rattle.exercise.specs.Numbers.{big_from, big_bytes};

@@ -2,6 +2,8 @@
 // with '+'; that line, whose text is not judged; and as many quality lines as sequence lines, which may begin with any byte. Refuses a
 // bad definition line (2 to 4), no bases in the first line (5), a line of other bases (6) or width (7) or a blank one (6), no '+' line
 // (38), and a quality line that is not like its partner (39).
+#![tactic(auto)]
+
 ghost use Rattle.std.specs.Prelude.{◌≡◌, ◌+◌, ◌-◌, ◌≤◌, ◌<◌, length, take};
 ghost use Rattle.lines.specs.Lines.{line_end, none, first_line};
 ghost use Rattle.lines.specs.Alike.{alike};

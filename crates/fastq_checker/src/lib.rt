@@ -2,6 +2,8 @@
 // and of every quality. Refuses inputs over the size limit (1); then what the indexer refuses anywhere in the file (2 to 7, 38, 39); then, record
 // by record, a record without a line (19), a line that does not read (9 to 12), another name (21), another length (22), a base that is not where the
 // line says (23), a quality that is not (23); and what is left of the index behind the last record (20). 19 to 23 tell the record, from 1.
+#![tactic(auto)]
+
 pub mod elsewhere;
 
 ghost use Rattle.std.specs.Prelude.{◌≡◌, [], ◌+◌, ◌≤◌, ◌<◌, length, drop};

@@ -1,5 +1,7 @@
 // A FASTQ file, or a part of one, indexed into a lent table, seven numbers to a row, and an index of six columns read into one. Refuses bytes over the size limit
 // (1), a record that is refused (2 to 7, 38, 39) or a bad line (9 to 12, lines counted from 1), and a table without a free row (8).
+#![tactic(auto)]
+
 ghost use Rattle.std.specs.Prelude.{◌≡◌, ◌+◌, ◌≤◌, ◌<◌, length};
 ghost use Rattle.table.specs.Numbers.{numbers_in};
 ghost use Rattle.table.specs.KindLaws.{FilledRows, held_by};

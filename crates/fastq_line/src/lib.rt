@@ -1,6 +1,8 @@
 // Index lines of six columns, read and written: those of five, and the position of the first quality. Refused in reading: 9, an empty line;
 // 10, a field that is absent; 11, one that is no number; 12, a 0 in field 4 or 5. In writing: 25, a row that is not there or not sound; 13,
 // a name with a tab or an LF; 14, no room. 1 comes first in the call on a line that stands alone and in writing.
+#![tactic(auto)]
+
 ghost use Rattle.std.specs.Prelude.{◌≡◌, length};
 ghost use Rattle.output.specs.Outcome.{leaves};
 ghost use Rattle.table.specs.Rows.{named_of};

@@ -1,6 +1,8 @@
 // The rows of a FASTQ file in a table that is lent as bytes, eight to a number, low byte first: seven numbers to a row, the quality position
 // last. What is left of a last part of a row is ignored and stays. A row is read as a row in use, of its bases or of its qualities, and then
 // judged as the crate `table` does (25). A good record that finds no free row is refused (8).
+#![tactic(auto)]
+
 ghost use Rattle.std.specs.Prelude.{◌≡◌, ◌+◌, ◌^◌, ◌<◌};
 ghost use Rattle.std.proofs.lemmas.List.Edits.{sets};
 ghost use Rattle.table.specs.Numbers.{numbers_in};

@@ -3,6 +3,8 @@
 // name and a description lie in it. It judges a line, and writes a row, once the line's LF and the next byte, or the end, have come. A
 // refusal stays: each later call only repeats it. Refuses bytes or a second end behind a good end (26), a piece that brings the file over
 // the size limit (1), and what indexing the file refuses (2 to 8, 42). It also refuses a state that no call leaves (1).
+#![tactic(auto)]
+
 mod complete;
 mod growing;
 mod judging;

@@ -2,6 +2,8 @@
 // The row's position is the first base's offset, its line bases are how many bases lie side by side from there, and its line width is how
 // far the first base behind those is from the first of all. Refuses a file over the size limit (1), a bad definition line (2 to 4), a
 // base that no numbers can lead to (42), and a table without a free row (8).
+#![tactic(auto)]
+
 pub mod bytes;
 pub(crate) mod quick;
 

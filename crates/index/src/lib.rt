@@ -1,5 +1,7 @@
 // A whole index: its lines as rows of a lent table, and names looked up in the rows. Refuses bytes over the size limit (1), a bad
 // line (9 to 12, lines counted from 1) and a table without a free row (8); looking up, a bad row (25) and a name that no row has (15).
+#![tactic(auto)]
+
 pub mod bytes;
 
 ghost use Rattle.std.specs.Prelude.{◌≡◌, ◌+◌, ◌≤◌, ◌<◌, length};

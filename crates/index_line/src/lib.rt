@@ -2,6 +2,8 @@
 // with tabs between, and an LF. Refused in reading: 9, an empty line; 10, a field that is absent; 11, one that is no number; 12, a 0 in
 // field 4 or 5. In writing: 25, a row that is not there or not sound; 13, a name with a tab or an LF; 14, no room. 1 comes first in the
 // calls on a line that stands alone and in writing.
+#![tactic(auto)]
+
 ghost use Rattle.std.specs.Prelude.{◌≡◌, length};
 ghost use Rattle.index_line.specs.IndexLine.{record_of, content_says, only_if, index_line_says, SaidAt, read_content, read_line, line_written};
 ghost use Rattle.output.specs.Outcome.{leaves};

@@ -5,6 +5,8 @@
 // lines further on.
 //
 // A function gives a table as a value, so that a loop can read a copy made before it: a constant would be built anew at each read.
+#![tactic(auto)]
+
 ghost use Rattle.letters.specs.Letters.{partner, set_of};
 ghost use Rattle.letters.specs.Table.{IsTable};
 

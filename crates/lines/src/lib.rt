@@ -1,6 +1,8 @@
 // The lines of a file: what a line holds, and a cursor that moves on by a line. `ends` finds where a line ends; `alike` counts lines in a
 // row that are alike, many of them at once by `abreast`. All that knows of LF and CR is here. Every function takes any bytes and any place, and refuses nothing: where
 // there is no line, the answer says so.
+#![tactic(auto)]
+
 mod abreast;
 pub mod alike;
 pub mod ends;

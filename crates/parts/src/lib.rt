@@ -3,6 +3,8 @@
 // to the next have every record once. Example: in `>a\nAC\n>b\nG\n` records begin at 0 and 6; the part from 0 to 4 has the first, the part from
 // 4 to 99 the second. Offsets are those of the whole file, and nothing has to be shifted. Refuses what the whole call refuses, in the
 // part's records; 1 is judged by the whole file.
+#![tactic(auto)]
+
 ghost use Rattle.std.specs.Prelude.{◌≡◌};
 ghost use Rattle.table.specs.Numbers.{numbers_in};
 ghost use Rattle.table.specs.Rows.{row_count};

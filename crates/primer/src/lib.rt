@@ -7,6 +7,8 @@
 // The search is shift-and: one step for each text byte, however long the primer is. After each byte, bit j of the state says whether the
 // last j + 1 bytes fit the primer's first j + 1 letters. The primer AN in the text TAG: T leaves 00, A leaves 01 (A fits the first
 // letter), G leaves 10 (AG fits both). The last letter's bit is set: the primer ends here, and began at place 1.
+#![tactic(auto)]
+
 ghost use Rattle.std.specs.Prelude.{◌≡◌, ℕ, ◌+◌, ◌-◌, ◌^◌, ◌≤◌, ◌<◌, length, get_or};
 ghost use Rattle.std.specs.Int.Count.{ones};
 ghost use Rattle.letters.specs.Letters.{set_of};

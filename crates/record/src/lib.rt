@@ -1,5 +1,7 @@
 // A record of an index, and the addressing rule: where each of its bases lies in the file. No other code turns a base position into a byte
 // offset. An offset over 64 bits is not refused: it is `Nowhere`.
+#![tactic(auto)]
+
 ghost use Rattle.std.specs.Prelude.{◌≡◌, ◌+◌, ◌*◌, ◌<◌};
 ghost use Rattle.record.specs.Place.{offset_of, address_of};
 ghost use Rattle.record.specs.Description.{described_at};

@@ -11,6 +11,8 @@
 // All take a row. A caller with a name looks up its row first with `index::find`, once for all regions of it; specs/Split.antt says what the
 // two calls answer together.
 // A refusal leaves the output as it was. The bytes behind an answer stay too.
+#![tactic(auto)]
+
 pub mod answer;
 mod bounds;
 mod exact;

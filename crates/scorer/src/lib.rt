@@ -3,6 +3,8 @@
 // exercise always asks for all bases from its start to its end: if the key is not there in full, the call is refused; it never takes a shorter key.
 // Refused, in this order: 1, one of the lent inputs is too long; 31, 32, 33, the exercise; 25, 15, the name; 16, 17, 14, 18, the read. After a
 // score the key stands at the front of the room, and what is behind it stays; a refusal leaves the room as it was.
+#![tactic(auto)]
+
 ghost use Rattle.std.specs.Prelude.{◌≡◌, ◌+◌, ◌≤◌, length};
 ghost use Rattle.output.specs.Outcome.{leaves};
 ghost use Rattle.index.specs.Find.{row_read};

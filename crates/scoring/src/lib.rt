@@ -1,5 +1,7 @@
 // What was typed against a key: how many places of the key are right, wrong and missing, how much was typed past it, and the score,
 // whose denominator is what was asked. Refused: 1 for bytes over the limit, then 33 for an edition that is not known.
+#![tactic(auto)]
+
 mod by_letters;
 mod lanes;
 mod slices;

@@ -1,6 +1,8 @@
 // Sequences by the scanning rule: from a place, skip a run of CR and LF, stop at '>' or at the end, take the line without its LF
 // and one final CR, and so on until the wanted number of bases is reached. Reads refuse a file that is too long, and then an
 // output that is too short for the bases, which stays as it was.
+#![tactic(auto)]
+
 pub mod reader;
 
 ghost use Rattle.std.specs.Prelude.{◌≤◌, ◌≡◌, length, leb};

@@ -5,6 +5,8 @@
 // region in the sheet, which for 1, 40, 41 and the last 14 is the number of regions, and leaves output and starts as they were.
 // The regions are a lent slice of structs. Two functions walk such a slice, and are proved by hand: `region_at`, which copies a region out,
 // and `read_sheet`, a loop that hands each region to `turn`. `bytes` has the same over regions and a table that are lent as bytes.
+#![tactic(auto)]
+
 pub mod bytes;
 mod going;
 

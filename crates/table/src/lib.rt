@@ -3,6 +3,8 @@
 // a row in use, which is then judged: 25 refuses a row that is not in use or not in the table, one with line bases or line width 0, and,
 // in calls that use names, a name or a description outside their bytes. A good record that finds no free row is refused (8). A table is
 // filled from its first row on: the rows before a refusal stand, and what is behind them stays as it was.
+#![tactic(auto)]
+
 pub mod bytes;
 pub mod numbers;
 

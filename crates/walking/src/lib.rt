@@ -1,6 +1,8 @@
 // The walk over a record's lines, beside the strides that the numbers of its index line describe: how many bases there are, and whether
 // each lies where those numbers say. The lines that are strides, from the first on, are passed at once, and those behind them one by one.
 // No division, and no sum or product that may not fit. `quick` tells of even lines without that walk.
+#![tactic(auto)]
+
 pub mod quick;
 
 ghost use Rattle.std.specs.Prelude.{◌≡◌, ◌+◌, ◌-◌, ◌^◌, ◌≤◌, ◌<◌, eqb};

@@ -3,6 +3,8 @@
 // description that is there and is empty, has an LF, or begins or ends in whitespace; 30, a base that is LF, CR or '>'; 14, no room.
 // A record that is longer than the memory at hand is written in pieces: `write_record` with the first of its bases, then `write_sequence`
 // with the next ones. Pieces of whole lines join to the record that one call would write (specs/Pieces.antt).
+#![tactic(auto)]
+
 ghost use Rattle.std.specs.Prelude.{◌≡◌, true, false, ◌&&◌, ◌+◌, ◌≤◌, ◌<◌, min, length};
 ghost use Rattle.definition.specs.Definition.{is_space};
 ghost use Rattle.columns.specs.Bytes.{is, overlaid};

@@ -26,11 +26,10 @@ returns-then-not-block_of-2 c =
     bad-second (all_of r.plain r.a.now) _ (sym c.loop-i.invariant.1.1 ∙ block-bad _ _ c.loop-i.i _ (omega arith) _ c.block_of-in-loop-i.ensures c.if-not-block_of-2.true-raw)
 
 pub loop-i-preserved : goal.loop-i-preserved
-loop-i-preserved c =
-    (
-      omega (arith, c.loop-i-test.true, c.loop-i.invariant.0),
-      (sym (block-good _ _ c.loop-i.i _ (omega arith) _ c.block_of.ensures c.if-not-block_of.false-raw) ∙ c.loop-i.invariant.1.0, sym (block-good _ _ c.loop-i.i _ (omega arith) _ c.block_of-in-loop-i.ensures c.if-not-block_of-2.false-raw) ∙ c.loop-i.invariant.1.1),
-    )
+loop-i-preserved c = (
+  omega (arith, c.loop-i-test.true, c.loop-i.invariant.0),
+  (sym (block-good _ _ c.loop-i.i _ (omega arith) _ c.block_of.ensures c.if-not-block_of.false-raw) ∙ c.loop-i.invariant.1.0, sym (block-good _ _ c.loop-i.i _ (omega arith) _ c.block_of-in-loop-i.ensures c.if-not-block_of-2.false-raw) ∙ c.loop-i.invariant.1.1),
+)
 
 pub returns-then-not-block_of-3 : goal.returns-then-not-block_of-3
 returns-then-not-block_of-3 c =

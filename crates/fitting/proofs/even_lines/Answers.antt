@@ -46,9 +46,14 @@ last c =
 -- all have no more bases than the file has bytes
 small : (c : After-sequence_line-last) → c.args.first.bases + c.lines_like-alike.result * c.args.first.bases + c.sequence_line-last.result.bases < 2 ^ 64
 small c =
-    omega (arith, last c, (let like : (c.args.at + c.args.first.width + c.lines_like-alike.result * c.args.first.width ≤ length c.args.s.now)
-    × (c.lines_like-alike.result * c.args.first.bases ≤ c.lines_like-alike.result * c.args.first.width) = like-fits _ _ c.requires.0 _ c.requires.1 _ c.lines_like-alike.ensures in like), (let first : (c.args.at + c.args.first.width ≤ length c.args.s.now)
-    × (c.args.first.bases ≤ c.args.first.width) = first_fits _ _ c.requires.0 _ c.requires.1 in first))
+    omega (
+      arith,
+      last c,
+      (let like : (c.args.at + c.args.first.width + c.lines_like-alike.result * c.args.first.width ≤ length c.args.s.now)
+          × (c.lines_like-alike.result * c.args.first.bases ≤ c.lines_like-alike.result * c.args.first.width) = like-fits _ _ c.requires.0 _ c.requires.1 _ c.lines_like-alike.ensures in like),
+      (let first : (c.args.at + c.args.first.width ≤ length c.args.s.now)
+          × (c.args.first.bases ≤ c.args.first.width) = first_fits _ _ c.requires.0 _ c.requires.1 in first),
+    )
 
 pub returns-then-first-last : goal.returns-then-first-last
 returns-then-first-last c = nothing

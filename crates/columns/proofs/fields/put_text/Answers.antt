@@ -27,8 +27,7 @@ pub shape_of-out : goal.shape_of-out
 shape_of-out c = simp length-set (omega arith)
 
 pub returns : goal.returns
-returns c =
-    (
-      omega (arith, c.put_numbers-end.ensures.0, text-length c.args.name.now c.args.numbers.now),
-      rw (c.put_numbers-end.ensures.1, c.put_numbers-end.ensures.0, c.put_front.ensures) (put-line c.args.name.now c.args.numbers.now c.args.out.now c.requires),
-    )
+returns c = (
+  omega (arith, c.put_numbers-end.ensures.0, text-length c.args.name.now c.args.numbers.now),
+  rw (c.put_numbers-end.ensures.1, c.put_numbers-end.ensures.0, c.put_front.ensures) (put-line c.args.name.now c.args.numbers.now c.args.out.now c.requires),
+)

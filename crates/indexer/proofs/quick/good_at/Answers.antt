@@ -57,13 +57,16 @@ last : (c : After-sequence_line-last) → let a = c.args in
     × (c.sequence_line-last.result.bases ≤ c.sequence_line-last.result.width)
 last c =
     let a = c.args in
-    rw c.sequence_line-last.ensures (first-within a.s.now _ (let room : let a = c.args in
-    (a.e + c.sequence_line-first.result.width + c.lines_like-alike.result * c.sequence_line-first.result.width ≤ length a.s.now)
-    × (c.lines_like-alike.result * c.sequence_line-first.result.bases ≤ c.lines_like-alike.result * c.sequence_line-first.result.width) = like-room _ _ _ (let within : let a = c.args in
-    (a.e + c.sequence_line-first.result.width ≤ length a.s.now) × (c.sequence_line-first.result.bases ≤ c.sequence_line-first.result.width) = let a = c.args in
-    rw c.sequence_line-first.ensures (first-within a.s.now a.e c.if-s-e.false, bases-le (seq_at a.s.now a.e)) in within).0 _ c.lines_like-alike.ensures (let within : let a = c.args in
-    (a.e + c.sequence_line-first.result.width ≤ length a.s.now) × (c.sequence_line-first.result.bases ≤ c.sequence_line-first.result.width) = let a = c.args in
-    rw c.sequence_line-first.ensures (first-within a.s.now a.e c.if-s-e.false, bases-le (seq_at a.s.now a.e)) in within).1 in room).0, bases-le (seq_at a.s.now _))
+    rw c.sequence_line-last.ensures (
+      first-within a.s.now _ (let room : let a = c.args in
+          (a.e + c.sequence_line-first.result.width + c.lines_like-alike.result * c.sequence_line-first.result.width ≤ length a.s.now)
+          × (c.lines_like-alike.result * c.sequence_line-first.result.bases ≤ c.lines_like-alike.result * c.sequence_line-first.result.width) = like-room _ _ _ (let within : let a = c.args in
+          (a.e + c.sequence_line-first.result.width ≤ length a.s.now) × (c.sequence_line-first.result.bases ≤ c.sequence_line-first.result.width) = let a = c.args in
+          rw c.sequence_line-first.ensures (first-within a.s.now a.e c.if-s-e.false, bases-le (seq_at a.s.now a.e)) in within).0 _ c.lines_like-alike.ensures (let within : let a = c.args in
+          (a.e + c.sequence_line-first.result.width ≤ length a.s.now) × (c.sequence_line-first.result.bases ≤ c.sequence_line-first.result.width) = let a = c.args in
+          rw c.sequence_line-first.ensures (first-within a.s.now a.e c.if-s-e.false, bases-le (seq_at a.s.now a.e)) in within).1 in room).0,
+      bases-le (seq_at a.s.now _),
+    )
 
 pub overflow_add-next : goal.overflow_add-next
 overflow_add-next c = omega (arith, last (goal.at.overflow_add-next c).After-sequence_line-last)
@@ -71,15 +74,20 @@ overflow_add-next c = omega (arith, last (goal.at.overflow_add-next c).After-seq
 -- all have no more bases than the file has bytes
 small : (c : After-sequence_line-last) → c.sequence_line-first.result.bases + c.lines_like-alike.result * c.sequence_line-first.result.bases + c.sequence_line-last.result.bases < 2 ^ 64
 small c =
-    omega (arith, last c, (let room : let a = c.args in
-    (a.e + c.sequence_line-first.result.width + c.lines_like-alike.result * c.sequence_line-first.result.width ≤ length a.s.now)
-    × (c.lines_like-alike.result * c.sequence_line-first.result.bases ≤ c.lines_like-alike.result * c.sequence_line-first.result.width) = like-room _ _ _ (let within : let a = c.args in
-    (a.e + c.sequence_line-first.result.width ≤ length a.s.now) × (c.sequence_line-first.result.bases ≤ c.sequence_line-first.result.width) = let a = c.args in
-    rw c.sequence_line-first.ensures (first-within a.s.now a.e c.if-s-e.false, bases-le (seq_at a.s.now a.e)) in within).0 _ c.lines_like-alike.ensures (let within : let a = c.args in
-    (a.e + c.sequence_line-first.result.width ≤ length a.s.now) × (c.sequence_line-first.result.bases ≤ c.sequence_line-first.result.width) = let a = c.args in
-    rw c.sequence_line-first.ensures (first-within a.s.now a.e c.if-s-e.false, bases-le (seq_at a.s.now a.e)) in within).1 in room), (let within : let a = c.args in
-    (a.e + c.sequence_line-first.result.width ≤ length a.s.now) × (c.sequence_line-first.result.bases ≤ c.sequence_line-first.result.width) = let a = c.args in
-    rw c.sequence_line-first.ensures (first-within a.s.now a.e c.if-s-e.false, bases-le (seq_at a.s.now a.e)) in within))
+    omega (
+      arith,
+      last c,
+      (let room : let a = c.args in
+          (a.e + c.sequence_line-first.result.width + c.lines_like-alike.result * c.sequence_line-first.result.width ≤ length a.s.now)
+          × (c.lines_like-alike.result * c.sequence_line-first.result.bases ≤ c.lines_like-alike.result * c.sequence_line-first.result.width) = like-room _ _ _ (let within : let a = c.args in
+          (a.e + c.sequence_line-first.result.width ≤ length a.s.now) × (c.sequence_line-first.result.bases ≤ c.sequence_line-first.result.width) = let a = c.args in
+          rw c.sequence_line-first.ensures (first-within a.s.now a.e c.if-s-e.false, bases-le (seq_at a.s.now a.e)) in within).0 _ c.lines_like-alike.ensures (let within : let a = c.args in
+          (a.e + c.sequence_line-first.result.width ≤ length a.s.now) × (c.sequence_line-first.result.bases ≤ c.sequence_line-first.result.width) = let a = c.args in
+          rw c.sequence_line-first.ensures (first-within a.s.now a.e c.if-s-e.false, bases-le (seq_at a.s.now a.e)) in within).1 in room),
+      (let within : let a = c.args in
+          (a.e + c.sequence_line-first.result.width ≤ length a.s.now) × (c.sequence_line-first.result.bases ≤ c.sequence_line-first.result.width) = let a = c.args in
+          rw c.sequence_line-first.ensures (first-within a.s.now a.e c.if-s-e.false, bases-le (seq_at a.s.now a.e)) in within),
+    )
 
 pub overflow_add-result : goal.overflow_add-result
 overflow_add-result c = omega (arith, small (goal.at.overflow_add-result c).After-sequence_line-last)
