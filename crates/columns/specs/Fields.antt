@@ -1,8 +1,8 @@
 -- A line of a name and numbers with tabs between, read by fields from the left, and written.
-use Rattle.std.specs.Prelude.{ℕ, zero, suc, List, [], ◌∷◌, ◌++◌, map, Bool, true, cond, ◌&&◌, ◌||◌, length, drop, eqb, ltb}
+use Rattle.std.specs.Prelude.{ℕ, zero, suc, List, [], ◌∷◌, ◌++◌, map, Bool, true, cond, ◌&&◌, ◌||◌, length, eqb, ltb}
 use Rattle.refusal.specs.declared.Refusal.{Refusal}
 use Rattle.refusal.specs.Numbers.{over_limit}
-use Rattle.refusal.specs.declared.Refusal.TheVariants.{TooLong, FieldAbsent, NotANumber, ZeroField, NameSplit, NoRoom}
+use Rattle.refusal.specs.declared.Refusal.TheVariants.{TooLong, FieldAbsent, NotANumber, ZeroField, NameSplit}
 use Rattle.lines.specs.Lines.{onto}
 use Rattle.columns.specs.Bytes.{is, first_where}
 use Rattle.columns.specs.Decimal.{number_of, plain_number, decimal_of}

@@ -4,7 +4,7 @@ use Rattle.std.proofs.Common.{ap, ◌∙◌, append-nil, append_assoc, arith, ad
 use Rattle.std.proofs.lemmas.List.{map-append}
 use Rattle.std.proofs.Math.Seq.{append_snoc}
 use borrow.Author.Tests.{lt-ltb, le-ltb, ltb-true, ltb-false}
-use Rattle.columns.specs.Bytes.{is, first_where, first-le, overlaid, overlaid-next, overlaid-more, overlaid-zero}
+use Rattle.columns.specs.Bytes.{first_where, first-le, overlaid, overlaid-next, overlaid-more, overlaid-zero}
 use Rattle.columns.specs.Decimal.{decimal_of}
 use Rattle.columns.specs.Digits.{decimal-short}
 use Rattle.output.specs.Outcome.{leaves, refuses, pours}

@@ -1,12 +1,12 @@
 -- Where reading a definition line failed, and the refusal for it (docs/RULES.md, R10).
-use Rattle.std.specs.Prelude.{ℕ, zero, suc, ◌≡◌, refl, List, [], ◌∷◌, Bool, true, false, cond, length, eqb}
-use Rattle.std.proofs.Common.{sym, ◌∙◌, eqb-true, arith}
+use Rattle.std.specs.Prelude.{ℕ, suc, ◌≡◌, refl, List, [], ◌∷◌, Bool, true, false, cond, eqb}
+use Rattle.std.proofs.Common.{eqb-true, arith}
 use Rattle.std.proofs.lemmas.Bool.{eqb-false}
 use Rattle.refusal.specs.Numbers.{numbers_of}
 use Rattle.definition.specs.Definition.{is_space, spaced, run, named_of, content_says, fails_at, refusal_of}
 use Rattle.definition.specs.declared.Fault.{Fault}
 use Rattle.definition.specs.declared.Fault.TheVariants.{Empty, NoPrefix, NoName}
-use Rattle.definition.specs.declared.Parsed.TheVariants.{Named, Bad}
+use Rattle.definition.specs.declared.Parsed.TheVariants.{Bad}
 
 -- a content goes wrong at a place: it ends there, or has a byte that no definition line has there
 pub data StopsAt : List ℕ → ℕ → Type 0 where

@@ -1,6 +1,6 @@
 -- Laws of a definition line's parts.
 use Prim.Native.Nat.{ℕ, zero, suc, ◌+◌, ◌≤◌, ◌<◌, ◌-◌}
-use Rattle.std.specs.Prelude.{◌≡◌, refl, Bool, true, false, cond, take, drop, eqb}
+use Rattle.std.specs.Prelude.{◌≡◌, refl, Bool, true, false, cond, drop, eqb}
 use Rattle.std.proofs.Math.Path.{ap}
 use Rattle.std.proofs.Common.{sym, ◌∙◌, true≢false, length-drop, drop_of_length-le, drop-drop, drop-cons, take_all, eq-eqb, ne_eqb}
 use mathlib.Core.List.{List, [], ◌∷◌, ◌++◌}
@@ -15,7 +15,6 @@ use Rattle.definition.specs.Definition.{is_space, spaced, run, kept, keep, descr
 use Rattle.definition.specs.declared.Definition.{Definition}
 use Rattle.definition.specs.declared.Fault.{Fault}
 use Rattle.definition.specs.declared.Fault.TheVariants.{Empty, NoPrefix, NoName}
-use Rattle.definition.specs.declared.Parsed.{Parsed}
 use Rattle.definition.specs.declared.Parsed.TheVariants.{Named, Bad}
 
 -- ---- a run from the front

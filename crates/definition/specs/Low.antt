@@ -1,6 +1,6 @@
 -- Low bytes: a space, or less. All whitespace is low, so bytes of which none is low are in a run of bytes that are no whitespace.
-use Rattle.std.specs.Prelude.{ℕ, zero, suc, ◌+◌, ◌≤◌, ◌<◌, ◌≡◌, refl, List, [], ◌∷◌, ◌++◌, Bool, true, false, cond, not, ◌||◌, length, take, drop, get_or, eqb, ltb}
-use Rattle.std.proofs.Common.{ap, sym, ◌∙◌, true≢false, length-drop, drop-drop, get_or-drop, take-suc, ne_eqb, ltb-false, arith, add-one, zero-add}
+use Rattle.std.specs.Prelude.{ℕ, zero, suc, ◌+◌, ◌≤◌, ◌<◌, ◌≡◌, refl, List, [], ◌∷◌, ◌++◌, Bool, true, false, cond, ◌||◌, length, take, drop, get_or, ltb}
+use Rattle.std.proofs.Common.{ap, sym, true≢false, length-drop, drop-drop, get_or-drop, take-suc, ne_eqb, ltb-false, arith, add-one, zero-add}
 use Rattle.definition.specs.Definition.{is_space, spaced, run}
 
 unfoldable pub low : ℕ → Bool

@@ -1,12 +1,12 @@
 -- Small files by hand: what their first record gives. Each is computed.
-use Rattle.std.specs.Prelude.{ℕ, ◌≡◌, refl, List, [], ◌∷◌}
-use Rattle.refusal.specs.declared.Refusal.TheVariants.{EmptyDefinition, NoPrefix, NoName, NoBases, LineBases, LineWidth, NoPlusLine, QualityLine}
+use Rattle.std.specs.Prelude.{ℕ, ◌≡◌, refl, [], ◌∷◌}
+use Rattle.refusal.specs.declared.Refusal.TheVariants.{NoPrefix, NoName, NoBases, LineBases, NoPlusLine, QualityLine}
 use Rattle.lines.specs.Lines.{lines, chop, ends, content_of, sum_bases, sum_widths}
 use Rattle.definition.specs.Definition.{is_space, run, keep, marked_says, fails_at, refusal_of}
 use Rattle.indexer.specs.Index.{fits_last}
 use Rattle.fastq.specs.Fastq.{body_of, from_plus, line_says, rest_of, sequence_of, fits_partner, qualities_of, sequence_says, record_at}
 use Rattle.fastq.specs.declared.Indexed.{Indexed}
-use Rattle.fastq.specs.declared.Indexed.TheVariants.{Row, End, Refused}
+use Rattle.fastq.specs.declared.Indexed.TheVariants.{Row, Refused}
 
 -- the row of a name of one byte, by its other numbers
 abbrev row_of : ℕ → ℕ → ℕ → ℕ → ℕ → Indexed

@@ -1,5 +1,5 @@
 -- A FASTQ record by its lines (docs/RULES.md, R80 to R84): what its sequence lines, its '+' line and its quality lines say, and its row.
-use Rattle.std.specs.Prelude.{ℕ, zero, suc, ◌+◌, List, [], ◌∷◌, map, Bool, true, false, cond, not, ◌&&◌, ◌||◌, length, take, drop, eqb}
+use Rattle.std.specs.Prelude.{ℕ, ◌+◌, List, [], ◌∷◌, map, Bool, false, cond, not, ◌&&◌, ◌||◌, length, take, drop, eqb}
 use Rattle.refusal.specs.declared.Refusal.{Refusal}
 use Rattle.refusal.specs.declared.Refusal.TheVariants.{NoBases, LineBases, LineWidth, NoPlusLine, QualityLine}
 use Rattle.lines.specs.declared.Line.{Line}

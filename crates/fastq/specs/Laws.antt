@@ -1,25 +1,22 @@
 -- Laws of a FASTQ record's lines: what the code finds at an offset is what the lines from there say. Callers go by these.
-use Rattle.std.specs.Prelude.{ℕ, zero, suc, ◌+◌, ◌-◌, ◌≤◌, ◌<◌, ◌≡◌, List, [], ◌∷◌, ◌++◌, map, Bool, not, ◌&&◌, ◌||◌, length, take, drop, get_or, eqb, ltb}
+use Rattle.std.specs.Prelude.{ℕ, zero, suc, ◌+◌, ◌-◌, ◌≤◌, ◌<◌, ◌≡◌, List, [], ◌∷◌, map, Bool, not, length, drop, get_or, eqb, ltb}
 use Rattle.std.proofs.Math.Path.{refl, ap}
-use Rattle.std.proofs.Common.{sym, ◌∙◌, true≢false, drop_of_length-le, length-drop, drop-drop, arith, add-one, zero-add, add_assoc}
-use Rattle.std.proofs.Math.Bool.{true, false, cond, or-true, or-false}
-use borrow.Author.Tests.{eq-eqb, ne_eqb, eqb-true, ltb-true, ltb-false, lt-ltb, le-ltb}
+use Rattle.std.proofs.Common.{sym, ◌∙◌, true≢false, drop_of_length-le, drop-drop, arith}
+use Rattle.std.proofs.Math.Bool.{true, false, cond}
+use borrow.Author.Tests.{eq-eqb, ne_eqb, eqb-true, ltb-true, ltb-false}
 use Rattle.std.proofs.Math.Nat.{add-zero}
 use Rattle.refusal.specs.declared.Refusal.{Refusal}
-use Rattle.refusal.specs.declared.Refusal.TheVariants.{NoBases, LineBases, LineWidth, NoPlusLine, QualityLine}
+use Rattle.refusal.specs.declared.Refusal.TheVariants.{LineBases, LineWidth, QualityLine}
 use Rattle.lines.specs.declared.Line.{Line}
-use Rattle.lines.specs.Lines.{part, lines, line_len, line_end, chop, ends, bases_of, content_of, none, first_line, sum_bases, sum_widths}
-use Rattle.lines.specs.Laws.{lines_at-cut, line_end-le, line_end-gt, part_length, part-cons, chop-le, ends-chop, content-le, content-whole, content-cut}
+use Rattle.lines.specs.Lines.{part, lines, line_end, chop, ends, bases_of, content_of, none, first_line, sum_bases, sum_widths}
+use Rattle.lines.specs.Laws.{lines_at-cut, line_end-le, line_end-gt, part_length, part-cons, chop-le, ends-chop, content-whole, content-cut}
 use Rattle.lines.specs.GroupLaws.{lines-behind}
 use Rattle.indexer.specs.Index.{line_of, fits_last}
 use Rattle.fastq.specs.Fastq.{lines_at, plus, body_of, from_plus, body_at, line_says, and_then, rest_of, fits_partner, qualities_of}
 use Rattle.fastq.specs.Steps.{last_line, body_with, rest_as, rest_says, partners_of, partner_of, qualities_as, qualities_say}
 use Rattle.fastq.specs.declared.Verdict.{Verdict}
 use Rattle.fastq.specs.declared.Verdict.TheVariants as judged
-use Rattle.fastq.specs.declared.Body.{Body}
-use Rattle.fastq.specs.declared.Sequence.{Sequence}
 use Rattle.fastq.specs.declared.Sequence.TheVariants as sequence
-use Rattle.fastq.specs.declared.Qualities.{Qualities}
 use Rattle.fastq.specs.declared.Qualities.TheVariants as qualities
 
 -- ---- the line at an offset

@@ -1,7 +1,7 @@
 -- The numbers of a FASTQ record's row lead to every base and to every quality: both have even lines, and even lines are where the addressing
 -- rule says (`even-places` of the crate `record`, which FASTA's rows go by too).
-use Rattle.std.specs.Prelude.{ℕ, zero, suc, ◌+◌, ◌≤◌, ◌<◌, ◌≡◌, refl, List, [], ◌∷◌, map, Bool, true, false, cond, not, ◌&&◌, ◌||◌, length, take, drop, eqb, leb}
-use Rattle.std.proofs.Common.{ap, sym, ◌∙◌, true≢false, drop_of_length-le, eqb-true, leb-true, ne_eqb, arith}
+use Rattle.std.specs.Prelude.{ℕ, ◌≤◌, ◌<◌, ◌≡◌, refl, List, [], ◌∷◌, map, Bool, true, false, cond, not, ◌&&◌, ◌||◌, length, take, drop, eqb, leb}
+use Rattle.std.proofs.Common.{ap, sym, ◌∙◌, true≢false, drop_of_length-le, eqb-true, leb-true, arith}
 use Rattle.refusal.specs.declared.Refusal.TheVariants.{LineBases, LineWidth, QualityLine}
 use Rattle.lines.specs.declared.Line.{Line}
 use Rattle.lines.specs.Lines as text
@@ -13,9 +13,8 @@ use Rattle.record.specs.Place.{places_from}
 use Rattle.record.specs.EvenLines.{EvenLines, even-places}
 use Rattle.record.specs.EvenLines.EvenLines.{none, last, more}
 use Rattle.indexer.specs.Index.{line_of, fits_last}
-use Rattle.fastq.specs.Fastq.{line_says, and_then, rest_of, sequence_of, fits_partner, qualities_of}
+use Rattle.fastq.specs.Fastq.{line_says, rest_of, fits_partner, qualities_of}
 use Rattle.fastq.specs.Laws.{good-same, then-good}
-use Rattle.fastq.specs.declared.Verdict.{Verdict}
 use Rattle.fastq.specs.declared.Verdict.TheVariants as judged
 
 -- ---- the sequence lines

@@ -1,6 +1,6 @@
 -- Lines in a row that are like a record's first are passed at once: what the lines behind them say, with those passed, is what all say.
 use Prim.Native.Nat.{ℕ, zero, suc, ◌+◌, ◌-◌, ◌*◌, ◌≤◌, ◌<◌}
-use Rattle.std.specs.Prelude.{◌≡◌, List, [], ◌∷◌, Bool, false, cond, take, drop, get_or, eqb, ltb}
+use Rattle.std.specs.Prelude.{◌≡◌, List, [], ◌∷◌, Bool, false, cond, take, drop, get_or, ltb}
 use Rattle.std.proofs.Math.Path.{refl, ap, sym}
 use Rattle.std.proofs.Common.{◌∙◌, true≢false, ltb-true, ltb-false, add-one, add-zero, zero-mul, add-mul, one-mul, mul-le-mul_left, mul-one}
 use Rattle.std.proofs.Math.Bool.{true}
@@ -8,7 +8,7 @@ use Rattle.std.proofs.Math.ListN.{length}
 use native.Mathlib.Omega.{arith}
 use Rattle.std.proofs.Math.Nat.{sub-zero}
 use Rattle.lines.specs.declared.Line.{Line}
-use Rattle.lines.specs.Lines.{part, lines, line_len, line_end, bases_of, none}
+use Rattle.lines.specs.Lines.{part, lines, line_len, line_end, none}
 use Rattle.lines.specs.Laws.{line_len-hit, line_len-miss, lines_at-cut, line_end-le, line_end-gt, part_length}
 use Rattle.lines.specs.Alike.{alike}
 use Rattle.lines.specs.UpTo.{marked, up_to, up_to_at, WholeLike, whole-passes, whole-within, whole-most}

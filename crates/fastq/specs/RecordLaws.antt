@@ -1,5 +1,5 @@
 -- Laws of a whole FASTQ record: each way of the code through it ends with what the record says.
-use Rattle.std.specs.Prelude.{ℕ, zero, suc, ◌+◌, ◌-◌, ◌≤◌, ◌<◌, ◌≡◌, refl, List, [], ◌∷◌, map, Bool, true, false, cond, length, take, drop, eqb}
+use Rattle.std.specs.Prelude.{ℕ, zero, suc, ◌+◌, ◌-◌, ◌≤◌, ◌<◌, ◌≡◌, refl, List, [], ◌∷◌, map, true, false, length, take}
 use Rattle.std.proofs.Math.Path.{ap}
 use Rattle.std.proofs.Common.{sym, ◌∙◌, arith}
 use Rattle.std.proofs.lemmas.List.{length-map}
@@ -18,7 +18,7 @@ use Rattle.definition.specs.Laws.{marked-within}
 use Rattle.indexer.specs.Index.{line_of}
 use Rattle.fastq.specs.Fastq.{lines_at, body_of, from_plus, body_at, rest_of, sequence_of, qualities_of, row_for, refused_at, sequence_says, record_at}
 use Rattle.fastq.specs.Steps.{last_line, body_with, rest_as, rest_says, partners_of, qualities_as, qualities_say}
-use Rattle.fastq.specs.Laws.{lines_end, no-line, body-line, some-here, line-ends, lines-plus, partners-are}
+use Rattle.fastq.specs.Laws.{lines_end, no-line, body-line, lines-plus, partners-are}
 use Rattle.fastq.specs.declared.Verdict.{Verdict}
 use Rattle.fastq.specs.declared.Verdict.TheVariants as judged
 use Rattle.fastq.specs.declared.Body.{Body}

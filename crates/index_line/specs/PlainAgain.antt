@@ -1,5 +1,5 @@
 -- A plain line that the one call reads, and whose record is stored in any row of any table, is written by the other call as the same bytes.
-use Rattle.std.specs.Prelude.{ℕ, ◌≤◌, ◌<◌, ◌≡◌, List, ◌++◌, true, length, take, drop}
+use Rattle.std.specs.Prelude.{ℕ, ◌≤◌, ◌<◌, ◌≡◌, List, true, length, take}
 use Rattle.std.proofs.Common.{sym, ◌∙◌, arith, le-ltb}
 use Rattle.table.specs.declared.Held.TheVariants as held
 use Rattle.table.specs.Rows.{named_at, row_count, row_at, with_row}

@@ -1,6 +1,6 @@
 -- A line that is written reads back as the same name and numbers, over the two calls too; and what a plain line says is written as the same
 -- bytes, which PlainAgain.antt makes a theorem over the two calls.
-use Rattle.std.specs.Prelude.{ℕ, ◌^◌, ◌≤◌, ◌<◌, ◌≡◌, refl, List, [], ◌∷◌, ◌++◌, true, length, get_or, take}
+use Rattle.std.specs.Prelude.{ℕ, ◌^◌, ◌≤◌, ◌<◌, ◌≡◌, List, [], ◌∷◌, true, length, get_or, take}
 use Rattle.std.proofs.Common.{sym, ap, ◌∙◌, append_assoc, arith, length-take, le-ltb}
 use Rattle.refusal.specs.Numbers.{over_limit}
 use Rattle.lines.specs.Lines.{content_of}

@@ -1,5 +1,5 @@
 -- A line as it is written, where it stands in a text: where it ends, whatever its numbers are, and what it says.
-use Prim.Native.Nat.{ℕ, suc, ◌+◌, ◌-◌, ◌≤◌}
+use Prim.Native.Nat.{ℕ, suc, ◌-◌, ◌≤◌}
 use Rattle.std.specs.Prelude.{◌≡◌, true}
 use Rattle.std.proofs.Math.Path.{refl, sym, ap}
 use Rattle.std.proofs.Common.{◌∙◌, arith, take-append-drop, drop_of_length-le}
@@ -14,7 +14,7 @@ use Rattle.columns.specs.Bytes.{is}
 use Rattle.columns.specs.Fields.{numbers_text, text_of}
 use Rattle.columns.specs.Lacks.{Lacks, lacks-head, lacks-tail, lacks-append, text-lacks, splits-lf, splits-tab}
 use Rattle.columns.specs.Standing.{LineAt}
-use Rattle.index_line.specs.IndexLine.{record_of, fields_of, content_says, plain_end, index_line_says, SaidAt, columns_of, line_of, entry_of}
+use Rattle.index_line.specs.IndexLine.{record_of, fields_of, content_says, plain_end, index_line_says, SaidAt, line_of, entry_of}
 use Rattle.index_line.specs.AnyColumns.{Lined}
 use Rattle.index_line.specs.RoundTripLaws.{four}
 use Rattle.index_line.specs.RoundTrip.{written-reads}

@@ -1,5 +1,5 @@
 -- Laws of one record by the ported rule: its lines after the first, turn by turn.
-use Rattle.std.specs.Prelude.{ℕ, zero, suc, ◌+◌, ◌-◌, ◌*◌, ◌≤◌, ◌<◌, ◌≡◌, Bool, true, false, cond, ◌&&◌, eqb, leb}
+use Rattle.std.specs.Prelude.{ℕ, suc, ◌+◌, ◌-◌, ◌*◌, ◌≤◌, ◌<◌, ◌≡◌, Bool, true, false, ◌&&◌, leb}
 use Rattle.std.proofs.Math.Path.{refl}
 use Rattle.std.proofs.Common.{ap, sym, ◌∙◌, true≢false, arith, add-one, add_assoc, add-mul, one-mul, zero-mul, mul-le-mul_left}
 use mathlib.Core.List.{List, [], ◌∷◌}
@@ -7,7 +7,6 @@ use Rattle.std.proofs.Math.ListN.{length}
 use Rattle.std.proofs.Math.Dec.{leb-zero}
 use borrow.Author.Tests.{eq-eqb, ne_eqb, le-leb, lt-leb}
 use Rattle.std.proofs.Math.Nat.{add-zero}
-use Rattle.refusal.specs.declared.Refusal.{Refusal}
 use Rattle.refusal.specs.declared.Refusal.TheVariants.{NoBases, LineBases, LineWidth}
 use Rattle.lines.specs.declared.Line.{Line}
 use Rattle.definition.specs.declared.Definition.{Definition}
@@ -16,7 +15,6 @@ use Rattle.lines.specs.Laws.{seq_at-next}
 use Rattle.lines.specs.Alike.{LineLike, first_like, alike, alike-passes, alike-within, alike-ends, unlike-last}
 use Rattle.indexer.specs.Rule.{Verdict, good, bad, row_for, judged_by, sequence_by}
 use Rattle.indexer.specs.Index.{fits_last, rest_of, judge, ported, sequence_says, rest_as, rest_says}
-use Rattle.indexer.specs.declared.Indexed.{Indexed}
 use Rattle.indexer.specs.declared.Indexed.TheVariants as indexed
 use Rattle.indexer.specs.declared.Step.{Step}
 use Rattle.indexer.specs.declared.Rest.{Rest}

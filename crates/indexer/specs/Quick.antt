@@ -6,7 +6,6 @@ use Rattle.lines.specs.Lines.{seq_at, first_line, none, sum_bases, sum_widths}
 use Rattle.lines.specs.Alike.{alike}
 use Rattle.definition.specs.declared.Definition.{Definition}
 use Rattle.indexer.specs.declared.Indexed.TheVariants as indexed
-use Rattle.indexer.specs.declared.Step.{Step}
 use Rattle.indexer.specs.declared.Good.{Good}
 use Rattle.indexer.specs.declared.Rest.TheVariants as rest
 use Rattle.indexer.specs.Rule.{SequenceRule, row_for, sequence_by}

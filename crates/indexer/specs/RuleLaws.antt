@@ -19,7 +19,7 @@ use Rattle.table.specs.Fill.{Found, nothing, with_first}
 use Rattle.table.specs.declared.Stop.TheVariants.{Ended, Refused}
 use Rattle.indexer.specs.declared.Indexed.TheVariants as indexed
 use Rattle.indexer.specs.declared.Step.{Step}
-use Rattle.indexer.specs.Rule.{Verdict, good, bad, SequenceRule, judged_by, sequence_by, defined_by, first_by, record_by, onwards, stepped, groups_by, file_by}
+use Rattle.indexer.specs.Rule.{Verdict, good, bad, SequenceRule, judged_by, sequence_by, defined_by, first_by, record_by, stepped, groups_by, file_by}
 
 module _ (rule : SequenceRule) where
   -- ---- the record at an offset

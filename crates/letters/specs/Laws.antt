@@ -1,7 +1,6 @@
 -- Laws of the letters: what one computed test finds at each letter holds of each byte.
 use Rattle.std.specs.Prelude.{ℕ, ◌<◌, ◌≡◌, refl, Bool, true, false, cond, List, [], ◌∷◌, T, eqb, ltb}
-use Rattle.std.proofs.Common.{eqb-true, eq-eqb, ne_eqb, ltb-true, arith}
-use Rattle.std.proofs.lemmas.Bool.{eqb-false}
+use Rattle.std.proofs.Common.{eqb-true, ltb-true}
 use Rattle.letters.specs.Letters.{Letter, looked, letters, partner, set_of}
 
 pub both : (a b : Bool) → T (cond a b false) → T a × T b

@@ -1,6 +1,6 @@
 -- Lines that are alike: how many of some lines, from the first on, have one width and one count of bases. What holds from line to line
 -- then holds behind all of them.
-use Prim.Native.Nat.{ℕ, zero, suc, ◌+◌, ◌*◌, ◌≤◌, ◌<◌}
+use Prim.Native.Nat.{ℕ, zero, suc, ◌+◌, ◌*◌, ◌≤◌}
 use Rattle.std.specs.Prelude.{◌≡◌, Bool, ◌&&◌, take, drop, eqb}
 use Rattle.std.proofs.Math.Path.{refl}
 use Rattle.std.proofs.Common.{ap, sym, ◌∙◌, true≢false, length-drop, eqb-true, eq-eqb, zero-add}
@@ -10,7 +10,7 @@ use Rattle.std.proofs.Math.ListN.{length}
 use native.Mathlib.Omega.{arith}
 use Rattle.std.proofs.Math.Numerals.{add-one}
 use Rattle.std.proofs.Math.Nat.{add-zero, add-mul, one-mul, zero-mul, add-sub_cancel_left}
-use Rattle.lines.specs.Lines.{part, line_len, line_end, ends, bases_of, seq_at, none, first_line, tail_of}
+use Rattle.lines.specs.Lines.{part, line_len, line_end, ends, bases_of, seq_at, none, first_line}
 use Rattle.lines.specs.Laws.{line_len-pos, line_end-le, part_length, seq_at-end, some-line, first-within, seq_at-next}
 use Rattle.lines.specs.declared.Line.{Line}
 

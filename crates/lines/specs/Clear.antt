@@ -1,14 +1,14 @@
 -- Whether there is an LF among some bytes, and what that says of the line they begin: how a line is known by looking at where its end
 -- should be.
-use Rattle.std.specs.Prelude.{ℕ, zero, suc, ◌+◌, ◌-◌, ◌≤◌, ◌<◌, ◌≡◌, List, [], ◌∷◌, ◌++◌, Bool, cond, ◌&&◌, take, drop, get_or, eqb}
+use Rattle.std.specs.Prelude.{ℕ, zero, suc, ◌+◌, ◌-◌, ◌≤◌, ◌<◌, ◌≡◌, List, [], ◌∷◌, ◌++◌, Bool, cond, take, drop, get_or, eqb}
 use Rattle.std.proofs.Math.Path.{refl, ap}
-use Rattle.std.proofs.Common.{sym, ◌∙◌, true≢false, drop_of_length-le, length-drop, length-append, drop-cons, drop-drop, get_or-drop, add-one, add-zero, zero-add}
+use Rattle.std.proofs.Common.{sym, ◌∙◌, true≢false, drop_of_length-le, length-drop, drop-cons, drop-drop, zero-add}
 use Rattle.std.proofs.Math.Bool.{true, false}
 use Rattle.std.proofs.Math.ListN.{length}
 use Rattle.std.proofs.Math.Dec.{ltb}
 use borrow.Author.Tests.{eq-eqb, ne_eqb, eqb-true, eqb-false, ltb-true, ltb-false, lt-ltb, le-ltb}
 use native.Mathlib.Omega.{arith}
-use Rattle.lines.specs.Lines.{part, lines, line_len, line_end, chop, ends, bases_of, first_line}
+use Rattle.lines.specs.Lines.{part, lines, line_len, line_end, chop, ends}
 use Rattle.lines.specs.Laws.{line_len-hit, line_end-le, part_length, part-snoc, chop-hit, chop-miss, ends-chop, lines_at-cut}
 use Rattle.lines.specs.Alike.{is_like, first_like, like-first, both_left}
 use Rattle.lines.specs.declared.Line.{Line}

@@ -1,6 +1,6 @@
 -- The records of a file, by its lines: a definition line, and the lines up to the next that begins with '>'.
-use Rattle.std.specs.Prelude.{ℕ, List, [], ◌∷◌, Bool, true, false, cond}
-use Rattle.lines.specs.Lines.{lines, begins}
+use Rattle.std.specs.Prelude.{ℕ, List, [], ◌∷◌, cond}
+use Rattle.lines.specs.Lines.{begins}
 
 -- a definition line, and the lines of its sequence
 pub record Group : Type 0 where

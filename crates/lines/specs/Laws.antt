@@ -4,14 +4,12 @@ use Rattle.std.proofs.Common.{ap, sym, ◌∙◌, true≢false, drop_of_length-l
 use Rattle.std.proofs.Math.ListN.{length-drop}
 use Rattle.std.proofs.Math.Seq.{drop-drop, get_or-drop, take-length, take-nil}
 use Rattle.std.proofs.Math.Dec.{leb-suc-suc}
-use borrow.Author.Tests.{eq-eqb, ne_eqb, eqb-true, eqb-false, ltb-true, ltb-false, lt-ltb, le-ltb}
+use borrow.Author.Tests.{eq-eqb, ne_eqb, ltb-true, ltb-false, lt-ltb, le-ltb}
 use native.Mathlib.Omega.{arith}
 use Rattle.std.proofs.Math.Nat.{add-zero, sub-zero, add-sub_cancel_left}
-use Rattle.lines.specs.Lines.{part, lines, line_len, line_byte, onto, line_end, chop, ends, bases_of, content_of, step_of, read_line, begins, seq_of, seq_at, none, first_line, tail_of}
-use Rattle.lines.specs.declared.Line.{Line}
+use Rattle.lines.specs.Lines.{part, lines, line_len, onto, line_end, chop, ends, bases_of, content_of, read_line, begins, seq_of, seq_at, none, first_line, tail_of}
 use Rattle.lines.specs.declared.Cursor.{Cursor}
 use Rattle.lines.specs.declared.Span.{Span}
-use Rattle.lines.specs.declared.Step.{Step}
 use Rattle.lines.specs.declared.Step.TheVariants.{Read, End}
 
 -- ---- the length of the first line

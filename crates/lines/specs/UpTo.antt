@@ -9,7 +9,7 @@ use Rattle.std.proofs.Math.ListN.{length}
 use native.Mathlib.Omega.{arith}
 use Rattle.std.proofs.Math.Numerals.{add-one}
 use Rattle.std.proofs.Math.Nat.{add-mul, one-mul}
-use Rattle.lines.specs.Lines.{part, lines, onto, line_end, bases_of, begins, seq_of, seq_at, sum_widths}
+use Rattle.lines.specs.Lines.{part, lines, onto, line_end, bases_of, seq_of, seq_at, sum_widths}
 use Rattle.lines.specs.Laws.{line_end-le, line_end-gt, part-cons, lines_at-cut}
 use Rattle.lines.specs.GroupLaws.{lines-behind}
 use Rattle.lines.specs.Sums.{widths-lines}

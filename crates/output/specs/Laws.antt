@@ -4,7 +4,7 @@ use Rattle.std.proofs.Common.{sym, ap, ◌∙◌, arith, take_at, drop_at, lt-lt
 use Rattle.refusal.specs.declared.Refusal.{Refusal}
 use Rattle.refusal.specs.declared.Refusal.TheVariants.{NoRoom}
 use Rattle.output.specs.declared.Written.{Written}
-use Rattle.output.specs.declared.Written.TheVariants.{Bytes, Refused}
+use Rattle.output.specs.declared.Written.TheVariants.{Bytes}
 use Rattle.output.specs.Outcome.{Outcome, leaves, refuses, gives, pours}
 
 -- by whether there is room

@@ -1,14 +1,12 @@
 -- Laws of the addressing rule. Callers cite these and unfold nothing.
 use Prim.Native.Nat.{ℕ, zero, suc, ◌+◌, ◌-◌, ◌*◌, ◌/◌, ◌%◌, ◌^◌, ◌≤◌, ◌<◌}
 use Rattle.std.proofs.Math.Path.{◌≡◌, refl, ap}
-use Rattle.std.proofs.Common.{sym, ◌∙◌, inl, inr, append_assoc, length-take-le, get_or-append-add, get_or-set_other, lit<, add-one, zero-add, add_assoc, add-zero, le-div_iff_mul-le, div-lt_iff_lt-mul}
-use Rattle.std.specs.Prelude.{◌≢◌, ◌⊎◌, List, [], ◌∷◌, ◌++◌, Bool, ◌&&◌, length, get_or, take, drop, set, eqb}
+use Rattle.std.proofs.Common.{sym, ◌∙◌, add-one, add-zero, le-div_iff_mul-le, div-lt_iff_lt-mul}
+use Rattle.std.specs.Prelude.{Bool, ◌&&◌, length, get_or}
 use Rattle.std.proofs.Math.Bool.{true, false, cond, and-false}
-use Rattle.std.proofs.lemmas.List.Edits.{sets, sets-eq}
-use Rattle.std.proofs.Math.Seq.{length-sets}
 use Rattle.std.proofs.Math.Dec.{ltb}
 use Rattle.std.proofs.Math.Arith.{digits_div, digits_mod}
-use borrow.Author.Tests.{lt-ltb, le-ltb, ltb-true, ltb-false, eq-eqb, ne_eqb, eqb-false}
+use borrow.Author.Tests.{lt-ltb, le-ltb, ltb-true, ltb-false}
 use native.Mathlib.Omega.{arith}
 use Rattle.std.proofs.Math.Nat.{div-add-mod', add-mul, one-mul, add-div_left, add-mod_left, div-eq_of_lt, mod-eq_of_lt, zero-mul}
 use Rattle.record.specs.Description.{described_at}
@@ -16,7 +14,6 @@ use Rattle.record.specs.Place.{place_of, places_from, place_in, offset_of, has_p
 use Rattle.record.specs.declared.Position.{Position}
 use Rattle.record.specs.declared.Offset.{Offset}
 use Rattle.record.specs.declared.Record.{Record}
-use Rattle.record.specs.declared.Address.{Address}
 use Rattle.record.specs.declared.Address.TheVariants.{At, Nowhere}
 
 -- ---- places: by line bases b and line width w, from position p

@@ -1,5 +1,5 @@
 -- The addressing rule (docs/RULES.md, R18): where a base lies, over whole numbers.
-use Rattle.std.specs.Prelude.{ℕ, zero, suc, ◌+◌, ◌-◌, ◌*◌, ◌/◌, ◌%◌, ◌^◌, List, [], ◌∷◌, Bool, true, false, cond, ◌&&◌, ltb}
+use Rattle.std.specs.Prelude.{ℕ, zero, suc, ◌+◌, ◌-◌, ◌*◌, ◌/◌, ◌%◌, ◌^◌, List, [], ◌∷◌, Bool, cond, ◌&&◌, ltb}
 use Rattle.record.specs.declared.Position.{Position}
 use Rattle.record.specs.declared.Record.{Record}
 use Rattle.record.specs.declared.Address.{Address}

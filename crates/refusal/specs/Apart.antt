@@ -1,5 +1,5 @@
 -- A host sees enough of a refusal to know which it is: no refusal's number is 0, which means that the call was accepted, and no two refusals look the same.
-use Rattle.std.specs.Prelude.{ℕ, ◌≤◌, ◌≡◌, refl, List, [], ◌∷◌, get_or}
+use Rattle.std.specs.Prelude.{ℕ, ◌≤◌, ◌≡◌, refl, [], ◌∷◌, get_or}
 use Rattle.std.proofs.Common.{sym, ap, ◌∙◌, arith}
 use Rattle.refusal.specs.Numbers.{numbers_of}
 use Rattle.refusal.specs.declared.Numbers.{Numbers}

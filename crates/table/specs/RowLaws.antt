@@ -1,20 +1,18 @@
 -- Laws of the rows of a table. Callers go by these and unfold nothing.
-use Rattle.std.specs.Prelude.{ℕ, zero, suc, ◌+◌, ◌-◌, ◌*◌, ◌/◌, ◌≤◌, ◌<◌, ◌≢◌, ◌⊎◌, List, [], ◌∷◌, ◌++◌, Bool, length, get_or, take, drop, set, eqb}
+use Rattle.std.specs.Prelude.{ℕ, suc, ◌+◌, ◌-◌, ◌*◌, ◌≤◌, ◌<◌, ◌≢◌, ◌⊎◌, List, [], ◌∷◌, ◌++◌, Bool, length, get_or, set, eqb}
 use Rattle.std.proofs.Math.Path.{◌≡◌, refl, ap}
-use Rattle.std.proofs.Common.{sym, ◌∙◌, inl, inr, append_assoc, length-take-le, get_or-append-add, get_or-set_other, lit<, arith, zero-add, add_assoc, add-zero}
+use Rattle.std.proofs.Common.{sym, ◌∙◌, inl, inr, append_assoc, get_or-append-add, get_or-set_other, lit<, arith, zero-add, add_assoc, add-zero}
 use Rattle.std.proofs.Math.Bool.{true, false, cond}
-use Rattle.std.proofs.lemmas.List.Edits.{sets, sets-eq}
-use Rattle.std.proofs.Math.Seq.{length-sets}
+use Rattle.std.proofs.lemmas.List.Edits.{sets}
 use Rattle.std.proofs.Math.Dec.{ltb}
 use borrow.Author.Tests.{lt-ltb, le-ltb, ltb-true, ltb-false, eq-eqb, ne_eqb, eqb-false}
 use Rattle.refusal.specs.declared.Refusal.{Refusal}
-use Rattle.refusal.specs.declared.Refusal.TheVariants.{BadRow, TableFull}
+use Rattle.refusal.specs.declared.Refusal.TheVariants.{TableFull}
 use Rattle.record.specs.declared.Record.{Record}
 use Rattle.table.specs.declared.InUse.{InUse}
 use Rattle.table.specs.declared.InUse.TheVariants as used
 use Rattle.table.specs.declared.Held.{Held}
 use Rattle.table.specs.declared.Held.TheVariants as held
-use Rattle.table.specs.declared.Stored.{Stored}
 use Rattle.table.specs.declared.Stored.TheVariants as stored
 use Rattle.table.specs.KindLaws
 use Rattle.table.specs.KindLaws.{sets-append}

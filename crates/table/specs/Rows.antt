@@ -1,8 +1,7 @@
 -- A record's row in a table of numbers: its words, reading it, and the table with it stored. Of a table of bytes, these are about its
 -- numbers (`numbersIn`).
-use Rattle.std.specs.Prelude.{ℕ, ◌+◌, ◌*◌, ◌/◌, ◌≡◌, refl, List, [], ◌∷◌, ◌++◌, Bool, true, false, cond, length, get_or, eqb, ltb}
+use Rattle.std.specs.Prelude.{ℕ, ◌+◌, ◌*◌, ◌/◌, ◌≡◌, refl, List, [], ◌∷◌, ◌++◌, cond, length, get_or, eqb, ltb}
 use Rattle.std.proofs.Common.{lit<}
-use Rattle.refusal.specs.declared.Refusal.{Refusal}
 use Rattle.refusal.specs.declared.Refusal.TheVariants.{BadRow}
 use Rattle.record.specs.declared.Record.{Record}
 use Rattle.table.specs.declared.InUse.{InUse}

@@ -1,10 +1,10 @@
 -- A sequence whose lines are even: strides, a last line that has no more bases, and blank lines. All its bases are where the strides say.
-use Rattle.std.specs.Prelude.{ℕ, ◌+◌, ◌-◌, ◌*◌, ◌^◌, ◌≤◌, ◌<◌, min, ◌≡◌, refl, Bool, true, false, length, take, drop, ltb}
+use Rattle.std.specs.Prelude.{ℕ, ◌+◌, ◌-◌, ◌*◌, ◌^◌, ◌≤◌, ◌<◌, min, ◌≡◌, refl, Bool, true, false, length, take, ltb}
 use Rattle.std.proofs.Math.Path.{ap}
 use Rattle.std.proofs.Common.{sym, ◌∙◌, eq-eqb, ltb-true, ltb-false, arith, zero-mul}
 use mathlib.Core.List.{List, ◌∷◌, []}
 use Rattle.std.proofs.Math.Nat.{add-zero}
-use Rattle.lines.specs.Lines.{part, lines, line_end, begins, seq_of, seq_at, bases_of, first_line, tail_of, none, sum_bases, sum_widths}
+use Rattle.lines.specs.Lines.{part, line_end, begins, seq_of, seq_at, bases_of, first_line, tail_of, none, sum_bases, sum_widths}
 use Rattle.lines.specs.Laws.{part_length, line_end-le, no-line, some-line, bases-le, first-within, seq_at-next}
 use Rattle.lines.specs.Alike.{alike}
 use Rattle.lines.specs.UpTo.{marked, up_to_at, WholeLike, whole-passes, whole-within}

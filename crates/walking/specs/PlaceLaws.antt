@@ -1,15 +1,14 @@
 -- Laws of places: what the first base elsewhere says of every base.
-use Prim.Native.Nat.{ℕ, zero, suc, ◌+◌, ◌≤◌, ◌<◌}
-use Rattle.std.specs.Prelude.{◌≡◌, Bool, true, false, cond, get_or, drop, eqb}
+use Prim.Native.Nat.{ℕ, zero, suc, ◌+◌, ◌<◌}
+use Rattle.std.specs.Prelude.{◌≡◌, Bool, true, false, cond, get_or, eqb}
 use Rattle.std.proofs.Math.Path.{refl, ap}
-use Rattle.std.proofs.Common.{sym, ◌∙◌, length-drop, eq-eqb, ne_eqb, eqb-true, zero-add}
+use Rattle.std.proofs.Common.{sym, ◌∙◌, eq-eqb, ne_eqb, eqb-true, zero-add}
 use mathlib.Core.List.{List, [], ◌∷◌, ◌++◌}
 use Rattle.std.proofs.Math.ListN.{length}
 use Rattle.std.proofs.lemmas.Bool.{eqb-false}
 use native.Mathlib.Omega.{arith}
 use Rattle.std.proofs.Math.Nat.{add-zero}
-use Rattle.lines.specs.Lines.{lines, onto, chop, begins, seq_of, seq_at, sum_bases, sum_widths, bases_at}
-use Rattle.lines.specs.Laws.{chop-le}
+use Rattle.lines.specs.Lines.{sum_bases, bases_at}
 use Rattle.record.specs.EvenLines.{length-bases_at}
 use Rattle.record.specs.declared.Position.{Position}
 use Rattle.record.specs.declared.Offset.{Offset}

@@ -1,5 +1,5 @@
 -- `definition::parse_content` meets its contract: the places that it finds are the ends of the name, of the whitespace behind it, and of what is kept.
-use Rattle.std.proofs.Common.{arith, true, false, ◌≡◌, ◌-◌}
+use Rattle.std.proofs.Common.{arith, ◌≡◌, ◌-◌}
 use Rattle.lines.specs.declared.Span.{Span}
 use Rattle.definition.specs.Definition.{described, marked_says}
 use Rattle.definition.specs.declared.Parsed.TheVariants.{Named}

@@ -1,5 +1,5 @@
 -- `lines::sequence_line` meets its contract: a line at the place runs to its end, and its bases are those of that part.
-use Rattle.std.proofs.Common.{arith, sym, ◌∙◌, false, ◌<◌, ◌≤◌, length}
+use Rattle.std.proofs.Common.{arith, sym, ◌∙◌, ◌<◌, ◌≤◌, length}
 use Rattle.lines.specs.Laws.{no-line, some-here, line-here, line_end-le, line_end-gt}
 use Rattle.lines.proofs.sequence_line.Goals as goal
 use Rattle.lines.proofs.sequence_line.Goals.{After-line_end-e}

@@ -1,6 +1,6 @@
 -- `sequence::copy_bases` meets its contract: what a scan from `i` for the rest writes behind `to` bytes of the output as it is now,
 -- equals what the whole scan writes into the output as it was.
-use Rattle.std.proofs.Common.{ap, sym, ◌∙◌, rules, arith, length}
+use Rattle.std.proofs.Common.{ap, sym, ◌∙◌, rules, arith}
 use native.Mathlib.Nat.{sub-zero}
 use Rattle.copying.specs.Laws.{copy-whole}
 use Rattle.sequence.specs.Scan.{scan_at}

@@ -1,5 +1,5 @@
 -- `sequence::count_bases` meets its contract: `n` and what a scan from `i` for the rest gives make what the whole scan gives.
-use Rattle.std.proofs.Common.{ℕ, ◌-◌, ◌≡◌, rules, arith, length}
+use Rattle.std.proofs.Common.{◌-◌, ◌≡◌, rules, arith, length}
 use native.Mathlib.Nat.{sub-zero}
 use Rattle.sequence.specs.Scan.{scan_at}
 use Rattle.sequence.specs.Laws.{Turn, piece-stop, piece-step, piece-full}

@@ -1,5 +1,5 @@
 -- `lines::alike::lf_among_many` meets its contract: no LF is among the bytes passed, and the last block begins in them.
-use Rattle.std.proofs.Common.{◌+◌, ◌-◌, refl, sym, ◌∙◌, false, arith, drop}
+use Rattle.std.proofs.Common.{◌+◌, ◌-◌, refl, sym, ◌∙◌, arith, drop}
 use Rattle.lines.specs.Clear.{lf-none}
 use Rattle.lines.specs.Blocks.{either-row, blocks-hit, blocks-on, blocks_last}
 use Rattle.lines.proofs.alike.lf_among_many.Goals as goal

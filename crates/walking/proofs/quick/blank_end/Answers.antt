@@ -1,5 +1,5 @@
 -- `walking::quick::blank_end` meets its contract: the lines passed have no base, so that what is behind them is all.
-use Rattle.std.proofs.Common.{◌+◌, ◌≤◌, ◌<◌, sym, ◌∙◌, false, arith, length}
+use Rattle.std.proofs.Common.{◌+◌, ◌≤◌, ◌<◌, sym, ◌∙◌, arith, length}
 use Rattle.lines.specs.Laws.{first-within, first-grows}
 use Rattle.walking.specs.Even.{blank-start, blank-more, blank-end}
 use Rattle.walking.proofs.quick.blank_end.Goals as goal
