@@ -54,17 +54,17 @@ pub sequence-inside : (f : List ℕ) (k : ℕ) → k < length (groups (lines f))
 sequence-inside f k m = omega (arith, sequence-within (groups (lines f)) k m, bytes-lines (lines f), widths-lines f)
 
 -- the byte at the place of a base is that base
-get_d-bytes : (f os : List ℕ) (j : ℕ) → j < length os → get_or (map (byte_at f) os) j 0 ≡ byte_at f (get_or os j 0)
-get_d-bytes f [] j h = absurd (omega arith)
-get_d-bytes f (o ∷ os) zero h = refl
-get_d-bytes f (o ∷ os) (suc j) h = get_d-bytes f os j (omega arith)
+get_or-bytes : (f os : List ℕ) (j : ℕ) → j < length os → get_or (map (byte_at f) os) j 0 ≡ byte_at f (get_or os j 0)
+get_or-bytes f [] j h = absurd (omega arith)
+get_or-bytes f (o ∷ os) zero h = refl
+get_or-bytes f (o ∷ os) (suc j) h = get_or-bytes f os j (omega arith)
 
 pub base-here : (f : List ℕ) (k : ℕ) → k < length (groups (lines f)) → (j : ℕ) → j < sum_bases (record_at (groups (lines f)) k).seq
     → byte_at f (get_or (bases_at (sequence_at (groups (lines f)) k) (record_at (groups (lines f)) k).seq) j 0) ≡ get_or (all_bases (record_at (groups (lines f)) k).seq) j 0
 base-here f k h j q =
     let start = sequence_at (groups (lines f)) k in
     let seq = (record_at (groups (lines f)) k).seq in
-    sym (get_d-bytes f (bases_at start seq) j (rw length-bases_at q))
+    sym (get_or-bytes f (bases_at start seq) j (rw length-bases_at q))
     ∙ ap (λ (bs : List ℕ). get_or bs j 0) (bases-bytes f seq start (sequence-inside f k h) (sequence-here f k h))
 
 pub base-byte : (f : List ℕ) (k n : ℕ) (l : List ℕ) → k < length (groups (lines f)) → (m : Matches n (sequence_at (groups (lines f)) k) (record_at (groups (lines f)) k) l)

@@ -8,7 +8,7 @@ use borrow.Author.Tests.{eq-eqb, ne_eqb, eqb-true, eqb-false, ltb-true, ltb-fals
 use native.Mathlib.Omega.{arith}
 use Rattle.std.proofs.Math.Nat.{zero-mul, div-zero, mod-zero}
 use Rattle.record.specs.Place.{place_of, places_from, place_in}
-use Rattle.record.specs.Laws.{place-first, place-line, place-row, length-places, get_d-places}
+use Rattle.record.specs.Laws.{place-first, place-line, place-row, length-places, get_or-places}
 use Rattle.record.specs.declared.Record.{Record}
 use Rattle.walking.specs.Places.{first_elsewhere}
 use Rattle.walking.specs.PlaceLaws.{all_there, first-elsewhere}
@@ -111,7 +111,7 @@ module _ (p b w n q c v : ℕ) where
 
   -- number j of the places
   place-at : (j : ℕ) → j < n → get_or places j 0 ≡ place_of p b w (0 + j)
-  place-at j h = get_d-places p b w 0 n j h
+  place-at j h = get_or-places p b w 0 n j h
 
   never : ((j : ℕ) → j < n → place_of p b w j ≡ place_of q c v j) → Never ≡ base_of (first_elsewhere (place_of q c v) 0 places)
   never h =

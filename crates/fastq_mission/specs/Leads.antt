@@ -12,7 +12,7 @@ use Rattle.lines.specs.declared.Span.{Span}
 use Rattle.definition.specs.Definition.{is_space}
 use Rattle.definition.specs.Laws.{marked-within}
 use Rattle.record.specs.Place.{place_of, place_in, places_from}
-use Rattle.record.specs.Laws.{length-places, get_d-places}
+use Rattle.record.specs.Laws.{length-places, get_or-places}
 use Rattle.columns.specs.Lacks.{Lacks}
 use Rattle.index_line.specs.IndexLine.{name_in}
 use Rattle.index_line.specs.Laws.{Lined}
@@ -162,7 +162,7 @@ module _ {s : List ℕ} {at : ℕ} {x : QualityRow} {next : ℕ} (t : Taken s at
   places_of p j h =
       let m : j < x.«record».length = omega (arith, ap length (offsets_are p), length-places (part_of p x).position.0 x.«record».line_bases x.«record».line_width 0 x.«record».length) in
       ap (λ (os : List ℕ). get_or os j 0) (offsets_are p)
-      ∙ get_d-places (part_of p x).position.0 x.«record».line_bases x.«record».line_width 0 x.«record».length j m
+      ∙ get_or-places (part_of p x).position.0 x.«record».line_bases x.«record».line_width 0 x.«record».length j m
       ∙ placed p j
 
   -- ---- its name

@@ -9,7 +9,7 @@ use Rattle.std.proofs.Common.{ap, sym, ◌∙◌, le-ltb}
 use native.Mathlib.Omega.{arith}
 use Rattle.refusal.specs.Numbers.{over_limit}
 use Rattle.record.specs.Bases.{byte_at}
-use Rattle.record.specs.Laws.{length-places, get_d-places}
+use Rattle.record.specs.Laws.{length-places, get_or-places}
 use Rattle.record.specs.Place.{place_in}
 use Rattle.record.specs.declared.Record.{Record}
 use Rattle.table.specs.declared.Filled.{Filled}
@@ -61,7 +61,7 @@ module _ (f : List ℕ) (r : ℕ) (h : r < record_count f) (p : Part) (x : Recor
     unfolding bytes_between offsets_of
     bytes =
         bases-part f at (lines_in f r p) here (exact.offsets_of x a (bases_to a e)) (a - 1) (bases_to a e) (omega arith) (length-places _ _ _ (a - 1) (bases_to a e))
-        (λ k m. get_d-places x.position.0 x.line_bases x.line_width (a - 1) (bases_to a e) k m ∙ about.places (a - 1 + k) (omega arith))
+        (λ k m. get_or-places x.position.0 x.line_bases x.line_width (a - 1) (bases_to a e) k m ∙ about.places (a - 1 + k) (omega arith))
 
   -- so the exact read of it gives just those that are asked for
   row_reads : (a e : Bound) (out : List ℕ) → Asked f r p a e out → exact_of (length f) (byte_at f) (held.Row x) a e out ≡ gives_asked f r p a e out

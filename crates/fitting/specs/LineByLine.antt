@@ -10,7 +10,7 @@ use Rattle.lines.specs.Lines.{bases_of, seq_at, first_line, sum_bases, up_from, 
 use Rattle.lines.specs.Laws.{seq_at-next, first-within}
 use Rattle.record.specs.Place.{place_of}
 use Rattle.record.specs.Laws.{place-first}
-use Rattle.record.specs.EvenLines.{length-up_from, get_d-up_from, length-bases_at}
+use Rattle.record.specs.EvenLines.{length-up_from, get_or-up_from, length-bases_at}
 use Rattle.indexer.specs.Rule.{Verdict, good}
 use Rattle.walking.specs.Places.{first_elsewhere}
 use Rattle.walking.specs.PlaceLaws.{first_of, all_there, elsewhere-append}
@@ -131,7 +131,7 @@ run-there p b w =
     all_there (place_of p b w) 0 (up_from p b)
     (λ j m.
     let k : j < b = rw length-up_from at m in
-    get_d-up_from p b j k ∙ rw zero-add (sym (place-first p b w j k)))
+    get_or-up_from p b j k ∙ rw zero-add (sym (place-first p b w j k)))
 
 run-then : (p b w : ℕ) (rest : List ℕ) → first_elsewhere (place_of p b w) 0 (up_from p b ++ rest) ≡ first_elsewhere (place_of p b w) b rest
 run-then p b w rest = elsewhere-append (place_of p b w) 0 (up_from p b) rest ∙ rw (← run-there p b w, length-up_from p b, zero-add b)

@@ -7,7 +7,7 @@ use Rattle.std.proofs.lemmas.Bool.{eqb-false}
 use Rattle.lines.specs.Lines.{chop, bases_of, first_line, sum_widths, up_from, bases_at}
 use Rattle.lines.specs.Laws.{chop-le}
 use Rattle.lines.specs.Sums.{sum-le}
-use Rattle.record.specs.EvenLines.{length-up_from, get_d-up_from, length-bases_at}
+use Rattle.record.specs.EvenLines.{length-up_from, get_or-up_from, length-bases_at}
 use Rattle.fitting.specs.declared.Numbers.{Numbers}
 use Rattle.fitting.specs.Complete.{besides, distance, numbers_for, from_bases, numbers_at}
 use Rattle.fitting.specs.Leads.{beside-le}
@@ -35,7 +35,7 @@ unfolding bases_at sum_widths
 bases-inside at [] j h = absurd (omega arith)
 bases-inside at (l ∷ ls) j h =
     by_part (λ i o. (at ≤ o) × (o < at + (length l + sum_widths ls))) (up_from at (length (bases_of l))) (bases_at (at + length l) ls)
-    (λ i m. rw (get_d-up_from at (length (bases_of l)) i (rw length-up_from at m)) (omega arith, omega (arith, few l, rw length-up_from at m)))
+    (λ i m. rw (get_or-up_from at (length (bases_of l)) i (rw length-up_from at m)) (omega arith, omega (arith, few l, rw length-up_from at m)))
     (λ i m. let q = bases-inside (at + length l) ls i m in (omega (arith, q), omega (arith, q)))
     j h
 
@@ -53,7 +53,7 @@ bases-behind at (l ∷ ls) o os e = go (length (bases_of l)) (few l) e (bases-be
         let b : os ≡ up_from (suc at) n ++ bases_at (at + length l) ls = cc in
         rw (a, b)
         (by_part (λ i x. at < x) (up_from (suc at) n) (bases_at (at + length l) ls)
-        (λ i h. rw (get_d-up_from (suc at) n i (rw length-up_from at h)) (omega arith))
+        (λ i h. rw (get_or-up_from (suc at) n i (rw length-up_from at h)) (omega arith))
         (λ i h. omega (arith, (bases-inside (at + length l) ls i h).0)))
 
 -- ---- the line of the first base

@@ -5,7 +5,6 @@ use Rattle.record.specs.declared.Record.{Record}
 use Rattle.table.specs.declared.Held.TheVariants as held
 use Rattle.table.specs.Rows.{named_at}
 use Rattle.index_line.specs.IndexLine.{name_in}
-use Rattle.index.specs.declared.Found.TheVariants.{Row}
 
 -- row r of a table with n rows in use is sound, and its name, a span of `names`, is `name`; or is another
 pub record Has (names t : List ℕ) (n : ℕ) (name : List ℕ) (r : ℕ) : Type 0 where

@@ -12,7 +12,7 @@ use Rattle.table.specs.declared.Held.{Held}
 use Rattle.table.specs.declared.Held.TheVariants as held
 use Rattle.table.specs.Rows.{named_at}
 use Rattle.index_line.specs.IndexLine.{name_in}
-use Rattle.index.specs.declared.Found.TheVariants.{Row, Refused}
+use Rattle.index.specs.declared.Found.TheVariants.{Row}
 use Rattle.index.specs.Find.{named, judged, row_from}
 use Rattle.index.specs.First.{Has, HasAnother}
 

@@ -1,6 +1,6 @@
 -- Laws of an index text, line by line, and of looking up, row by row.
-use Prim.Native.Nat.{ℕ, zero, suc, ◌+◌, ◌-◌, ◌≤◌, ◌<◌}
-use Rattle.std.specs.Prelude.{◌≡◌, List, [], ◌∷◌, Bool, length, drop, ltb}
+use Prim.Native.Nat.{ℕ, suc, ◌+◌, ◌-◌, ◌≤◌, ◌<◌}
+use Rattle.std.specs.Prelude.{◌≡◌, List, Bool, length, ltb}
 use Rattle.std.proofs.Math.Path.{refl}
 use Rattle.std.proofs.Common.{ap, sym, ◌∙◌, drop_of_length-le, ltb-true, ltb-false}
 use Rattle.std.proofs.Math.Bool.{true, false, cond}
@@ -27,7 +27,7 @@ use Rattle.index.specs.declared.Found.TheVariants as found
 use Rattle.index.specs.declared.Compared.{Compared}
 use Rattle.index.specs.declared.Compared.TheVariants as compared
 use Rattle.index.specs.Index.{row_as, row_at, onwards, lines_say, index_at}
-use Rattle.index.specs.Find.{named, compared_of, judged, row_from, row_named}
+use Rattle.index.specs.Find.{named, compared_of, judged, row_from}
 
 -- ---- line by line
 

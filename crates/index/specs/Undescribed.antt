@@ -1,5 +1,5 @@
 -- Rows read from an index hold 0 and 0 for the description: an index line has none.
-use Rattle.std.specs.Prelude.{ℕ, zero, suc, ◌+◌, ◌<◌, ◌≡◌, refl, List, [], ◌∷◌, Bool, true, false, cond, length, take, drop, get_or, ltb}
+use Rattle.std.specs.Prelude.{ℕ, zero, suc, ◌+◌, ◌<◌, ◌≡◌, refl, List, [], ◌∷◌, Bool, true, false, cond, length, take, get_or, ltb}
 use Rattle.std.proofs.Common.{length-take, get_or-take, arith}
 use Rattle.refusal.specs.Numbers.{over_limit}
 use Rattle.refusal.specs.declared.Refusal.TheVariants.{TooLong, TableFull}
@@ -9,7 +9,7 @@ use Rattle.index_line.specs.IndexLine.{index_line_says}
 use Rattle.index_line.specs.Laws.{line-sound}
 use Rattle.index_line.specs.declared.LineRead.{LineRead}
 use Rattle.index_line.specs.declared.LineRead.TheVariants as read
-use Rattle.table.specs.Fill.{Found, nothing, held_in}
+use Rattle.table.specs.Fill.{nothing, held_in}
 use Rattle.table.specs.declared.Stop.TheVariants.{Refused}
 use Rattle.index.specs.Index.{row_as, onwards, lines_say, index_at, index_in}
 

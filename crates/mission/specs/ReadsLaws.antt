@@ -10,8 +10,8 @@ use Rattle.record.specs.declared.Record.{Record}
 use Rattle.table.specs.declared.Held.TheVariants as held
 use Rattle.record.specs.Place.{place_in}
 use Rattle.record.specs.Bases.{byte_at, bases-bytes}
-use Rattle.record.specs.EvenLines.{length-up_from, get_d-up_from, length-bases_at}
-use Rattle.record.specs.Laws.{length-places, get_d-places}
+use Rattle.record.specs.EvenLines.{length-up_from, get_or-up_from, length-bases_at}
+use Rattle.record.specs.Laws.{length-places, get_or-places}
 use Rattle.region.specs.declared.Bound.{Bound}
 use Rattle.output.specs.declared.Written.TheVariants.{Bytes}
 use Rattle.output.specs.Outcome.{leaves}
@@ -63,7 +63,7 @@ bases-below (l ∷ ls) at j h = go (ltb j n) refl (bases-below ls (at + length l
     go true e r =
         let k : j < length (bases_of l) = ltb-true _ _ e in
         let q : get_or (up_from at (length (bases_of l)) ++ bases_at (at + length l) ls) j 0 ≡ at + j =
-        get_or-append (up_from at (length (bases_of l))) (bases_at (at + length l) ls) 0 j (omega (arith, length-up_from at (length (bases_of l)))) ∙ get_d-up_from at (length (bases_of l)) j k in
+        get_or-append (up_from at (length (bases_of l))) (bases_at (at + length l) ls) 0 j (omega (arith, length-up_from at (length (bases_of l)))) ∙ get_or-up_from at (length (bases_of l)) j k in
         rw q (omega (arith, short))
     go false e r =
         let k : length (bases_of l) ≤ j = ltb-false _ _ e in
@@ -100,7 +100,7 @@ module _ (f : List ℕ) (r : ℕ) (h : r < record_count f) (x : Record) (about :
     bytes =
         bases-part f (sequence_at (groups (lines f)) r) (record_at (groups (lines f)) r).seq (sequence-inside f r h) (sequence-here f r h)
         (offsets_of x a (bases_to a e)) (a - 1) (bases_to a e) (omega arith) (length-places _ _ _ (a - 1) (bases_to a e))
-        (λ k m. get_d-places x.position.0 x.line_bases x.line_width (a - 1) (bases_to a e) k m ∙ about.places (a - 1 + k) (omega arith))
+        (λ k m. get_or-places x.position.0 x.line_bases x.line_width (a - 1) (bases_to a e) k m ∙ about.places (a - 1 + k) (omega arith))
 
   -- so the exact read of it gives just those that are asked for
   pub row_reads : (a e : Bound) (out : List ℕ) → Asked f r a e out → exact_of (length f) (byte_at f) (held.Row x) a e out ≡ gives_asked f r a e out

@@ -6,13 +6,13 @@ use Rattle.std.proofs.Math.ListN.{length, get_or, get_or-append}
 use Rattle.std.proofs.Math.Seq.{get_or-append-add}
 use Rattle.lines.specs.Lines.{bases_of, sum_bases, up_from, bases_at}
 use Rattle.lines.specs.Mending.{BaseOf, first, later}
-use Rattle.record.specs.EvenLines.{length-up_from, get_d-up_from}
+use Rattle.record.specs.EvenLines.{length-up_from, get_or-up_from}
 
 module _ (l : List ℕ) (ls : List (List ℕ)) (at j : ℕ) where
   pub place-in-first : j < length (bases_of l) → get_or (bases_at at (l ∷ ls)) j 0 ≡ at + j
   unfolding bases_at
   place-in-first h =
-      get_or-append (up_from at (length (bases_of l))) (bases_at (at + length l) ls) 0 j (omega (arith, length-up_from at (length (bases_of l)))) ∙ get_d-up_from at (length (bases_of l)) j h
+      get_or-append (up_from at (length (bases_of l))) (bases_at (at + length l) ls) 0 j (omega (arith, length-up_from at (length (bases_of l)))) ∙ get_or-up_from at (length (bases_of l)) j h
 
   pub place-behind : length (bases_of l) ≤ j → get_or (bases_at at (l ∷ ls)) j 0 ≡ get_or (bases_at (at + length l) ls) (j - length (bases_of l)) 0
   unfolding bases_at

@@ -4,7 +4,7 @@ use Rattle.std.proofs.Common.{ap, sym, ◌∙◌, length-append, get_or-append-a
 use Rattle.std.proofs.Math.ListN.{get_or-append}
 use Rattle.lines.specs.Lines.{bases_of, all_bases, sum_bases, up_from, bases_at}
 use Rattle.record.specs.Place.{place_of, places_from}
-use Rattle.record.specs.Laws.{place-first, place-row, length-places, get_d-places}
+use Rattle.record.specs.Laws.{place-first, place-row, length-places, get_or-places}
 
 -- some lines are even: each but the last has b bases and w bytes, and the last at most b bases; lines without a base may follow
 pub data EvenLines (b w : ℕ) : List (List ℕ) → Type 0 where
@@ -20,11 +20,11 @@ unfolding up_from
 length-up_from o zero = refl
 length-up_from o (suc n) = ap suc (length-up_from (suc o) n)
 
-pub get_d-up_from : (o n i : ℕ) → i < n → get_or (up_from o n) i 0 ≡ o + i
+pub get_or-up_from : (o n i : ℕ) → i < n → get_or (up_from o n) i 0 ≡ o + i
 unfolding up_from
-get_d-up_from o zero i h = absurd (omega arith)
-get_d-up_from o (suc n) zero h = omega arith
-get_d-up_from o (suc n) (suc i) h = omega (arith, get_d-up_from (suc o) n i (omega arith))
+get_or-up_from o zero i h = absurd (omega arith)
+get_or-up_from o (suc n) zero h = omega arith
+get_or-up_from o (suc n) (suc i) h = omega (arith, get_or-up_from (suc o) n i (omega arith))
 
 -- an offset for each base
 pub length-bases_at : (at : ℕ) (ls : List (List ℕ)) → length (bases_at at ls) ≡ sum_bases ls
@@ -42,7 +42,7 @@ length-all_bases (l ∷ ls) = rw (length-append, length-all_bases ls)
 -- the bases of a first line that has at most b
 first-place : (p b w n i : ℕ) (rest : List ℕ) → n ≤ b → i < n → get_or (up_from p n ++ rest) i 0 ≡ place_of p b w i
 first-place p b w n i rest h k =
-    get_or-append (up_from p n) rest 0 i (omega (arith, length-up_from p n)) ∙ get_d-up_from p n i k ∙ sym (place-first p b w i (omega arith))
+    get_or-append (up_from p n) rest 0 i (omega (arith, length-up_from p n)) ∙ get_or-up_from p n i k ∙ sym (place-first p b w i (omega arith))
 
 -- and those of what is behind a line that has b
 behind-place : (p b w i : ℕ) (rest : List ℕ) (n : ℕ) → 0 < b → n ≡ b → i < n + length rest
@@ -76,4 +76,4 @@ even_place b w z p (l ∷ ls) (more k e r) i h =
 pub even-places : (b w : ℕ) → 0 < b → (p : ℕ) (ls : List (List ℕ)) → EvenLines b w ls → bases_at p ls ≡ places_from p b w 0 (sum_bases ls)
 even-places b w z p ls e =
     ext_get_or 0 (bases_at p ls) (places_from p b w 0 (sum_bases ls)) (length-bases_at p ls ∙ sym (length-places p b w 0 (sum_bases ls)))
-    (λ i h. even_place b w z p ls e i h ∙ sym (get_d-places p b w 0 (sum_bases ls) i (omega (arith, length-bases_at p ls)) ∙ ap (place_of p b w) (zero-add i)))
+    (λ i h. even_place b w z p ls e i h ∙ sym (get_or-places p b w 0 (sum_bases ls) i (omega (arith, length-bases_at p ls)) ∙ ap (place_of p b w) (zero-add i)))

@@ -77,11 +77,11 @@ module _ (p b w : ℕ) where
   length-places i zero = refl
   length-places i (suc n) = ap suc (length-places (suc i) n)
 
-  pub get_d-places : (i n k : ℕ) → k < n → get_or (places_from p b w i n) k 0 ≡ place_of p b w (i + k)
+  pub get_or-places : (i n k : ℕ) → k < n → get_or (places_from p b w i n) k 0 ≡ place_of p b w (i + k)
   unfolding places_from
-  get_d-places i zero k h = absurd (omega arith)
-  get_d-places i (suc n) zero h = ap (place_of p b w) (sym (add-zero i))
-  get_d-places i (suc n) (suc k) h = get_d-places (suc i) n k (omega arith) ∙ ap (place_of p b w) q
+  get_or-places i zero k h = absurd (omega arith)
+  get_or-places i (suc n) zero h = ap (place_of p b w) (sym (add-zero i))
+  get_or-places i (suc n) (suc k) h = get_or-places (suc i) n k (omega arith) ∙ ap (place_of p b w) q
     where
       q : suc i + k ≡ i + suc k
       q = omega arith

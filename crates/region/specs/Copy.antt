@@ -9,7 +9,7 @@ use Rattle.std.proofs.Math.Nat.{sub-zero, add_assoc}
 use Rattle.lines.specs.Lines.{up_from}
 use Rattle.record.specs.declared.Record.{Record}
 use Rattle.record.specs.Place.{place_of, place_in}
-use Rattle.record.specs.Laws.{place-wrap, place-run, run-mod, wrap-mod, get_d-places}
+use Rattle.record.specs.Laws.{place-wrap, place-run, run-mod, wrap-mod, get_or-places}
 use Rattle.record.specs.EvenLines.{length-up_from}
 use Rattle.record.specs.Bases.{byte_at, bytes-row}
 use Rattle.region.specs.Exact.{offsets_of, in_file}
@@ -147,7 +147,7 @@ lined-start f s x a n before at run t =
 pub starts-fits : (bytes : ℕ) (x : Record) (a n : ℕ) → Addressable x a n → n ≤ in_file bytes (offsets_of x a n) → place_in x (a - 1) < bytes
 starts-fits bytes x a n r h =
     let k : get_or (offsets_of x a n) 0 0 < bytes = inside-each bytes (offsets_of x a n) (omega (arith, length-offsets x a n)) 0 (omega (arith, length-offsets x a n, r.some)) in
-    let p : get_or (offsets_of x a n) 0 0 ≡ place_in x (a - 1 + 0) = get_d-places x.position.0 x.line_bases x.line_width (a - 1) n 0 r.some in
+    let p : get_or (offsets_of x a n) 0 0 ≡ place_in x (a - 1 + 0) = get_or-places x.position.0 x.line_bases x.line_width (a - 1) n 0 r.some in
     rw (p, add-zero (a - 1)) at k
 
 module _ (f : ℕ) (s : List ℕ) (x : Record) (a n : ℕ) (before : List ℕ) (r : Addressable x a n) (i : LieIn f (f + length s) x a n) where

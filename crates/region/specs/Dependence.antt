@@ -12,7 +12,7 @@ use Rattle.record.specs.declared.Record.{Record}
 use Rattle.table.specs.declared.Held.{Held}
 use Rattle.table.specs.declared.Held.TheVariants as held
 use Rattle.record.specs.Place.{place_in}
-use Rattle.record.specs.Laws.{get_d-places}
+use Rattle.record.specs.Laws.{get_or-places}
 use Rattle.region.specs.declared.Bound.{Bound}
 use Rattle.region.specs.declared.Bound.TheVariants.{Given}
 use Rattle.output.specs.declared.Written.TheVariants.{Bytes, Refused}
@@ -32,7 +32,7 @@ map_same f g (o ∷ os) h = let r : map f os ≡ map g os = map_same f g os (λ 
 -- the offsets of a region are those of its bases
 module _ (x : Record) (a e : ℕ) (z : 0 < a) (l : a ≤ e) where
   pub offset_at : (k : ℕ) → k < bases_to a e → get_or (offsets_of x a (bases_to a e)) k 0 ≡ place_in x (a + k - 1)
-  offset_at k h = get_d-places x.position.0 x.line_bases x.line_width (a - 1) (bases_to a e) k h ∙ ap (place_in x) q
+  offset_at k h = get_or-places x.position.0 x.line_bases x.line_width (a - 1) (bases_to a e) k h ∙ ap (place_in x) q
     where
       q : a - 1 + k ≡ a + k - 1
       q = omega arith

@@ -14,7 +14,7 @@ use Rattle.std.proofs.Math.Nat.{sub-zero}
 use Rattle.lines.specs.Lines.{up_from}
 use Rattle.record.specs.declared.Record.{Record}
 use Rattle.record.specs.Place.{place_of, places_from, place_in}
-use Rattle.record.specs.Laws.{place-next, place-wrap, next-mod, length-places, get_d-places}
+use Rattle.record.specs.Laws.{place-next, place-wrap, next-mod, length-places, get_or-places}
 use Rattle.record.specs.EvenLines.{length-up_from}
 use Rattle.region.specs.Exact.{offsets_of, in_file}
 
@@ -207,7 +207,7 @@ last-all bytes x a n l r e h m = omega (arith, inside-le bytes (offsets_of x a n
     each k q =
         let f : k < n = rw (length-offsets x a n) at q in
         let s : a - 1 + k + (n - 1 - k) ≡ l - 1 = omega (arith, r.from_one) in
-        rw (get_d-places x.position.0 x.line_bases x.line_width (a - 1) n k f)
+        rw (get_or-places x.position.0 x.line_bases x.line_width (a - 1) n k f)
         (omega (arith, rises_by x.position.0 x.line_bases x.line_width r.some-bases h (a - 1 + k) (n - 1 - k), ap (place_in x) s))
 
 -- as many as there are: all

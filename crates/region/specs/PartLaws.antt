@@ -14,7 +14,7 @@ use Rattle.std.proofs.Math.Nat.{mod-lt, div-add-mod'}
 use Rattle.std.proofs.Math.Arith.{digits_mod}
 use Rattle.record.specs.declared.Record.{Record}
 use Rattle.record.specs.Place.{place_of, places_from, place_in}
-use Rattle.record.specs.Laws.{place-run, get_d-places}
+use Rattle.record.specs.Laws.{place-run, get_or-places}
 use Rattle.region.specs.Exact.{offsets_of, in_file}
 use Rattle.region.specs.Inside.{length-offsets, Addressable}
 use Rattle.region.specs.Copy.{wrap-column}
@@ -129,7 +129,7 @@ part-fewer f t p b w i (suc m) (suc n) h = go (is_in f t (place_of p b w i)) (pa
 
 module _ (x : Record) (a n : ℕ) (z : 0 < a) where
   pub base-offset : (k : ℕ) → k < n → get_or (offsets_of x a n) k 0 ≡ place_in x (a + k - 1)
-  base-offset k h = get_d-places x.position.0 x.line_bases x.line_width (a - 1) n k h ∙ ap (place_in x) q
+  base-offset k h = get_or-places x.position.0 x.line_bases x.line_width (a - 1) n k h ∙ ap (place_in x) q
     where
       q : a - 1 + k ≡ a + k - 1
       q = omega arith

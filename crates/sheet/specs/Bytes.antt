@@ -83,11 +83,11 @@ unfolding regions_from
 length_from t i zero = refl
 length_from t i (suc n) = ap suc (length_from t (suc i) n)
 
-get_d-from : (t : List ℕ) (i n k : ℕ) (d : Region) → k < n → get_or (regions_from t i n) k d ≡ region_of t ((i + k) * region_words)
+get_or-from : (t : List ℕ) (i n k : ℕ) (d : Region) → k < n → get_or (regions_from t i n) k d ≡ region_of t ((i + k) * region_words)
 unfolding regions_from
-get_d-from t i zero k d h = absurd (omega arith)
-get_d-from t i (suc n) zero d h = rw (add-zero i)
-get_d-from t i (suc n) (suc k) d h = get_d-from t (suc i) n k d (omega arith) ∙ ap (λ (m : ℕ). region_of t (m * region_words)) q
+get_or-from t i zero k d h = absurd (omega arith)
+get_or-from t i (suc n) zero d h = rw (add-zero i)
+get_or-from t i (suc n) (suc k) d h = get_or-from t (suc i) n k d (omega arith) ∙ ap (λ (m : ℕ). region_of t (m * region_words)) q
   where
     q : suc i + k ≡ i + suc k
     q = omega arith
@@ -104,7 +104,7 @@ module _ (bs : List ℕ) where
 
     pub region-here : (d : Region) → region_of (numbers_in bs) (i * region_words) ≡ get_or (regions_in bs) i d
     unfolding regions_in
-    region-here d = sym (get_d-from (numbers_in bs) 0 (length (numbers_in bs) / region_words) i d (rw (length_from (numbers_in bs) 0 (length (numbers_in bs) / region_words)) at h) ∙ ap (λ (m : ℕ). region_of (numbers_in bs) (m * region_words)) q)
+    region-here d = sym (get_or-from (numbers_in bs) 0 (length (numbers_in bs) / region_words) i d (rw (length_from (numbers_in bs) 0 (length (numbers_in bs) / region_words)) at h) ∙ ap (λ (m : ℕ). region_of (numbers_in bs) (m * region_words)) q)
       where
         q : 0 + i ≡ i
         q = omega arith

@@ -12,7 +12,7 @@ use Rattle.lines.specs.Lines.{part, line_end, chop, bases_of, seq_at, none, sum_
 use Rattle.lines.specs.Laws.{no-line, some-line, some-here, part_length, line_end-le, line_end-gt, chop-le}
 use Rattle.record.specs.Place.{place_of}
 use Rattle.record.specs.Laws.{run-div, run-mod, place-run, place-first, place-line}
-use Rattle.record.specs.EvenLines.{length-up_from, get_d-up_from, length-bases_at}
+use Rattle.record.specs.EvenLines.{length-up_from, get_or-up_from, length-bases_at}
 use Rattle.record.specs.declared.Position.{Position}
 use Rattle.record.specs.declared.Offset.{Offset}
 use Rattle.walking.specs.Places.{first_elsewhere, walked_as}
@@ -114,7 +114,7 @@ module _ (p b w i o k : ℕ) where
   module _ (h : o ≡ place_of p b w i) where
     -- and so are those behind it in its stride
     in-stride : (m j : ℕ) → i % b + m ≤ b → j < m → j < k → get_or (up_from o k) j 0 ≡ place_of p b w (i + j)
-    in-stride m j r l n = get_d-up_from o k j n ∙ rw h (sym (place-run p b w i j (omega arith)))
+    in-stride m j r l n = get_or-up_from o k j n ∙ rw h (sym (place-run p b w i j (omega arith)))
 
     line-there : i % b + k ≤ b → There ≡ first_elsewhere (place_of p b w) i (up_from o k)
     line-there r = all_there (place_of p b w) i (up_from o k) (λ j m. in-stride k j r (rw length-up_from at m) (rw length-up_from at m))
@@ -122,14 +122,14 @@ module _ (p b w i o k : ℕ) where
     -- but not the first of the next stride
     line-crosses : 0 < b → (w ≡ b → ⊥) → b - i % b < k → Elsewhere (record { 0 = suc (i + (b - i % b)) }) (record { 0 = o + (b - i % b) }) ≡ first_elsewhere (place_of p b w) i (up_from o k)
     line-crosses z n r =
-        rw (get_d-up_from o k (b - i % b) r) at
+        rw (get_or-up_from o k (b - i % b) r) at
         (first-elsewhere (place_of p b w) i (b - i % b) (up_from o k) (rw length-up_from r)
         (λ j m. in-stride (b - i % b) j (omega (arith, mod-lt i z)) m (omega arith))
-        (λ e. n (omega (arith, e, get_d-up_from o k (b - i % b) r, end-place b i z p w, mod-lt i z))))
+        (λ e. n (omega (arith, e, get_or-up_from o k (b - i % b) r, end-place b i z p w, mod-lt i z))))
 
   line-elsewhere : 0 < k → (o ≡ place_of p b w i → ⊥) → Elsewhere (record { 0 = suc i }) (record { 0 = o }) ≡ first_elsewhere (place_of p b w) i (up_from o k)
   line-elsewhere z h =
-      rw (add-zero i, get_d-up_from o k 0 z, add-zero o) at (first-elsewhere (place_of p b w) i 0 (up_from o k) (rw length-up_from z) (λ j m. absurd (omega arith)) (λ e. h (sym (add-zero o) ∙ sym (get_d-up_from o k 0 z) ∙ e ∙ ap (place_of p b w) (add-zero i))))
+      rw (add-zero i, get_or-up_from o k 0 z, add-zero o) at (first-elsewhere (place_of p b w) i 0 (up_from o k) (rw length-up_from z) (λ j m. absurd (omega arith)) (λ e. h (sym (add-zero o) ∙ sym (get_or-up_from o k 0 z) ∙ e ∙ ap (place_of p b w) (add-zero i))))
 
 -- beside the stride of the first base
 module _ (stride : Stride) (b i : ℕ) (at : Offset) (k : ℕ) where
