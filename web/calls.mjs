@@ -1,7 +1,7 @@
-// The calls as include/wakeluri.h declares them: what each takes and what its answer tells. The page, `ask.mjs` and the linker go by it, so
-// that a new entry point of the header needs no second list here.
+// The calls as include/wakeluri.h declares them: what each takes and what its answer tells. The page and `ask.mjs` go by it, so that
+// a new entry point of the header needs no second list here.
 //
-// calls.mjs HEADER: their names, as the linker's words. Imported: `calls(text)`.
+// calls.mjs HEADER MODULE: fails where the module lacks one of them, or imports anything. Imported: `calls(text)`.
 //
 //   "find": { takes: ["bytes", "bytes", "number", "bytes"], tells: ["refusal", "first", "second", "count", "next"] }
 //
@@ -46,5 +46,10 @@ export function calls(header) {
 }
 
 if (argv[1] && import.meta.url === pathToFileURL(argv[1]).href) {
-    console.log(Object.keys(calls(readFileSync(argv[2], "utf8"))).map((name) => `--export=wakeluri_${name}`).join(" "));
+    const module = new WebAssembly.Module(readFileSync(argv[3]));
+    const has = new Set(WebAssembly.Module.exports(module).map((given) => given.name));
+    for (const name of Object.keys(calls(readFileSync(argv[2], "utf8")))) {
+        if (!has.has(`wakeluri_${name}`)) throw new Error(`${argv[3]} has no wakeluri_${name}`);
+    }
+    if (WebAssembly.Module.imports(module).length > 0) throw new Error(`${argv[3]} imports something`);
 }

@@ -29,7 +29,8 @@ fn repository(test: &str) -> Folder {
         &folder,
         "top/tools/dev.d/staticlib",
         &format!(
-            "for n in 1 2 3 4; do echo \"fn a::f$n: proved\"; done; echo 'rt: a proved (2 s)'; echo 'rt: b proved (unchanged since it was last proved)'\n\
+            "for n in 1 2 3 4; do echo \"fn a::f$n: proved\"; done; echo 'crate a: modules loaded=0 checked=9'; echo 'logic=proved functions=4'\n\
+         echo 'crate b: modules loaded=9 checked=0'; echo 'logic=proved functions=4'\n\
          echo noise >&2; cd \"$(dirname \"$0\")/../..\"; [ ! -e fails ] || exit 1; mkdir -p \"$(dirname \"{library}\")\" && : >\"{library}\""
         ),
     );
@@ -104,7 +105,7 @@ fn a_line_for_each_crate_and_a_log() {
     assert_eq!(lines.len(), 5, "{told:?}");
     assert!(lines[0].contains("this takes some seven minutes, once"), "{told:?}");
     assert!(lines[1].contains("the whole log is in") && lines[1].ends_with("/top/target/first-use.log"), "{told:?}");
-    assert_eq!(lines[2..4], ["  a proved (2 s)", "  b proved (as before)"]);
+    assert_eq!(lines[2..4], ["  a proved", "  b proved (as before)"]);
     let log = String::from_utf8(folder.read("top/target/first-use.log")).unwrap();
     assert!(log.contains("fn a::f4: proved") && log.contains("noise"), "{log}");
     // once
