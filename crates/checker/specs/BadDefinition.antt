@@ -1,7 +1,7 @@
 -- What the checker tells of a definition line that does not read: the record, and the offset at which reading failed. Both belong to the first
 -- record that is wrong. `bad-told`: if such a line is the first fault, the answer is its refusal. `told-bad`: an answer 2, 3 or 4 means that.
 use Rattle.std.specs.Prelude.{ℕ, suc, ◌+◌, ◌≤◌, ◌<◌, ◌≡◌, List, length}
-use Rattle.std.proofs.Common.{◌∙◌, ap, arith}
+use Rattle.std.proofs.Common.{arith}
 use Rattle.refusal.specs.Numbers.{numbers_of}
 use Rattle.refusal.specs.declared.Refusal.{Refusal}
 use Rattle.lines.specs.Lines.{lines}

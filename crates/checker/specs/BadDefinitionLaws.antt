@@ -13,7 +13,6 @@ use Rattle.index_line.specs.IndexLine.{fields_of, entry_read, fields_say, plain_
 use Rattle.index_line.specs.IndexLine as index
 use Rattle.columns.specs.declared.Number.{Number}
 use Rattle.columns.specs.declared.Number.TheVariants.{Value, Bad}
-use Rattle.index_line.specs.declared.LineRead.{LineRead}
 use Rattle.index_line.specs.declared.LineRead.TheVariants as read
 use Rattle.columns.specs.declared.fields.FieldRead.{FieldRead}
 use Rattle.columns.specs.declared.fields.FieldRead.TheVariants as field

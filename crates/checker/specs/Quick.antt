@@ -1,21 +1,20 @@
 -- A record that its index line describes, told by what the fast way finds: the line as it is written, the name where it stands, and even lines.
-use Rattle.std.specs.Prelude.{ℕ, zero, suc, ◌+◌, ◌-◌, ◌≤◌, ◌<◌, ◌≡◌, refl, List, [], ◌∷◌, Bool, true, false, cond, not, ◌&&◌, ◌||◌, length, drop, get_or, eqb, ltb}
-use Rattle.std.proofs.Common.{ap, subst, ◌∙◌, true≢false, length-drop, drop-cons, get_or-drop, get_or-take, length-take-le, ext_get_or, eq-eqb, ne_eqb, eqb-true, ltb-true, ltb-false, arith, add-one, add-zero}
+use Rattle.std.specs.Prelude.{ℕ, zero, suc, ◌+◌, ◌-◌, ◌≤◌, ◌<◌, ◌≡◌, refl, List, [], ◌∷◌, Bool, true, false, cond, ◌&&◌, ◌||◌, length, drop, get_or, eqb, ltb}
+use Rattle.std.proofs.Common.{ap, subst, ◌∙◌, true≢false, length-drop, drop-cons, get_or-drop, get_or-take, length-take-le, ext_get_or, eq-eqb, ne_eqb, eqb-true, ltb-true, ltb-false, arith, add-zero}
 use Rattle.std.proofs.Math.Path.{sym}
 use Rattle.std.proofs.Math.ListN.{take}
 use Rattle.std.proofs.Math.Seq.{take-take}
 use Rattle.std.proofs.lemmas.Bool.{eqb-false}
-use Rattle.lines.specs.Lines.{part, line_len, line_end, chop, ends, content_of, seq_at, sum_widths}
+use Rattle.lines.specs.Lines.{part, line_len, line_end, chop, ends, content_of, seq_at}
 use Rattle.lines.specs.Laws.{part_length, line_end-le}
 use Rattle.lines.specs.Same.{same_bytes, same_refl}
 use Rattle.definition.specs.Definition.{is_space, spaced, run, trim, described, content_says, definition_says}
 use Rattle.definition.specs.declared.Definition.{Definition}
 use Rattle.definition.specs.declared.Parsed.TheVariants.{Named}
-use Rattle.lines.specs.declared.Span.{Span}
 use Rattle.record.specs.Place.{place_in}
 use Rattle.record.specs.declared.Record.{Record}
 use Rattle.columns.specs.Standing.{LineAt}
-use Rattle.index_line.specs.IndexLine.{record_of, name_in, index_line_says}
+use Rattle.index_line.specs.IndexLine.{record_of, name_in}
 use Rattle.index_line.specs.Standing.{standing-says}
 use Rattle.index_line.specs.Laws.{line-sound}
 use Rattle.index_line.specs.declared.Entry.{Entry}
@@ -23,8 +22,8 @@ use Rattle.walking.specs.Places.{walked_as}
 use Rattle.walking.specs.Even.{EvenTo}
 use Rattle.walking.specs.declared.Placed.TheVariants.{There}
 use Rattle.walking.specs.declared.Walked.{Walked}
-use Rattle.checker.specs.Check.{span_of, record_says}
-use Rattle.checker.specs.Steps.{group_of, only_line, behind_at, judged_as, check_at, step_of, Moved, check-next, judged-there, judged-same, judged-row, judged-named, stepped-next}
+use Rattle.checker.specs.Check.{span_of}
+use Rattle.checker.specs.Steps.{group_of, only_line, behind_at, check_at, step_of, Moved, check-next, judged-there, judged-same, judged-row, judged-named, stepped-next}
 use Rattle.checker.specs.declared.Judged.TheVariants as judged
 use Rattle.checker.specs.declared.Place.{Place}
 use Rattle.checker.specs.declared.Step.TheVariants as step

@@ -1,5 +1,5 @@
 -- The bits in which the letters of a pair differ, and that a base with those of its pair flipped is its partner.
-use Rattle.std.specs.Prelude.{ℕ, ◌+◌, ◌≤◌, ◌≡◌, refl, Bool, true, false, cond, ◌||◌, eqb}
+use Rattle.std.specs.Prelude.{ℕ, ◌+◌, ◌≤◌, ◌≡◌, true, false, cond, ◌||◌, eqb}
 use Prim.Native.Char.{code}
 use Rattle.std.specs.Int.Bits.{bit_or, bit_xor}
 use Rattle.std.proofs.Common.{eqb→eq, arith}

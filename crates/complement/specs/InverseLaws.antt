@@ -1,5 +1,5 @@
 -- Laws for Inverse.antt: a second pairing of letters undoes the first, except for U.
-use Rattle.std.specs.Prelude.{ℕ, suc, ◌≡◌, refl, ◌↔◌, Bool, true, false, not, T, eqb}
+use Rattle.std.specs.Prelude.{ℕ, suc, ◌≡◌, refl, ◌↔◌, Bool, true, false, not, eqb}
 use Prim.Native.Char.{code}
 use Rattle.std.proofs.Common.{ap, ◌∙◌, eqb→eq, ne_eqb, arith}
 use mathlib.Core.List.{List, [], ◌∷◌, ◌++◌, map, reverse_aux, cons≢nil}

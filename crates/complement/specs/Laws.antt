@@ -1,6 +1,6 @@
 -- Laws of the complement: of the bytes that have none, of the writing, and of a call's answer.
 use Rattle.std.specs.Prelude.{ℕ, suc, ◌+◌, ◌≤◌, ◌<◌, ◌≡◌, refl, eqb, length, take, drop, get_or, set}
-use Rattle.std.proofs.Common.{sym, ◌∙◌, length-set, length-append, length-drop, drop_of_length-le, drop-cons, take_all, eq-eqb, ne_eqb, arith, add-one, add-zero, suc-add, add-suc}
+use Rattle.std.proofs.Common.{◌∙◌, length-set, length-append, length-drop, drop_of_length-le, drop-cons, take_all, eq-eqb, ne_eqb, arith, add-one, add-zero, suc-add, add-suc}
 use mathlib.Core.List.{List, [], ◌∷◌, ◌++◌, map, reverse, append-nil, append_assoc, reverse-append, reverse-cons, map-append}
 use Rattle.std.proofs.lemmas.List.{length-map, length-reverse, set_at}
 use Rattle.std.proofs.Math.Seq.{drop-length, take-suc, length-take-le, append_snoc}

@@ -1,5 +1,5 @@
 -- Bases with T in the place of U, and bases without a U.
-use Rattle.std.specs.Prelude.{ℕ, ◌≡◌, cond, List, [], ◌∷◌, T, eqb}
+use Rattle.std.specs.Prelude.{ℕ, ◌≡◌, cond, List, [], ◌∷◌, eqb}
 use Prim.Native.Char.{code}
 
 -- a base, with T in the place of U

@@ -1,7 +1,7 @@
 -- An exercise is refused exactly with its first fault, and reads exactly if it has none; then it says what its four fields hold. FirstFault.antt says
 -- what each is.
 use Prim.Native.Nat.{ℕ, zero, suc, ◌+◌, ◌≤◌, ◌<◌}
-use Rattle.std.specs.Prelude.{◌≡◌, refl, Bool, true, false, cond, List, ◌⊎◌, eqb, ltb, drop}
+use Rattle.std.specs.Prelude.{◌≡◌, refl, Bool, true, false, List, ◌⊎◌, eqb, ltb, drop}
 use Rattle.std.proofs.Common.{sym, ap, ◌∙◌, inl, inr, arith, eq-eqb, ne_eqb, eqb-true, ltb-true, ltb-false, lt-ltb, le-ltb}
 use Rattle.std.proofs.Math.ListN.{length}
 use Rattle.std.proofs.lemmas.Bool.{eqb-false}
@@ -10,7 +10,7 @@ use Rattle.refusal.specs.declared.Refusal.{Refusal}
 use Rattle.refusal.specs.declared.Refusal.TheVariants.{TooLong, MalformedExercise}
 use Rattle.exercise.specs.Reading.{begun, ended, walk, says_from, read_as}
 use Rattle.exercise.specs.Laws.{walk_end, step-stop, step-pass}
-use Rattle.exercise.specs.FirstFault.{field_at, tag_of, size_of, Four, Stands, Good, FieldFault, limit, FirstFault, Faultless, Says}
+use Rattle.exercise.specs.FirstFault.{field_at, tag_of, size_of, Four, Stands, Good, limit, FirstFault, Faultless, Says}
 use Rattle.exercise.specs.FirstFault.FirstFault.{long, wrong-field, missing}
 use Rattle.exercise.specs.Turns.{Known, stood, not_yet, split}
 use Rattle.exercise.specs.Judging.{FieldSaid, judged_at, field-said, good-passed, wrong-refused}
@@ -19,7 +19,7 @@ use Rattle.exercise.specs.declared.Exercise.{Exercise}
 use Rattle.exercise.specs.declared.ExerciseRead.TheVariants as read
 use Rattle.exercise.specs.declared.Kept.{Kept}
 use Rattle.exercise.specs.declared.Judged.{Judged}
-use Rattle.exercise.specs.declared.Judged.TheVariants.{Next, Refused}
+use Rattle.exercise.specs.declared.Judged.TheVariants.{Next}
 
 module _ (newest : ℕ) (s : List ℕ) where
   -- ---- over good fields

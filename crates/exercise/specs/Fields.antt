@@ -1,13 +1,13 @@
 -- Fields one after another: what is written reads back, and a field that is passed over changes nothing.
-use Rattle.std.specs.Prelude.{ℕ, zero, suc, ◌+◌, ◌-◌, ◌*◌, ◌/◌, ◌%◌, ◌^◌, ◌≤◌, ◌<◌, ◌≡◌, Bool, true, false, cond, not, ◌&&◌, List, [], ◌∷◌, ◌++◌, eqb, ltb, get_or, take, drop}
+use Rattle.std.specs.Prelude.{ℕ, zero, suc, ◌+◌, ◌*◌, ◌/◌, ◌%◌, ◌^◌, ◌≤◌, ◌<◌, ◌≡◌, Bool, true, false, cond, List, [], ◌∷◌, ◌++◌, eqb, ltb, get_or, take, drop}
 use Rattle.std.proofs.Math.Path.{refl}
-use Rattle.std.proofs.Common.{sym, ap, ◌∙◌, append_assoc, append-nil, arith, add-zero, suc-add, take_at, drop_at}
+use Rattle.std.proofs.Common.{sym, ap, ◌∙◌, append_assoc, arith, add-zero, suc-add}
 use Rattle.std.proofs.Math.ListN.{length, length-append}
 use Rattle.std.proofs.Math.Seq.{take-append_seam, drop-append_seam}
-use borrow.Author.Tests.{lt-ltb, le-ltb, eqb-true, ne_eqb}
+use borrow.Author.Tests.{lt-ltb, le-ltb, ne_eqb}
 use Rattle.exercise.specs.Numbers.{big_from, big_bytes, length-big_bytes, big-back}
 use Rattle.exercise.specs.Reading.{known_to, bad, name_field, start_field, end_field, edition_field, valued, sized, judge, ended, begun, kept_by, length_by, unless, walk, says_from}
-use Rattle.exercise.specs.Writing.{name_head, number_field, edition_bytes, text_of}
+use Rattle.exercise.specs.Writing.{number_field, edition_bytes, text_of}
 use Rattle.exercise.specs.Laws.{walk-pass, walk-stop, valued-length}
 use Rattle.refusal.specs.declared.Refusal.{Refusal}
 use Rattle.refusal.specs.declared.Refusal.TheVariants as refused

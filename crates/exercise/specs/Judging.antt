@@ -1,15 +1,14 @@
 -- The reader judges a field as FirstFault.antt does: it passes a good one, and refuses a wrong one with its fault.
-use Prim.Native.Nat.{ℕ, zero, suc, ◌+◌, ◌-◌, ◌*◌, ◌≤◌, ◌<◌}
-use Rattle.std.specs.Prelude.{◌≡◌, Bool, cond, List, eqb, length, take, drop, get_or}
+use Prim.Native.Nat.{ℕ, zero, suc, ◌+◌, ◌-◌, ◌≤◌, ◌<◌}
+use Rattle.std.specs.Prelude.{◌≡◌, Bool, cond, List, eqb, length, drop, get_or}
 use Rattle.std.proofs.Math.Path.{refl, sym}
-use Rattle.std.proofs.Common.{ap, ◌∙◌, true≢false}
+use Rattle.std.proofs.Common.{◌∙◌, true≢false}
 use Rattle.std.proofs.Math.Bool.{true, false}
 use native.Mathlib.Omega.{arith}
 use Rattle.std.proofs.Math.Dec.{ltb}
-use borrow.Author.Tests.{eq-eqb, ne_eqb, eqb-true, eqb-false, ltb-true, ltb-false}
+use borrow.Author.Tests.{ne_eqb, eqb-true, eqb-false, ltb-true, ltb-false}
 use Rattle.refusal.specs.declared.Refusal.{Refusal}
-use Rattle.refusal.specs.declared.Refusal.TheVariants.{MalformedExercise, UnknownNeededTag, UnknownEdition}
-use Rattle.exercise.specs.Numbers.{big_from}
+use Rattle.refusal.specs.declared.Refusal.TheVariants.{MalformedExercise, UnknownEdition}
 use Rattle.exercise.specs.Reading.{known_to, bad, name_field, start_field, end_field, edition_field, valued, judge}
 use Rattle.exercise.specs.Laws.{judge-needed, judge-short, judge-cut, judge-whole}
 use Rattle.exercise.specs.FirstFault.{field_at, tag_of, size_of, value_of, Four, InTurn, RightSize, Good, FieldFault}

@@ -1,8 +1,7 @@
 -- Numbers as bytes, high byte first.
-use Rattle.std.specs.Prelude.{ℕ, zero, suc, ◌+◌, ◌-◌, ◌*◌, ◌/◌, ◌%◌, ◌^◌, ◌≤◌, ◌<◌, ◌≡◌, refl, List, [], ◌∷◌, ◌++◌, length, get_or, take, drop, set}
-use Rattle.std.proofs.Common.{sym, ap, ◌∙◌, append_assoc, arith, add-one, pow-suc, div-lt_iff_lt-mul, lt_of_lt_of_le, lit<, length-append, length-set, drop_of_length-le, drop-cons}
+use Rattle.std.specs.Prelude.{ℕ, zero, suc, ◌+◌, ◌*◌, ◌/◌, ◌%◌, ◌^◌, ◌≤◌, ◌<◌, ◌≡◌, refl, List, [], ◌∷◌, ◌++◌, length, get_or, drop, set}
+use Rattle.std.proofs.Common.{ap, ◌∙◌, append_assoc, arith, add-one, pow-suc, div-lt_iff_lt-mul, lt_of_lt_of_le, lit<, length-append, drop_of_length-le, drop-cons}
 use Rattle.std.proofs.Math.Nat.{pow-le-pow_right}
-use Rattle.std.proofs.Math.Seq.{drop-length}
 
 -- a number, and bytes behind it
 unfoldable pub big_from : ℕ → List ℕ → ℕ

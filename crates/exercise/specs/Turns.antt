@@ -1,8 +1,7 @@
 -- What the reader holds behind the first r fields, all of them good: the tag wanted next is the first of the four that has not stood, and what is
 -- kept is in the fields. So a field is in its turn exactly if its tag is the wanted one.
-use Rattle.std.specs.Prelude.{ℕ, zero, suc, ◌+◌, ◌-◌, ◌*◌, ◌≤◌, ◌<◌, ◌≡◌, refl, Bool, true, false, cond, List, ◌⊎◌, eqb, ltb, length, take, drop, get_or}
-use Rattle.std.proofs.Common.{sym, ap, ◌∙◌, inl, inr, arith, eqb-true, ltb-true, ltb-false}
-use Rattle.std.proofs.lemmas.Bool.{eqb-false}
+use Rattle.std.specs.Prelude.{ℕ, zero, suc, ◌+◌, ◌≤◌, ◌<◌, ◌≡◌, refl, Bool, true, false, List, ◌⊎◌, ltb, get_or}
+use Rattle.std.proofs.Common.{inl, inr, arith, ltb-true, ltb-false}
 use Rattle.exercise.specs.Numbers.{big_from}
 use Rattle.exercise.specs.FirstFault.{field_at, tag_of, size_of, value_of, Four, Stands, InTurn}
 use Rattle.exercise.specs.declared.Kept.{Kept}

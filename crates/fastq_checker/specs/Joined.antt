@@ -39,10 +39,8 @@ use Rattle.fastq_checker.specs.WalkLaws.{step_end, check-on, check-over, check-s
 use Rattle.fastq_checker.specs.Part.{on_before, walked_by, walked, reached_at, part_checked}
 use Rattle.fastq_checker.specs.PartLaws.{on-either}
 use Rattle.fastq_checker.specs.declared.Place.{Place}
-use Rattle.fastq_checker.specs.declared.Step.{Step}
 use Rattle.fastq_checker.specs.declared.Step.TheVariants as step
 use Rattle.fastq_checker.specs.declared.Stopped.{Stopped}
-use Rattle.fastq_checker.specs.declared.PartChecked.{PartChecked}
 use Rattle.fastq_checker.specs.declared.PartChecked.TheVariants as part
 
 -- ---- a record is accepted whatever its number

@@ -2,7 +2,7 @@
 use Prim.Native.Nat.{ℕ, zero, suc, ◌-◌, ◌≤◌, ◌<◌}
 use Rattle.std.specs.Prelude.{◌≡◌, List, Bool, true, false, cond, length, ltb}
 use Rattle.std.proofs.Math.Path.{refl, ap, sym}
-use Rattle.std.proofs.Common.{◌∙◌, drop_of_length-le, lt-ltb, le-ltb, ltb-true, arith}
+use Rattle.std.proofs.Common.{◌∙◌, drop_of_length-le, lt-ltb, ltb-true, arith}
 use Rattle.refusal.specs.Numbers.{over_limit}
 use Rattle.refusal.specs.declared.Refusal.{Refusal}
 use Rattle.refusal.specs.declared.Refusal.TheVariants.{TooLong}
@@ -17,8 +17,7 @@ use Rattle.fastq_checker.specs.Part.{on_from, on_before, walked_by, walked, reac
 use Rattle.fastq_checker.specs.declared.Place.{Place}
 use Rattle.fastq_checker.specs.declared.Step.{Step}
 use Rattle.fastq_checker.specs.declared.Step.TheVariants as step
-use Rattle.fastq_checker.specs.declared.PartChecked.{PartChecked}
-use Rattle.fastq_checker.specs.declared.PartChecked.TheVariants.{Reached, Refused}
+use Rattle.fastq_checker.specs.declared.PartChecked.TheVariants.{Refused}
 
 module _ (f i : List ℕ) (to : ℕ) where
   -- what holds where the place stays, and behind a record that is accepted, holds one record on

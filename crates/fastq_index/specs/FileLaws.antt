@@ -1,5 +1,5 @@
 -- Laws of a FASTQ file's rows: a record moves the place on, so the count of records that bounds the definition does not matter.
-use Rattle.std.specs.Prelude.{ℕ, zero, suc, ◌+◌, ◌-◌, ◌≤◌, ◌<◌, ◌≡◌, refl, List, length}
+use Rattle.std.specs.Prelude.{ℕ, suc, ◌-◌, ◌≤◌, ◌<◌, ◌≡◌, List, length}
 use Rattle.std.proofs.Math.Path.{ap}
 use Rattle.std.proofs.Common.{sym, ◌∙◌, arith}
 use Rattle.refusal.specs.declared.Refusal.{Refusal}
@@ -9,7 +9,7 @@ use Rattle.fastq.specs.declared.QualityRow.{QualityRow}
 use Rattle.fastq.specs.declared.Indexed.{Indexed}
 use Rattle.fastq.specs.declared.Indexed.TheVariants as indexed
 use Rattle.fastq.specs.declared.Step.{Step}
-use Rattle.fastq_table.specs.Fill.{Found, nothing, with_first}
+use Rattle.fastq_table.specs.Fill.{nothing, with_first}
 use Rattle.fastq_index.specs.PartLaws.{record-moves, up-to-whole}
 use Rattle.fastq_index.specs.PartLaws as parts
 use Rattle.fastq_index.specs.File.{onwards, rows_of, rows_at}

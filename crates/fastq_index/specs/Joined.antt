@@ -4,9 +4,9 @@
 -- rows the file goes on from where they stop, so that a table that was full loses nothing. Nothing more is asked of the offsets, so any
 -- guess of where to cut is safe: rows that were found from a guess are used only if the part before it stopped there.
 use Prim.Native.Nat.{ℕ, zero, suc, ◌+◌, ◌-◌, ◌≤◌, ◌<◌}
-use Rattle.std.specs.Prelude.{◌≡◌, List, [], ◌∷◌, ◌++◌, Bool, true, false, cond, take, ltb}
+use Rattle.std.specs.Prelude.{◌≡◌, List, [], ◌∷◌, ◌++◌, Bool, true, false, take, ltb}
 use Rattle.std.proofs.Math.Path.{refl, ap}
-use Rattle.std.proofs.Common.{sym, ◌∙◌, length-append, lt-ltb, ltb-true, ltb-false, arith}
+use Rattle.std.proofs.Common.{sym, ◌∙◌, length-append, ltb-true, ltb-false, arith}
 use Rattle.std.proofs.Math.ListN.{length}
 use Rattle.refusal.specs.declared.Refusal.{Refusal}
 use Rattle.table.specs.declared.Stop.{Stop}

@@ -11,8 +11,7 @@ use Rattle.lines.specs.Lines.{line_end}
 use Rattle.lines.specs.Laws.{line_end-le, line_end-gt, part_length}
 use Rattle.table.specs.Numbers.{numbers_in}
 use Rattle.table.specs.Kinds
-use Rattle.table.specs.KindLaws.{FilledRows, next_row, next-stop, filled-bytes, filled-nothing}
-use Rattle.table.specs.declared.Filled.{Filled}
+use Rattle.table.specs.KindLaws.{next_row, next-stop, filled-bytes, filled-nothing}
 use Rattle.table.specs.declared.Kept.{Kept}
 use Rattle.table.specs.declared.Kept.TheVariants as keeping
 use Rattle.table.specs.declared.Stop.TheVariants.{Ended, Refused}
@@ -23,7 +22,7 @@ use Rattle.fastq.specs.declared.Indexed.{Indexed}
 use Rattle.fastq.specs.declared.Indexed.TheVariants as indexed
 use Rattle.fastq.specs.declared.Step.{Step}
 use Rattle.fastq_table.specs.Rows.{row_count, quality_rows}
-use Rattle.fastq_table.specs.Fill.{Found, nothing, with_first, turn_of, NextOf, KeptIn}
+use Rattle.fastq_table.specs.Fill.{nothing, with_first, turn_of, NextOf, KeptIn}
 use Rattle.fastq_table.specs.declared.Next.{Next}
 use Rattle.fastq_table.specs.declared.Next.TheVariants as given
 use Rattle.fastq_index.specs.Taken.{record-taken}

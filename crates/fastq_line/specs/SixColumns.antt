@@ -1,5 +1,5 @@
 -- What an index line of six columns says, and how one is written (docs/RULES.md, R85, R86).
-use Rattle.std.specs.Prelude.{ℕ, ◌≡◌, List, [], ◌∷◌, Bool, false, cond, ◌&&◌, length, get_or}
+use Rattle.std.specs.Prelude.{ℕ, ◌≡◌, List, [], ◌∷◌, Bool, cond, ◌&&◌, length, get_or}
 use Rattle.refusal.specs.declared.Refusal.TheVariants.{TooLong, EmptyIndexLine}
 use Rattle.refusal.specs.Numbers.{over_limit}
 use Rattle.lines.specs.Lines.{part, line_end, content_of}
@@ -11,9 +11,8 @@ use Rattle.output.specs.Outcome.{Outcome, refuses}
 use Rattle.output.specs.declared.Written.{Written}
 use Rattle.columns.specs.Fields.{cut_at, Numbers, numbers_from, text_written}
 use Rattle.columns.specs.Fields.Numbers.{Are, Not}
-use Rattle.index_line.specs.IndexLine.{record_of, plain_end, first_of, one_line, columns_of, name_in}
+use Rattle.index_line.specs.IndexLine.{record_of, plain_end, first_of, one_line, name_in}
 use Rattle.fastq.specs.declared.QualityRow.{QualityRow}
-use Rattle.fastq_line.specs.declared.Entry.{Entry}
 use Rattle.fastq_line.specs.declared.LineRead.{LineRead}
 use Rattle.fastq_line.specs.declared.LineRead.TheVariants as read
 

@@ -1,20 +1,18 @@
 -- Each way out of the calls of a feeder is a case of its definition.
-use Rattle.std.specs.Prelude.{ℕ, ◌+◌, ◌≤◌, ◌≡◌, List, Bool, true, false, cond, not}
+use Rattle.std.specs.Prelude.{ℕ, ◌+◌, ◌≤◌, ◌≡◌, List, Bool, true, false, not}
 use Rattle.std.proofs.Math.Path.{refl}
-use Rattle.std.proofs.Common.{ap, sym, ◌∙◌, arith}
+use Rattle.std.proofs.Common.{ap, sym, arith}
 use Rattle.std.proofs.Math.ListN.{length}
 use borrow.Author.Tests.{eq-eqb, ne_eqb, lt-ltb, le-ltb}
 use Rattle.refusal.specs.Numbers.{over_limit}
 use Rattle.refusal.specs.declared.Refusal.TheVariants.{TooLong}
-use Rattle.lines.specs.Feeding.{FedSum}
-use Rattle.table.specs.Numbers.{numbers_in, rest_of}
-use Rattle.feeder.specs.declared.Waiting.{Waiting}
+use Rattle.table.specs.Numbers.{numbers_in}
 use Rattle.feeder.specs.declared.Settled.{Settled}
 use Rattle.feeder.specs.declared.Fed.{Fed}
 use Rattle.feeder.specs.declared.Out.{Out}
 use Rattle.feeder.specs.declared.Feeder.{Feeder}
-use Rattle.feeder.specs.Machine.{Filling, filling, out_of, applied, step_by, SettleDone, FeedDone}
-use Rattle.feeder.specs.Calls.{limit, refused_by, live, still_stopped, sound_of, with, kept_by, kept_in, piece_of, closed_by, closed_in, end_of, CallDone}
+use Rattle.feeder.specs.Machine.{out_of, step_by, SettleDone, FeedDone}
+use Rattle.feeder.specs.Calls.{limit, refused_by, live, still_stopped, sound_of, kept_by, kept_in, piece_of, closed_by, closed_in, end_of, CallDone}
 
 module _ (f : Feeder) (p t : List ℕ) (r : Feeder) where
   pub piece-none : length p ≡ 0 → CallDone (piece_of f p (numbers_in t)) t f t

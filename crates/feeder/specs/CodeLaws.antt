@@ -1,7 +1,7 @@
 -- Laws that the code's proofs cite: of the bytes of a line, of a definition by its numbers, of a place, and of a stored row.
-use Rattle.std.specs.Prelude.{ℕ, zero, suc, ◌+◌, ◌-◌, ◌*◌, ◌/◌, ◌%◌, ◌^◌, ◌≤◌, ◌<◌, min, ◌≡◌, List, [], ◌∷◌, Bool, cond, not, length, get_or, drop, ltb, leb}
+use Rattle.std.specs.Prelude.{ℕ, zero, suc, ◌+◌, ◌-◌, ◌*◌, ◌/◌, ◌%◌, ◌^◌, ◌≤◌, ◌<◌, min, ◌≡◌, List, [], ◌∷◌, Bool, cond, not, length, get_or, drop}
 use Rattle.std.proofs.Math.Path.{refl, ap, sym}
-use Rattle.std.proofs.Common.{◌∙◌, true≢false, drop_of_length-le, add-zero}
+use Rattle.std.proofs.Common.{◌∙◌, drop_of_length-le}
 use Rattle.std.proofs.Math.Bool.{true, false}
 use Rattle.std.proofs.Math.Dec.{eqb, eqb-suc-zero}
 use Rattle.std.proofs.Math.Arith.{digits_div, digits_mod}
@@ -27,15 +27,14 @@ use Rattle.feeder.specs.Small.{FitsWithin}
 use Rattle.feeder.specs.SmallLaws.{fits-absorb}
 use Rattle.feeder.specs.WaitingLaws.{new_line}
 use Rattle.record.specs.declared.Record.{Record}
-use Rattle.record.specs.declared.Offset.{Offset}
 use Rattle.record.specs.Place.{place_of}
 use Rattle.walking.specs.Places.{first_elsewhere}
-use Rattle.walking.specs.Walk.{walk_stride, LineJudged, judged-there, judged-crosses, judged-elsewhere}
+use Rattle.walking.specs.Walk.{walk_stride, judged-there, judged-crosses, judged-elsewhere}
 use Rattle.walking.specs.declared.Placed.TheVariants.{There, Elsewhere}
 use Rattle.fitting.specs.declared.Numbers.{Numbers}
 use Rattle.fitting.specs.Complete.{place_by}
 use Rattle.table.specs.Numbers.{numbers_in, rest_of}
-use Rattle.table.specs.Rows.{row_count, with_row, stored_of}
+use Rattle.table.specs.Rows.{row_count}
 use Rattle.table.specs.RowLaws.{without-row, kept-inside, full-outside}
 use Rattle.table.specs.Bytes.{StoredIn}
 use Rattle.table.specs.declared.Stored.{Stored}

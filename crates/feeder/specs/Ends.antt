@@ -1,8 +1,8 @@
 -- The end of a file. With it a feeder has what the lines of all bytes give, by either rule; and so what one call on the whole file gives: `fed-whole`.
-use Rattle.std.specs.Prelude.{ℕ, ◌+◌, ◌≤◌, ◌≡◌, Bool, length, eqb}
+use Rattle.std.specs.Prelude.{ℕ, ◌≤◌, ◌≡◌, Bool, length, eqb}
 use Rattle.std.proofs.Math.Path.{refl}
-use Rattle.std.proofs.Common.{ap, sym, ◌∙◌, true≢false, le-ltb, arith, zero-add}
-use mathlib.Core.List.{List, [], ◌∷◌, ◌++◌, append-nil}
+use Rattle.std.proofs.Common.{ap, sym, ◌∙◌, true≢false, le-ltb, zero-add}
+use mathlib.Core.List.{List, [], ◌∷◌, append-nil}
 use Rattle.std.proofs.Math.Bool.{true, false, cond}
 use Rattle.refusal.specs.declared.Numbers as refused
 use Rattle.refusal.specs.Numbers.{over_limit}
@@ -12,7 +12,6 @@ use Rattle.table.specs.Rows.{row_count, with_rows}
 use Rattle.table.specs.Fill.{Found, held_in}
 use Rattle.indexer.specs.LineSums.{sum_of}
 use Rattle.indexer.specs.Rule.{call_by}
-use Rattle.indexer.specs.File.{file_in}
 use Rattle.fitting.specs.declared.Rule.{Rule}
 use Rattle.fitting.specs.declared.Rule.TheVariants.{Strict, Complete}
 use Rattle.fitting.specs.Rules.{rows_by, rows_in}
@@ -20,11 +19,10 @@ use Rattle.feeder.specs.declared.Waiting.{Waiting}
 use Rattle.feeder.specs.declared.Phase.{Phase}
 use Rattle.feeder.specs.declared.Phase.TheVariants.{Definition, Lines, Halted, Ended}
 use Rattle.feeder.specs.declared.Feeder.{Feeder}
-use Rattle.feeder.specs.Waiting.{no_line, waiting_of}
+use Rattle.feeder.specs.Waiting.{waiting_of}
 use Rattle.feeder.specs.Machine.{Filling, filling, step_by, machine}
-use Rattle.feeder.specs.Small.{FitsWithin}
 use Rattle.feeder.specs.SmallLaws.{fits-piece}
-use Rattle.feeder.specs.Calls.{limit, begun_by, stopped, live, still_stopped, sound_of, With, with, kept_by, kept_in, closed_by, closed_in, end_of, refusal_in}
+use Rattle.feeder.specs.Calls.{limit, begun_by, stopped, live, still_stopped, sound_of, With, with, kept_by, closed_by, closed_in, end_of, refusal_in}
 use Rattle.feeder.specs.Reached.{fits-sound, over, feed-over, step-halted}
 use Rattle.feeder.specs.Split.{step_line, machine-law, start, first, fits-start, state_at, all_pieces, pieces-same}
 use Rattle.feeder.specs.Whole.{stop_numbers, ToldBy, strict-whole}

@@ -1,6 +1,6 @@
 -- Over the lines of a whole file the machine by the complete rule gives what indexing the file by that rule gives. It takes a record's lines
 -- one by one (LineByLine), and the first misfit decides.
-use Rattle.std.specs.Prelude.{ℕ, zero, suc, ◌+◌, ◌-◌, ◌≤◌, ◌<◌, ◌≡◌, Bool, cond, eqb, ltb}
+use Rattle.std.specs.Prelude.{ℕ, suc, ◌+◌, ◌-◌, ◌<◌, ◌≡◌, Bool, cond, eqb, ltb}
 use Rattle.std.proofs.Math.Path.{refl, ap}
 use Rattle.std.proofs.Common.{sym, ◌∙◌, true≢false, length-append, ltb-true, ltb-false, arith}
 use mathlib.Core.List.{List, [], ◌∷◌, ◌++◌}
@@ -26,7 +26,6 @@ use Rattle.record.specs.declared.Record.{Record}
 use Rattle.record.specs.declared.Position.{Position}
 use Rattle.record.specs.declared.Offset.{Offset}
 use Rattle.record.specs.EvenLines.{length-up_from}
-use Rattle.table.specs.declared.Stop.{Stop}
 use Rattle.table.specs.declared.Stop.TheVariants as stop
 use Rattle.table.specs.Rows.{row_count, with_row, with_rows}
 use Rattle.table.specs.RowLaws.{rows_none, rows-onward, row_count-rows, with-row}
@@ -37,22 +36,22 @@ use Rattle.indexer.specs.declared.Step.{Step}
 use Rattle.indexer.specs.Rule.{Verdict, good, bad, judged_by, sequence_by, defined_by, stepped, groups_by, file_by}
 use Rattle.indexer.specs.Index.{line_of}
 use Rattle.indexer.specs.ByLines as old
-use Rattle.indexer.specs.LineSums.{Sum, sum_of, sum_says, step_sum, sums-law}
+use Rattle.indexer.specs.LineSums.{sum_of, sum_says, step_sum, sums-law}
 use Rattle.walking.specs.Places.{first_elsewhere}
 use Rattle.walking.specs.declared.Placed.{Placed}
 use Rattle.walking.specs.declared.Placed.TheVariants.{There, Elsewhere}
 use Rattle.fitting.specs.declared.Numbers.{Numbers}
 use Rattle.fitting.specs.declared.Rule.TheVariants.{Complete}
-use Rattle.fitting.specs.Complete.{place_by, places_say, complete, numbers_at, fit}
+use Rattle.fitting.specs.Complete.{place_by, complete, numbers_at, fit}
 use Rattle.fitting.specs.LineByLine as byLine
 use Rattle.feeder.specs.declared.Opened.{Opened}
 use Rattle.feeder.specs.declared.SoFar.{SoFar}
 use Rattle.feeder.specs.declared.SoFar.TheVariants.{Blank, Run, Rows}
 use Rattle.feeder.specs.declared.Phase.{Phase}
-use Rattle.feeder.specs.declared.Phase.TheVariants.{Definition, Lines, Halted, Ended}
+use Rattle.feeder.specs.declared.Phase.TheVariants.{Definition, Lines, Halted}
 use Rattle.feeder.specs.declared.Out.{Out}
 use Rattle.feeder.specs.declared.Out.TheVariants.{Keeps, Emits}
-use Rattle.feeder.specs.Waiting.{unpack, slim, waiting_of}
+use Rattle.feeder.specs.Waiting.{unpack, waiting_of}
 use Rattle.feeder.specs.Machine.{row_of, close_alone, opened_at, definition_out, told_row, passed_out, placed_out, rows_out, bases_out, complete_out, line_out, out_of, Filling, filling, applied, step_by}
 use Rattle.feeder.specs.Calls.{refusal_in}
 use Rattle.feeder.specs.Reached.{step-halted}

@@ -1,6 +1,6 @@
 -- The indexer as a machine over lines, by either rule, with the table that it fills. With each line it learns whether the sequence ends behind
 -- it: the next byte is '>', or the file ends.
-use Rattle.std.specs.Prelude.{ℕ, ◌+◌, ◌-◌, ◌≡◌, List, Bool, true, false, cond, eqb, ltb}
+use Rattle.std.specs.Prelude.{ℕ, ◌+◌, ◌-◌, ◌≡◌, List, Bool, cond, eqb, ltb}
 use Rattle.refusal.specs.Numbers.{numbers_of}
 use Rattle.refusal.specs.declared.Refusal.{Refusal}
 use Rattle.refusal.specs.declared.Refusal.TheVariants.{NoBases, LineBases, LineWidth, TableFull, NoIndexFits}

@@ -1,12 +1,11 @@
 -- Lines alike, passed at once: lines that are like a record's rows, and even with them, bring the machine to where it comes line by line, by
 -- either rule.
-use Rattle.std.specs.Prelude.{ℕ, zero, suc, ◌+◌, ◌*◌, ◌/◌, ◌%◌, ◌^◌, ◌≤◌, ◌<◌, ◌≡◌, List, [], ◌∷◌, Bool, true, false, cond, not, ◌&&◌, length, drop, eqb}
+use Rattle.std.specs.Prelude.{ℕ, suc, ◌+◌, ◌*◌, ◌/◌, ◌%◌, ◌^◌, ◌≤◌, ◌<◌, ◌≡◌, List, [], ◌∷◌, Bool, true, false, cond, not, ◌&&◌, length, drop, eqb}
 use Rattle.std.proofs.Math.Path.{refl}
-use Rattle.std.proofs.Common.{ap, sym, ◌∙◌, true≢false, arith, add-one, add-zero, one-mul, zero-mul, mul-le-mul_left}
+use Rattle.std.proofs.Common.{ap, sym, ◌∙◌, arith, add-one, add-zero, one-mul, zero-mul, mul-le-mul_left}
 use borrow.Author.Tests.{eq-eqb, ne_eqb, eqb-true}
 use Rattle.std.proofs.Math.Nat.{add-mul, add-mul-div_right, add-mul-mod_self_right}
-use Rattle.lines.specs.declared.Line.{Line}
-use Rattle.lines.specs.Lines.{part, lines, line_end, ends, bases_of, begins, seq_of, seq_at, up_from}
+use Rattle.lines.specs.Lines.{part, lines, line_end, ends, begins, seq_of, seq_at, up_from}
 use Rattle.lines.specs.Laws.{lines_at-cut, line_end-gt, line_end-le, part_length}
 use Rattle.lines.specs.Alike.{is_like, alike, both_left, like-width, like-bases, LineLike, alike-passes, alike-within}
 use Rattle.lines.specs.Feeding.{FedSum, absorb_sum, absorb_sums}
@@ -23,10 +22,10 @@ use Rattle.fitting.specs.Complete.{place_by}
 use Rattle.feeder.specs.declared.Waiting.{Waiting}
 use Rattle.feeder.specs.declared.Opened.{Opened}
 use Rattle.feeder.specs.declared.SoFar.{SoFar}
-use Rattle.feeder.specs.declared.SoFar.TheVariants.{Blank, Run, Rows}
+use Rattle.feeder.specs.declared.SoFar.TheVariants.{Rows}
 use Rattle.feeder.specs.declared.Phase.{Phase}
-use Rattle.feeder.specs.declared.Phase.TheVariants.{Definition, Lines, Halted, Ended}
-use Rattle.feeder.specs.declared.Out.TheVariants.{Keeps, Emits}
+use Rattle.feeder.specs.declared.Phase.TheVariants.{Lines}
+use Rattle.feeder.specs.declared.Out.TheVariants.{Keeps}
 use Rattle.feeder.specs.declared.Fed.{Fed}
 use Rattle.feeder.specs.Waiting.{waiting_of}
 use Rattle.feeder.specs.Machine.{line_by, further_out, strict_out, passed_out, rows_out, bases_out, complete_out, line_out, out_of, Filling, filling, applied, step_by, machine, fed_in, AbsorbDone}

@@ -1,8 +1,8 @@
 -- Every state that calls reach from the start of a file is sound, and takes bytes unless it is refused; and a refusal stays.
-use Rattle.std.specs.Prelude.{ℕ, zero, suc, ◌+◌, ◌-◌, ◌≤◌, ◌<◌, ◌^◌, ◌≡◌, Bool, cond, not, ◌&&◌, ◌||◌, length, eqb, ltb, leb}
+use Rattle.std.specs.Prelude.{ℕ, ◌+◌, ◌-◌, ◌≤◌, ◌<◌, ◌≡◌, Bool, cond, not, ◌||◌, eqb, ltb}
 use Rattle.std.proofs.Math.Path.{refl}
-use Rattle.std.proofs.Common.{ap, sym, ◌∙◌, arith}
-use mathlib.Core.List.{List, [], ◌∷◌, ◌++◌}
+use Rattle.std.proofs.Common.{arith}
+use mathlib.Core.List.{List, [], ◌∷◌}
 use Rattle.std.proofs.Math.Bool.{true, false}
 use borrow.Author.Tests.{le-leb, lt-ltb}
 use Rattle.refusal.specs.declared.Numbers as refused
@@ -31,7 +31,7 @@ use Rattle.feeder.specs.declared.Phase.TheVariants.{Definition, Lines, Halted, E
 use Rattle.feeder.specs.declared.Out.{Out}
 use Rattle.feeder.specs.declared.Out.TheVariants.{Keeps, Emits}
 use Rattle.feeder.specs.declared.Feeder.{Feeder}
-use Rattle.feeder.specs.Waiting.{unpack, no_line, waiting_of, grow_by}
+use Rattle.feeder.specs.Waiting.{unpack, waiting_of, grow_by}
 use Rattle.feeder.specs.Machine.{close_alone, definition_out, first_out, further_out, strict_out, passed_out, placed_out, rows_out, bases_out, complete_out, line_out, out_of, Filling, filling, applied, step_by, machine}
 use Rattle.feeder.specs.Small.{SmallWaiting, SmallOpened, SmallNumbers, SmallSoFar, SmallPhase, FitsWithin}
 use Rattle.feeder.specs.Calls.{limit, sound_waiting, sound_opened, sound_numbers, sound_so_far, sound_phase, sound_of}

@@ -1,11 +1,11 @@
 -- Records that lie whole in a piece: what the lines of such a record give, one after another, is its row, by either rule.
 use Prim.Native.Nat.{ℕ, zero, suc, ◌+◌, ◌-◌, ◌*◌, ◌%◌, ◌^◌, ◌≤◌, ◌<◌}
-use Rattle.std.specs.Prelude.{◌≡◌, List, [], ◌∷◌, Bool, cond, not, ◌&&◌, length, take, drop, get_or, eqb, ltb}
+use Rattle.std.specs.Prelude.{◌≡◌, List, [], ◌∷◌, Bool, ◌&&◌, length, drop, get_or, eqb, ltb}
 use Rattle.std.proofs.Math.Path.{refl, ap}
-use Rattle.std.proofs.Common.{sym, ◌∙◌, true≢false, length-drop, arith, add-zero, zero-add, mul-le-mul_left}
+use Rattle.std.proofs.Common.{sym, ◌∙◌, length-drop, arith, add-zero, zero-add, mul-le-mul_left}
 use Rattle.std.proofs.Math.Bool.{true, false}
 use Rattle.std.proofs.Math.Dec.{leb}
-use borrow.Author.Tests.{eq-eqb, ne_eqb, eqb-true, leb-true, ltb-true, le-leb}
+use borrow.Author.Tests.{eq-eqb, ne_eqb, leb-true, ltb-true, le-leb}
 use Rattle.std.proofs.Math.Nat.{one-mul, zero-mod, add-sub_cancel_left}
 use Rattle.lines.specs.declared.Line.{Line}
 use Rattle.lines.specs.Lines.{part, lines, line_len, line_end, chop, ends, bases_of, begins, seq_at, first_line, up_from}
@@ -13,8 +13,6 @@ use Rattle.lines.specs.Laws.{lines_at-cut, line_end-gt, line_end-le, part_length
 use Rattle.lines.specs.Alike.{is_like, alike, alike-within, open-last, both_left, like-width, like-bases}
 use Rattle.lines.specs.Feeding.{FedSum, absorb_sum, absorb_sums}
 use Rattle.indexer.specs.Index.{fits_last}
-use Rattle.indexer.specs.LineSums.{sum_of}
-use Rattle.record.specs.Place.{place_of}
 use Rattle.record.specs.Laws.{place-first}
 use Rattle.walking.specs.Places.{first_elsewhere}
 use Rattle.walking.specs.declared.Placed.TheVariants.{There}
@@ -26,15 +24,15 @@ use Rattle.feeder.specs.declared.Waiting.{Waiting}
 use Rattle.feeder.specs.declared.Opened.{Opened}
 use Rattle.feeder.specs.declared.SoFar.TheVariants.{Blank, Run, Rows}
 use Rattle.feeder.specs.declared.Phase.{Phase}
-use Rattle.feeder.specs.declared.Phase.TheVariants.{Definition, Lines}
+use Rattle.feeder.specs.declared.Phase.TheVariants.{Lines}
 use Rattle.feeder.specs.declared.Out.TheVariants.{Keeps, Emits}
 use Rattle.feeder.specs.declared.Sequence.{Sequence}
-use Rattle.feeder.specs.Waiting.{no_line, waiting_of, grow_by}
+use Rattle.feeder.specs.Waiting.{no_line, waiting_of}
 use Rattle.feeder.specs.WaitingLaws.{new_line}
-use Rattle.feeder.specs.Machine.{row_of, numbers_of_line, line_by, first_out, further_out, strict_out, told_row, passed_out, rows_out, bases_out, complete_out, line_out, out_of, Filling, filling, applied, step_by, machine}
+use Rattle.feeder.specs.Machine.{row_of, numbers_of_line, first_out, further_out, strict_out, told_row, passed_out, rows_out, bases_out, complete_out, line_out, out_of, Filling, filling, applied, step_by, machine}
 use Rattle.feeder.specs.CodeLaws.{bases-there, begins-part}
 use Rattle.feeder.specs.SmallLaws.{two}
-use Rattle.feeder.specs.Passing.{waiting_like, like-waiting, seq-line, next-times, column-on, place-on, fed_at, step-on, all-on}
+use Rattle.feeder.specs.Passing.{waiting_like, like-waiting, seq-line, next-times, column-on, place-on, step-on, all-on}
 
 -- ---- a sequence that lies whole in a piece
 

@@ -1,5 +1,5 @@
 -- Numbers that fit: what holds of the numbers of a feeder, so that no sum of them is too large.
-use Rattle.std.specs.Prelude.{ℕ, ◌+◌, ◌≤◌, ◌<◌, ◌^◌, ◌≡◌, Bool, true}
+use Rattle.std.specs.Prelude.{ℕ, ◌+◌, ◌≤◌, ◌<◌, ◌^◌, ◌≡◌, true}
 use Rattle.lines.specs.declared.Line.{Line}
 use Rattle.fitting.specs.declared.Numbers.{Numbers}
 use Rattle.feeder.specs.declared.Waiting.{Waiting}

@@ -13,23 +13,19 @@ use Rattle.refusal.specs.declared.Numbers as refused
 use Rattle.refusal.specs.Numbers.{over_limit}
 use Rattle.refusal.specs.declared.Refusal.TheVariants.{TooLong, AlreadyEnded}
 use Rattle.lines.specs.Lines.{lines, chop, ends}
-use Rattle.lines.specs.Feeding.{joined, Fed, FedSum, Sums, summed, judge_most, feed, absorb_sums, feed_sum, feed-summed, feed-pieces, feed-none, fresh, fresh-none, fed-most, waiting-line}
-use Rattle.lines.specs.Pieces.{line}
-use Rattle.definition.specs.Definition.{run, keep}
+use Rattle.lines.specs.Feeding.{joined, Fed, FedSum, Sums, summed, judge_most, feed, absorb_sums, feed_sum, feed-summed, feed-pieces, fresh, fed-most, waiting-line}
 use Rattle.indexer.specs.LineSums.{sum_of}
 use Rattle.fitting.specs.declared.Rule.{Rule}
 use Rattle.feeder.specs.declared.Waiting.{Waiting}
-use Rattle.feeder.specs.declared.Opened.{Opened}
-use Rattle.feeder.specs.declared.SoFar.{SoFar}
 use Rattle.feeder.specs.declared.Phase.{Phase}
 use Rattle.feeder.specs.declared.Phase.TheVariants.{Definition, Lines, Halted, Ended}
 use Rattle.feeder.specs.declared.Feeder.{Feeder}
-use Rattle.feeder.specs.Waiting.{no_line, waiting_of, grow_by}
+use Rattle.feeder.specs.Waiting.{no_line, waiting_of}
 use Rattle.feeder.specs.WaitingLaws.{waiting-grows}
 use Rattle.feeder.specs.Machine.{Filling, filling, step_by, machine}
 use Rattle.feeder.specs.Small.{SmallPhase, FitsWithin}
 use Rattle.feeder.specs.SmallLaws.{none-small, fits-piece}
-use Rattle.feeder.specs.Calls.{limit, begun_by, stopped, refused_by, live, still_stopped, sound_of, With, with, kept_by, kept_in, fed_of, piece_of, end_of, refusal_in}
+use Rattle.feeder.specs.Calls.{limit, begun_by, stopped, refused_by, live, still_stopped, sound_of, With, with, kept_by, kept_in, piece_of, end_of, refusal_in}
 use Rattle.feeder.specs.Reached.{fits-sound, over, feed-over, feed-halted}
 
 module _ (rule : Rule) where

@@ -1,16 +1,16 @@
 -- How the code goes through a piece in which records lie whole: each part leaves what its lines leave, one after another.
-use Rattle.std.specs.Prelude.{ℕ, zero, suc, ◌+◌, ◌-◌, ◌^◌, ◌≤◌, ◌<◌, ◌≡◌, List, [], ◌∷◌, Bool, cond, not, ◌&&◌, length, drop, get_or, eqb}
+use Rattle.std.specs.Prelude.{ℕ, ◌+◌, ◌-◌, ◌^◌, ◌≤◌, ◌<◌, ◌≡◌, List, Bool, cond, not, ◌&&◌, length, drop, get_or, eqb}
 use Rattle.std.proofs.Math.Path.{refl, ap, sym}
-use Rattle.std.proofs.Common.{◌∙◌, eq-eqb, eqb-true, arith, add-zero}
+use Rattle.std.proofs.Common.{◌∙◌, eqb-true, arith}
 use Rattle.std.proofs.Math.Bool.{true, false}
 use Rattle.refusal.specs.declared.Refusal.{Refusal}
-use Rattle.lines.specs.Lines.{part, lines, line_end, ends}
+use Rattle.lines.specs.Lines.{part, lines, line_end}
 use Rattle.lines.specs.Laws.{lines_at-cut, line_end-gt, line_end-le, part_length}
 use Rattle.lines.specs.Feeding.{FedSum, absorb_sums}
 use Rattle.definition.specs.declared.Definition as definition
 use Rattle.definition.specs.declared.Parsed.TheVariants.{Named}
 use Rattle.definition.specs.Definition.{definition_says}
-use Rattle.indexer.specs.LineSums.{sum_of, sum_says}
+use Rattle.indexer.specs.LineSums.{sum_of}
 use Rattle.record.specs.declared.Record.{Record}
 use Rattle.table.specs.Numbers.{numbers_in, rest_of}
 use Rattle.table.specs.NumberLaws.{length-numbers}
@@ -22,15 +22,14 @@ use Rattle.table.specs.declared.Stored.TheVariants as stored
 use Rattle.fitting.specs.declared.Rule.{Rule}
 use Rattle.feeder.specs.declared.Waiting.{Waiting}
 use Rattle.feeder.specs.declared.SoFar.TheVariants.{Blank}
-use Rattle.feeder.specs.declared.Phase.{Phase}
 use Rattle.feeder.specs.declared.Phase.TheVariants.{Definition, Lines}
 use Rattle.feeder.specs.declared.Out.{Out}
-use Rattle.feeder.specs.declared.Out.TheVariants.{Keeps, Emits}
+use Rattle.feeder.specs.declared.Out.TheVariants.{Emits}
 use Rattle.feeder.specs.declared.Settled.{Settled}
 use Rattle.feeder.specs.declared.Fed.{Fed}
 use Rattle.feeder.specs.declared.Sequence.{Sequence}
 use Rattle.feeder.specs.declared.Reached.{Reached}
-use Rattle.feeder.specs.Waiting.{unpack, no_line, waiting_of}
+use Rattle.feeder.specs.Waiting.{no_line, waiting_of}
 use Rattle.feeder.specs.WaitingLaws.{new_line}
 use Rattle.feeder.specs.Machine.{row_of, numbers_of_line, opened_at, definition_out, out_of, Filling, filling, applied, step_by, machine, fed_in, SettleDone}
 use Rattle.feeder.specs.Small.{SmallPhase, SmallWaiting, FitsWithin}

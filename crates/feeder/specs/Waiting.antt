@@ -1,7 +1,6 @@
 -- What a feeder keeps of a line that waits: the numbers of the indexer's sum of a line (LineSums), without those of a definition if the line
 -- does not begin with '>'. So a sequence line is only measured.
-use Rattle.std.specs.Prelude.{ℕ, List, Bool, true, false, cond}
-use Rattle.lines.specs.declared.Line.{Line}
+use Rattle.std.specs.Prelude.{ℕ, List, false, cond}
 use Rattle.indexer.specs.LineSums.{Sum, sum_of, grow}
 use Rattle.feeder.specs.declared.Waiting.{Waiting}
 

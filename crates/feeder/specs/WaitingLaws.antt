@@ -1,15 +1,13 @@
 -- What a feeder keeps of a line is enough to judge it, and follows from what it keeps of an open line and further bytes. So splitting a file
 -- anywhere changes nothing.
-use Rattle.std.specs.Prelude.{ℕ, zero, suc, ◌+◌, ◌≤◌, ◌<◌, List, [], ◌∷◌, ◌++◌, Bool, true, false, cond, length, take, drop, eqb}
+use Rattle.std.specs.Prelude.{ℕ, ◌<◌, List, [], ◌∷◌, ◌++◌, Bool, true, false, length, take, drop, eqb}
 use Rattle.std.proofs.Math.Path.{◌≡◌, refl}
 use Rattle.std.proofs.Common.{ap, sym, ◌∙◌, length-take-le, arith}
 use Rattle.std.proofs.Math.Dec.{eqb-suc-zero}
-use Rattle.lines.specs.Lines.{lines, line_len, chop, ends, begins}
+use Rattle.lines.specs.Lines.{lines, line_len, chop, ends}
 use Rattle.lines.specs.Laws.{lines_cut, line_len-le, line_len-pos}
-use Rattle.lines.specs.Feeding.{Sums}
-use Rattle.definition.specs.Definition.{is_space, run, keep}
+use Rattle.definition.specs.Definition.{run, keep}
 use Rattle.indexer.specs.LineSums.{Sum, sum_of, grow, sums-law}
-use Rattle.feeder.specs.declared.Waiting.{Waiting}
 use Rattle.feeder.specs.Waiting.{unpack, slim, no_line, waiting_of, grow_by}
 
 -- no line of some bytes is empty

@@ -1,46 +1,39 @@
 -- Over the lines of a whole file the machine by the ported rule gives what indexing the file gives. So any pieces and the end leave the table,
 -- the count and the refusal of one call on all their bytes: `fed-whole`.
-use Prim.Native.Nat.{ℕ, zero, suc, ◌+◌, ◌-◌, ◌≤◌, ◌<◌}
-use Rattle.std.specs.Prelude.{◌≡◌, Bool, cond, length, eqb, ltb}
+use Prim.Native.Nat.{ℕ, zero, suc, ◌+◌, ◌<◌}
+use Rattle.std.specs.Prelude.{◌≡◌, Bool, cond, length, eqb}
 use Rattle.std.proofs.Math.Path.{refl, ap, sym}
-use Rattle.std.proofs.Common.{◌∙◌, true≢false, length-append, arith, add-zero, zero-add}
-use mathlib.Core.List.{List, [], ◌∷◌, ◌++◌, append-nil}
+use Rattle.std.proofs.Common.{◌∙◌, length-append, arith, add-zero, zero-add}
+use mathlib.Core.List.{List, [], ◌∷◌, ◌++◌}
 use Rattle.std.proofs.Math.Bool.{true, false}
 use borrow.Author.Tests.{lt-ltb, le-ltb}
-use Rattle.refusal.specs.Numbers.{numbers_of, over_limit}
+use Rattle.refusal.specs.Numbers.{numbers_of}
 use Rattle.refusal.specs.declared.Numbers as refused
-use Rattle.refusal.specs.declared.Refusal.TheVariants.{NoBases, LineBases, LineWidth, TableFull}
+use Rattle.refusal.specs.declared.Refusal.TheVariants.{NoBases, LineBases, LineWidth}
 use Rattle.lines.specs.declared.Line.{Line}
 use Rattle.lines.specs.Lines.{lines, seq_of, none}
-use Rattle.lines.specs.Feeding.{joined, judge_all, FedSum, feed_sum, feed_sums, finish_sum, sums-whole}
+use Rattle.lines.specs.Feeding.{judge_all}
 use Rattle.definition.specs.declared.Parsed.{Parsed}
 use Rattle.definition.specs.declared.Parsed.TheVariants.{Named, Bad}
-use Rattle.definition.specs.Definition.{definition_says, refusal_at}
 use Rattle.record.specs.declared.Record.{Record}
 use Rattle.table.specs.declared.Stop.{Stop}
 use Rattle.table.specs.declared.Stop.TheVariants as stop
 use Rattle.table.specs.Rows.{row_count, with_row, with_rows}
 use Rattle.table.specs.RowLaws.{rows_none, rows_append, row_count-rows, with-row}
-use Rattle.table.specs.Fill.{Found, nothing, held_in}
-use Rattle.indexer.specs.Rule.{call_by}
-use Rattle.indexer.specs.Index.{line_of, fits_last, ported}
+use Rattle.table.specs.Fill.{Found, held_in}
+use Rattle.indexer.specs.Index.{fits_last}
 use Rattle.indexer.specs.File.{file_at}
 use Rattle.indexer.specs.ByLines as old
 use Rattle.indexer.specs.LineSums.{Sum, sum_of, sum_says, sums-law, step_sum}
-use Rattle.fitting.specs.declared.Numbers.{Numbers}
-use Rattle.fitting.specs.declared.Rule.{Rule}
-use Rattle.fitting.specs.declared.Rule.TheVariants.{Strict, Complete}
+use Rattle.fitting.specs.declared.Rule.TheVariants.{Strict}
 use Rattle.feeder.specs.declared.Waiting.{Waiting}
-use Rattle.feeder.specs.declared.Opened.{Opened}
-use Rattle.feeder.specs.declared.SoFar.{SoFar}
-use Rattle.feeder.specs.declared.SoFar.TheVariants.{Blank, Run, Rows}
+use Rattle.feeder.specs.declared.SoFar.TheVariants.{Blank, Rows}
 use Rattle.feeder.specs.declared.Phase.{Phase}
 use Rattle.feeder.specs.declared.Phase.TheVariants.{Definition, Lines, Halted, Ended}
 use Rattle.feeder.specs.declared.Out.{Out}
 use Rattle.feeder.specs.declared.Out.TheVariants.{Keeps, Emits}
-use Rattle.feeder.specs.declared.Feeder.{Feeder}
-use Rattle.feeder.specs.Waiting.{unpack, slim, no_line, waiting_of}
-use Rattle.feeder.specs.Machine.{row_of, close_alone, opened_at, definition_out, first_out, further_out, strict_out, line_out, out_of, Filling, filling, applied, step_by, machine}
+use Rattle.feeder.specs.Waiting.{unpack, slim, waiting_of}
+use Rattle.feeder.specs.Machine.{close_alone, opened_at, definition_out, first_out, further_out, strict_out, line_out, out_of, Filling, filling, applied, step_by}
 use Rattle.feeder.specs.Calls.{refusal_in}
 use Rattle.feeder.specs.Split.{step_line, first}
 

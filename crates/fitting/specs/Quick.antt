@@ -1,5 +1,5 @@
 -- The fast way over a record: its row is told, by either rule, or nothing is.
-use Rattle.std.specs.Prelude.{ℕ, ◌-◌, ◌≤◌, ◌<◌, ◌≡◌, refl, List, length}
+use Rattle.std.specs.Prelude.{ℕ, ◌≤◌, ◌<◌, ◌≡◌, refl, List, length}
 use Rattle.std.proofs.Common.{◌∙◌, arith}
 use Rattle.lines.specs.declared.Line.{Line}
 use Rattle.lines.specs.Lines.{part, line_end, seq_at, first_line}

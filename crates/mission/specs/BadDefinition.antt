@@ -23,19 +23,17 @@ use Rattle.definition.specs.declared.Fault.{Fault}
 use Rattle.definition.specs.declared.Parsed.{Parsed}
 use Rattle.definition.specs.declared.Parsed.TheVariants.{Named, Bad}
 use Rattle.table.specs.Fill.{Found, nothing, held_in}
-use Rattle.table.specs.declared.Stop.{Stop}
 use Rattle.table.specs.declared.Stop.TheVariants as stop
 use Rattle.indexer.specs.declared.Indexed.TheVariants as indexed
-use Rattle.indexer.specs.declared.Step.{Step}
-use Rattle.indexer.specs.Rule.{Verdict, good, bad, SequenceRule, judged_by, sequence_by, defined_by, record_by, stepped, group_by, groups_by, file_by, call_by}
+use Rattle.indexer.specs.Rule.{Verdict, good, bad, SequenceRule, judged_by, sequence_by, defined_by, record_by, stepped, groups_by, file_by, call_by}
 use Rattle.indexer.specs.RuleLaws.{record-here}
-use Rattle.indexer.specs.Index.{line_of, fits_last, rest_of, judge, ported}
+use Rattle.indexer.specs.Index.{line_of, fits_last, rest_of, judge}
 use Rattle.walking.specs.Places.{first_elsewhere}
 use Rattle.walking.specs.declared.Placed.{Placed}
 use Rattle.walking.specs.declared.Placed.TheVariants.{There, Elsewhere}
 use Rattle.fitting.specs.declared.Rule.{Rule}
 use Rattle.fitting.specs.declared.Rule.TheVariants.{Strict, Complete}
-use Rattle.fitting.specs.Complete.{places_say, numbers_at, place_by, fit, complete}
+use Rattle.fitting.specs.Complete.{places_say, numbers_at, place_by, fit}
 use Rattle.fitting.specs.Rules.{rule_of, rows_in}
 use Rattle.checker.specs.Accepts.{bytes_of, record_at, definition_at, limit}
 

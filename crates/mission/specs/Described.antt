@@ -1,7 +1,7 @@
 -- A row that an indexer made, by either rule, has the description that reading the record's definition line gives, at its place in the file:
 -- `rows-described`. Its span is 0 and 0 if the line has no description, or an empty one.
-use Rattle.std.specs.Prelude.{ℕ, zero, suc, ◌+◌, ◌≤◌, ◌<◌, ◌≡◌, refl, List, length, take, drop}
-use Rattle.std.proofs.Common.{ap, sym, ◌∙◌, arith}
+use Rattle.std.specs.Prelude.{ℕ, zero, suc, ◌+◌, ◌<◌, ◌≡◌, refl, List, length, take, drop}
+use Rattle.std.proofs.Common.{arith}
 use Rattle.lines.specs.Lines.{lines}
 use Rattle.lines.specs.Groups.{Group, groups}
 use Rattle.definition.specs.Definition.{definition_says}
@@ -15,8 +15,8 @@ use Rattle.fitting.specs.declared.Rule.{Rule}
 use Rattle.fitting.specs.declared.Rule.TheVariants.{Strict, Complete}
 use Rattle.fitting.specs.Rules.{rule_of, rows_by}
 use Rattle.checker.specs.Check.{span_of}
-use Rattle.checker.specs.Accepts.{record_at, definition_at, sequence_at}
-use Rattle.mission.specs.IndexedLaws.{span-bytes, FirstGroup, Along, along-file, along-at}
+use Rattle.checker.specs.Accepts.{record_at, definition_at}
+use Rattle.mission.specs.IndexedLaws.{span-bytes, FirstGroup, along-file, along-at}
 use Rattle.mission.specs.Leading.{no_row, row_in}
 
 -- a row's description, a span of some bytes

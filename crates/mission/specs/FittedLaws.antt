@@ -16,7 +16,7 @@ use Rattle.definition.specs.declared.Parsed.{Parsed}
 use Rattle.definition.specs.declared.Parsed.TheVariants.{Named, Bad}
 use Rattle.record.specs.EvenLines.{length-bases_at}
 use Rattle.record.specs.declared.Record.{Record}
-use Rattle.table.specs.Fill.{Found, with_first}
+use Rattle.table.specs.Fill.{with_first}
 use Rattle.table.specs.declared.Stop.TheVariants as stop
 use Rattle.index_line.specs.IndexLine.{name_in}
 use Rattle.index_line.specs.Laws.{line-sound}

@@ -5,7 +5,7 @@
 -- that is taken to its end has a row for each record: `rows-counted`, `call-counted`. Each index line is what the call that writes one
 -- writes of its row: `line-written`. The whole-index call reads the lines back to the same names and numbers: `rows-read-back`,
 -- `call-read-back`.
-use Rattle.std.specs.Prelude.{ℕ, ◌^◌, ◌≤◌, ◌<◌, ◌≡◌, List, ◌++◌, length, drop}
+use Rattle.std.specs.Prelude.{ℕ, ◌^◌, ◌≤◌, ◌<◌, ◌≡◌, List, length}
 use Rattle.std.proofs.Common.{arith, zero-add}
 use Rattle.table.specs.Rows.{row_count, with_rows}
 use Rattle.record.specs.declared.Record.{Record}

@@ -38,7 +38,6 @@ use Rattle.table.specs.declared.Stop.TheVariants as stop
 use Rattle.columns.specs.Bytes.{is, first_where}
 use Rattle.output.specs.Outcome.{gives, pours}
 use Rattle.columns.specs.Fields.{numbers_text, text_of, splits, text_written}
-use Rattle.output.specs.declared.Written.TheVariants.{Bytes}
 use Rattle.columns.specs.Lacks.{Lacks, lacks-head, lacks-tail, lacks_less, text-lacks}
 use Rattle.index_line.specs.IndexLine.{entry_of, columns_of, name_of, name_in}
 use Rattle.index_line.specs.IndexLine as index

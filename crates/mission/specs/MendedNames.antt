@@ -16,7 +16,6 @@ use Rattle.table.specs.declared.Held.{Held}
 use Rattle.table.specs.declared.Held.TheVariants as held
 use Rattle.index_line.specs.IndexLine.{name_in}
 use Rattle.index.specs.Find.{named, judged, row_from, row_named, row_read}
-use Rattle.index.specs.declared.Found.TheVariants.{Refused}
 use Rattle.indexer.specs.Index.{ported}
 use Rattle.fitting.specs.Complete.{complete}
 use Rattle.fitting.specs.Rules.{rows_by}

@@ -1,5 +1,5 @@
 -- Laws for Mending.antt: the table of a file is that of the mended file, and an exact read of it changes only where it covers the base.
-use Prim.Native.Nat.{ℕ, suc, ◌-◌, ◌≤◌, ◌<◌}
+use Prim.Native.Nat.{ℕ, suc, ◌-◌, ◌<◌}
 use Rattle.std.specs.Prelude.{◌≡◌, refl, List, Bool, true, false, length, set, ltb}
 use Rattle.std.proofs.Common.{ap, sym, ◌∙◌, length-set, ltb-true, ltb-false, arith}
 use Rattle.std.proofs.Math.Bool.{cond}
@@ -13,7 +13,7 @@ use Rattle.table.specs.Rows.{held_at}
 use Rattle.region.specs.declared.Bound.{Bound}
 use Rattle.output.specs.declared.Written.{Written}
 use Rattle.output.specs.Outcome.{Outcome, refuses}
-use Rattle.region.specs.Region.{start_of, end_of}
+use Rattle.region.specs.Region.{start_of}
 use Rattle.region.specs.Exact.{exact_of, exact_held, exact_read}
 use Rattle.region.specs.Dependence.{InRegion, exact_same}
 use Rattle.region.specs.Changed.{changed_at, changed-refused, exact-changed}

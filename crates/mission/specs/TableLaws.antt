@@ -1,5 +1,5 @@
 -- Laws for Tables.antt: the rows of an index whose lines all read, where their names lie, and rows put in a table.
-use Rattle.std.specs.Prelude.{ℕ, zero, suc, ◌+◌, ◌^◌, ◌≤◌, ◌<◌, ◌≡◌, List, [], ◌∷◌, length, take, drop, get_or}
+use Rattle.std.specs.Prelude.{ℕ, zero, suc, ◌+◌, ◌≤◌, ◌<◌, ◌≡◌, List, [], ◌∷◌, length, take, drop, get_or}
 use Rattle.std.proofs.Math.Path.{refl, sym}
 use Rattle.std.proofs.Common.{ap, ◌∙◌, drop-drop, take-take, length-take-le, arith, add-zero, one-add}
 use Rattle.std.proofs.Math.Nat.{zero-add}

@@ -1,7 +1,7 @@
 -- Where a file may be cut: at its start, behind an LF, or at its end. There the lines of both pieces are the lines of the whole; and where a
 -- record begins behind the cut, the records are too.
 use Rattle.std.specs.Prelude.{ℕ, zero, suc, ◌+◌, ◌-◌, ◌≤◌, ◌<◌, ◌≡◌, refl, Bool, true, false, cond, length, take, drop, get_or, eqb, ltb}
-use Rattle.std.proofs.Common.{ap, sym, ◌∙◌, length-take, length-drop, drop_of_length-le, take-append-drop, take_all, drop-drop, get_or-drop, get_or-take, length-take-le, eqb-true, ltb-true, ltb-false, arith, add-zero}
+use Rattle.std.proofs.Common.{ap, sym, ◌∙◌, length-drop, drop_of_length-le, take-append-drop, take_all, drop-drop, get_or-drop, get_or-take, length-take-le, eqb-true, ltb-true, ltb-false, arith, add-zero}
 use mathlib.Core.List.{List, [], ◌∷◌, ◌++◌, append-nil}
 use Rattle.std.proofs.lemmas.List.{drop-append-le}
 use Rattle.std.proofs.Math.Nat.{add-sub_cancel_left}

@@ -1,10 +1,9 @@
 -- Records that follow others: what they give together is what the first give, and behind them what the others give.
-use Rattle.std.specs.Prelude.{ℕ, zero, suc, ◌+◌, Bool, length, eqb}
+use Rattle.std.specs.Prelude.{ℕ, suc, ◌+◌, Bool, length, eqb}
 use Rattle.std.proofs.Math.Path.{◌≡◌, refl}
-use Rattle.std.proofs.Common.{ap, sym, ◌∙◌, arith, add-zero, zero-add}
+use Rattle.std.proofs.Common.{ap, sym, ◌∙◌, arith, add-zero}
 use mathlib.Core.List.{List, [], ◌∷◌, ◌++◌}
 use Rattle.std.proofs.Math.Bool.{true, false, cond}
-use Rattle.refusal.specs.declared.Refusal.{Refusal}
 use Rattle.refusal.specs.declared.Refusal.TheVariants as refusal
 use Rattle.lines.specs.Lines.{tail_of, sum_bases, sum_widths, bases_at}
 use Rattle.lines.specs.Groups.{Group}
@@ -15,7 +14,7 @@ use Rattle.definition.specs.declared.Parsed.{Parsed}
 use Rattle.definition.specs.declared.Parsed.TheVariants.{Named, Bad}
 use Rattle.record.specs.declared.Record.{Record}
 use Rattle.record.specs.Place.{place_in}
-use Rattle.table.specs.Fill.{Found, nothing, with_first}
+use Rattle.table.specs.Fill.{Found, with_first}
 use Rattle.table.specs.declared.Stop.{Stop}
 use Rattle.table.specs.declared.Stop.TheVariants as stop
 use Rattle.index_line.specs.IndexLine.{name_of, index_line_says}

@@ -2,13 +2,13 @@
 use Prim.Native.Nat.{ℕ, zero, suc, ◌+◌, ◌-◌, ◌≤◌, ◌<◌}
 use Rattle.std.specs.Prelude.{◌≡◌, List, Bool, take, get_or}
 use Rattle.std.proofs.Math.Path.{refl}
-use Rattle.std.proofs.Common.{ap, sym, ◌∙◌, add-zero}
+use Rattle.std.proofs.Common.{add-zero}
 use Rattle.std.proofs.Math.Bool.{true, false, cond}
 use Rattle.std.proofs.Math.ListN.{length}
 use Rattle.std.proofs.Math.Dec.{ltb}
-use borrow.Author.Tests.{lt-ltb, le-ltb, ltb-true, ltb-false}
+use borrow.Author.Tests.{lt-ltb, le-ltb, ltb-true}
 use native.Mathlib.Omega.{arith}
-use Rattle.lines.specs.Lines.{line_end, part, seq_at, sum_widths}
+use Rattle.lines.specs.Lines.{line_end, seq_at, sum_widths}
 use Rattle.lines.specs.Laws.{line_end-le, line_end-gt, part_length, seq_at-end, seq_at-stop, seq_at-step}
 use Rattle.lines.specs.Sums.{widths-within}
 use Rattle.refusal.specs.Numbers.{over_limit}

@@ -1,13 +1,13 @@
 -- A number that is not less leads to a start that is not less: so parts whose numbers rise lie one behind the other.
-use Rattle.std.specs.Prelude.{ℕ, zero, suc, ◌+◌, ◌-◌, ◌≤◌, ◌<◌, ◌≡◌, refl, List, [], ◌∷◌, ◌++◌, Bool, true, false, cond, length, take, drop, eqb, ltb}
-use Rattle.std.proofs.Common.{ap, sym, ◌∙◌, append-nil, length-take, length-drop, length-take-le, ltb-true, ltb-false}
+use Rattle.std.specs.Prelude.{ℕ, zero, suc, ◌+◌, ◌≤◌, ◌≡◌, refl, List, [], ◌∷◌, ◌++◌, Bool, true, false, cond, length, take, drop, eqb, ltb}
+use Rattle.std.proofs.Common.{length-drop, length-take-le, ltb-true, ltb-false}
 use native.Mathlib.Omega.{arith}
 use Rattle.lines.specs.Lines.{lines, line_len, line_end, begins, seq_of, seq_at, sum_widths}
 use Rattle.lines.specs.Laws.{line_end-le}
-use Rattle.lines.specs.Sums.{widths-seq, widths-lines}
+use Rattle.lines.specs.Sums.{widths-lines}
 use Rattle.parts.specs.Parts.{line_start, record_start}
-use Rattle.parts.specs.Laws.{line-le, record-le}
-use Rattle.parts.specs.Cuts.{Cut, lines_split, cut-at-record, Fresh, record-fresh}
+use Rattle.parts.specs.Laws.{record-le}
+use Rattle.parts.specs.Cuts.{lines_split, cut-at-record, Fresh, record-fresh}
 use Rattle.parts.specs.Cuts.Fresh.{no-line, defined}
 
 -- ---- lines

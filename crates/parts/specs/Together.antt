@@ -1,16 +1,16 @@
 -- Parts of a file whose numbers rise from 0 to its end give the whole: their rows, one part behind the other up to the first refusal, are the
 -- file's rows and its refusal; and if each part is accepted with its part of the index, the file is accepted with the index. Nothing
 -- more is asked of the numbers than that they rise.
-use Rattle.std.specs.Prelude.{ℕ, zero, suc, ◌+◌, ◌-◌, ◌≤◌, ◌<◌, ◌≡◌, refl, List, [], ◌∷◌, ◌++◌, Bool, true, false, cond, take, drop, ltb}
-use Rattle.std.proofs.Common.{ap, sym, ◌∙◌, length-drop, length-take-le, ltb-true, ltb-false, arith, add-zero}
+use Rattle.std.specs.Prelude.{ℕ, zero, suc, ◌+◌, ◌≤◌, ◌<◌, ◌≡◌, refl, List, [], ◌∷◌, Bool, true, false, cond, take, drop, ltb}
+use Rattle.std.proofs.Common.{ap, sym, ◌∙◌, length-drop, length-take-le, ltb-true, arith, add-zero}
 use Rattle.std.proofs.Math.ListN.{length, drop_of_length-le}
 use Rattle.refusal.specs.Numbers.{over_limit}
 use Rattle.refusal.specs.declared.Refusal.TheVariants.{TooLong}
-use Rattle.lines.specs.Lines.{lines, line_end, seq_at, sum_widths}
+use Rattle.lines.specs.Lines.{lines, line_end, sum_widths}
 use Rattle.lines.specs.Laws.{line_end-le, line_end-gt, seq_at-end}
 use Rattle.lines.specs.Groups.{Group, groups}
 use Rattle.lines.specs.Sums.{widths-lines}
-use Rattle.table.specs.Fill.{Found, nothing, held_in}
+use Rattle.table.specs.Fill.{Found, nothing}
 use Rattle.table.specs.Laws.{held_all}
 use Rattle.table.specs.declared.Stop.TheVariants as stop
 use Rattle.indexer.specs.Rule.{groups_by, file_by, call_by}
@@ -20,10 +20,9 @@ use Rattle.checker.specs.Accepts.{bytes_of}
 use Rattle.checker.specs.Sequences.{bytes-lines}
 use Rattle.checker.specs.Check.{records_say, from_says, check_of}
 use Rattle.checker.specs.Steps.{check-start}
-use Rattle.checker.specs.declared.Verdict.{Verdict}
 use Rattle.checker.specs.declared.Verdict.TheVariants.{Accepted, Refused}
 use Rattle.parts.specs.Parts.{line_start, record_start, part_by, part_in, part_says, part_checked}
-use Rattle.parts.specs.Laws.{line-le, record-le}
+use Rattle.parts.specs.Laws.{record-le}
 use Rattle.parts.specs.Cuts.{lines_split, cut-at-line, groups-split}
 use Rattle.parts.specs.Rising.{line-rises, record-rises}
 use Rattle.parts.specs.Joining.{joined, rows-joined, verdicts-joined}

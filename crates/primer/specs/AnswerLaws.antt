@@ -1,12 +1,12 @@
 -- Laws for PlaceTheorems.antt: which tests an answer follows from.
-use Rattle.std.specs.Prelude.{ℕ, suc, ◌≤◌, ◌<◌, Bool, List, [], ◌∷◌, ◌↔◌}
+use Rattle.std.specs.Prelude.{ℕ, suc, ◌≤◌, Bool, List, [], ◌∷◌, ◌↔◌}
 use Rattle.std.proofs.Math.Path.{◌≡◌, refl, sym, ap}
 use Rattle.std.proofs.Common.{◌∙◌, true≢false}
 use Rattle.std.proofs.Math.Bool.{true, false, cond}
 use native.Mathlib.Omega.{arith}
 use Rattle.std.proofs.Math.Dec.{eqb, ltb}
 use Rattle.std.proofs.Math.ListN.{length}
-use borrow.Author.Tests.{eqb-true, eqb-false, ne_eqb, eq-eqb, lt-ltb, le-ltb, ltb-true, ltb-false}
+use borrow.Author.Tests.{eqb-true, eqb-false, ltb-true, ltb-false}
 use Rattle.refusal.specs.Numbers.{over_limit}
 use Rattle.refusal.specs.declared.Refusal.{Refusal}
 use Rattle.refusal.specs.declared.Refusal.TheVariants.{TooLong, PrimerLength, PrimerLetter}
@@ -23,7 +23,6 @@ use Rattle.primer.specs.declared.Judged.{Judged}
 use Rattle.primer.specs.declared.Judged.TheVariants as judge
 use Rattle.primer.specs.declared.Place.{Place}
 use Rattle.primer.specs.declared.Place.TheVariants as place
-use Rattle.primer.specs.declared.Counted.{Counted}
 use Rattle.primer.specs.declared.Counted.TheVariants as counted
 
 abbrev Within : List ℕ → Type 0

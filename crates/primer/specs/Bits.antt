@@ -1,6 +1,6 @@
 -- Tests as the bits of a number, and the laws of the shift-and step.
 use Rattle.std.specs.Prelude.{ℕ, zero, suc, ◌+◌, ◌*◌, ◌^◌, ◌≤◌, ◌<◌, ◌≡◌, refl, Bool, true, false, ◌&&◌}
-use Rattle.std.proofs.Common.{zero-le, suc-le-suc, sym, ap, ap₂, ◌∙◌, pow-suc, le_of_suc-le-suc, not-suc-le-zero, arith}
+use Rattle.std.proofs.Common.{ap₂, ◌∙◌, pow-suc, le_of_suc-le-suc, not-suc-le-zero, arith}
 use Rattle.std.specs.Int.Bits.{bit_and, and_zero_r}
 use Rattle.std.proofs.lemmas.Nat.{and_block}
 use Rattle.letters.specs.Sets.{bit, bit-lt}

@@ -3,7 +3,7 @@
 use Prim.Native.Nat.{ℕ, zero, suc, ◌+◌, ◌-◌, ◌*◌, ◌^◌, ◌≤◌, ◌<◌}
 use Rattle.std.specs.Prelude.{◌≡◌, Bool, cond, ◌&&◌, List, [], ◌∷◌, ◌++◌, take, drop, get_or}
 use Rattle.std.proofs.Math.Path.{refl, sym}
-use Rattle.std.proofs.Common.{ap, ◌∙◌, true≢false, lt_of_lt_of_le, pow-suc, pow_mono, add-one, length-take, take-suc, take_all}
+use Rattle.std.proofs.Common.{ap, ◌∙◌, true≢false, lt_of_lt_of_le, pow-suc, pow_mono, add-one, take-suc, take_all}
 use Rattle.std.proofs.Math.Bool.{true, false}
 use native.Mathlib.Omega.{arith}
 use Rattle.std.specs.Int.Bits.{bit_and, bit_or, or_add_and}
@@ -16,7 +16,6 @@ use Rattle.letters.specs.Letters.{set_of}
 use Rattle.letters.specs.Sets.{bit, bit-lt, inside}
 use Rattle.primer.specs.Search.{fits, matches, first_from, first_of}
 use Rattle.primer.specs.Bits.{number, shifted, number_lt, step-number, top_set, top-clear}
-use Rattle.primer.specs.declared.Found.{Found}
 use Rattle.primer.specs.declared.Found.TheVariants.{At, Nothing}
 
 unfoldable pub live : List ℕ → List ℕ → ℕ → ℕ → Bool

@@ -1,20 +1,17 @@
 -- Laws for PlaceTheorems.antt: what the walks over a primer and a text find.
-use Rattle.std.specs.Prelude.{ℕ, zero, suc, ◌+◌, ◌-◌, ◌≤◌, ◌<◌, ◌≡◌, refl, Bool, true, false, cond, not, ◌&&◌, List, [], ◌∷◌, eqb, ltb, drop, get_or}
-use Rattle.std.proofs.Common.{sym, ap, ◌∙◌, true≢false, add-suc, suc-add, zero-add, drop_of_length-le, get_or-drop, drop-drop, eq-eqb, ne_eqb, eqb-true, lt-ltb, le-ltb, ltb-true, ltb-false}
+use Rattle.std.specs.Prelude.{ℕ, zero, suc, ◌+◌, ◌-◌, ◌≤◌, ◌<◌, ◌≡◌, refl, Bool, true, false, cond, not, ◌&&◌, List, [], ◌∷◌, eqb, drop, get_or}
+use Rattle.std.proofs.Common.{sym, ap, ◌∙◌, true≢false, add-suc, suc-add, zero-add, get_or-drop, drop-drop, eq-eqb, ne_eqb, eqb-true}
 use Rattle.std.proofs.Math.Nat.{sub-zero}
 use native.Mathlib.Omega.{arith}
 use Rattle.std.proofs.Math.ListN.{length, length-drop}
 use Rattle.std.proofs.lemmas.Bool.{eqb-false}
-use Rattle.refusal.specs.declared.Refusal.{Refusal}
-use Rattle.refusal.specs.declared.Refusal.TheVariants.{PrimerLength, PrimerLetter}
+use Rattle.refusal.specs.declared.Refusal.TheVariants.{PrimerLetter}
 use Rattle.letters.specs.Letters.{set_of}
 use Rattle.letters.specs.Sets.{inside}
 use Rattle.primer.specs.Search.{fits, matches, first_from, next_of}
 use Rattle.primer.specs.Primer.{letters_judged}
 use Rattle.primer.specs.Places.{MatchesAt, FirstAt, CodedTo, FirstUncoded}
-use Rattle.primer.specs.declared.Found.{Found}
 use Rattle.primer.specs.declared.Found.TheVariants.{At, Nothing}
-use Rattle.primer.specs.declared.Judged.{Judged}
 use Rattle.primer.specs.declared.Judged.TheVariants as judge
 
 and_both : (a b : Bool) → (a && b) ≡ true → (a ≡ true) × (b ≡ true)

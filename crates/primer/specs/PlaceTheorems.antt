@@ -1,6 +1,6 @@
 -- Of the calls: the answer is the first place that matches; it is none exactly if no place matches; each refusal is given exactly in
 -- its case, the sizes before the primer's length, and that before its letters.
-use Rattle.std.specs.Prelude.{ℕ, ◌+◌, ◌≤◌, ◌<◌, ◌≡◌, Bool, true, false, List, ◌↔◌, length, get_or}
+use Rattle.std.specs.Prelude.{ℕ, ◌+◌, ◌≤◌, ◌<◌, ◌≡◌, false, List, ◌↔◌, length, get_or}
 use Rattle.refusal.specs.Numbers.{over_limit}
 use Rattle.refusal.specs.declared.Refusal.TheVariants.{TooLong, PrimerLength, PrimerLetter}
 use Rattle.letters.specs.Letters.{set_of}

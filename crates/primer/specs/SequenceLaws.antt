@@ -2,7 +2,7 @@
 use Prim.Native.Nat.{ℕ, zero, suc, ◌+◌, ◌*◌, ◌^◌, ◌≤◌, ◌<◌}
 use Prim.Native.Char.{code}
 use Prim.Native.String.{String, [] as empty, ◌∷◌ as ◌◂◌}
-use Rattle.std.specs.Prelude.{◌≡◌, Bool, cond, ◌&&◌, T, eqb, leb, drop, get_or}
+use Rattle.std.specs.Prelude.{◌≡◌, Bool, cond, eqb, leb, drop, get_or}
 use Rattle.std.proofs.Math.Path.{refl, ap}
 use Rattle.std.proofs.Common.{sym, ◌∙◌, le_trans, zero-mul, one-mul, add-mul, pow-suc, mul-le-mul, arith, eqb→eq, leb→le, length-drop, pow_mono, drop-cons}
 use Rattle.std.proofs.Math.Bool.{true, false}

@@ -1,11 +1,11 @@
 -- Laws for Strands.antt: bytes and letters from the back, each as its partner.
-use Rattle.std.specs.Prelude.{ℕ, zero, suc, ◌+◌, ◌-◌, ◌≤◌, ◌<◌, ◌≡◌, refl, Bool, true, false, ◌↔◌, eqb, length, get_or}
+use Rattle.std.specs.Prelude.{ℕ, suc, ◌+◌, ◌-◌, ◌<◌, ◌≡◌, refl, Bool, true, false, ◌↔◌, eqb, length, get_or}
 use Rattle.std.proofs.Common.{sym, ap, ◌∙◌, arith, eqb-true}
 use mathlib.Core.List.{List, [], ◌∷◌, ◌++◌, map, reverse, reverse-cons}
 use Rattle.std.proofs.lemmas.List.{length-map, length-reverse, get_or_at}
 use Rattle.std.proofs.Math.ListN.{get_or-map, get_or-append}
 use Rattle.std.proofs.lemmas.Bool.{eqb-false}
-use Rattle.letters.specs.Letters.{partner, set_of}
+use Rattle.letters.specs.Letters.{partner}
 use Rattle.letters.specs.Complements.{complement-inside}
 use Rattle.complement.specs.Complement.{given, faults, reverse_complement_of}
 use Rattle.complement.specs.InverseLaws.{inside}

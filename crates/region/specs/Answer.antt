@@ -1,5 +1,5 @@
 -- What the exact read answers, by numbers alone, for a file of so many bytes and so much room. No byte matters.
-use Rattle.std.specs.Prelude.{ℕ, ◌≤◌, ◌≡◌, refl, List, [], ◌∷◌, ◌++◌, map, Bool, true, false, cond, length, take, drop}
+use Rattle.std.specs.Prelude.{ℕ, ◌≤◌, ◌≡◌, refl, List, ◌++◌, map, Bool, true, false, cond, length, take, drop}
 use Rattle.std.proofs.Common.{ap, sym, ◌∙◌, take_at, arith}
 use Rattle.std.proofs.lemmas.List.{length-map}
 use Rattle.refusal.specs.Numbers.{over_limit}
@@ -19,7 +19,7 @@ use Rattle.region.specs.Region.{bounded_row, start_of, end_of}
 use Rattle.region.specs.Exact.{region_of, exact_in, exact_of, exact_held}
 use Rattle.region.specs.Judge.{region_judged, judged-fine, refused-read, fine-read}
 use Rattle.region.specs.Inside.{length-offsets}
-use Rattle.region.specs.Dependence.{region_offsets, region_count, Readable, ReadAs, exact-reads, exact-known}
+use Rattle.region.specs.Dependence.{region_offsets, region_count, Readable, exact-reads, exact-known}
 
 -- a judgement as an answer: how many bytes, or why none
 unfoldable pub answer_of : Judged → Written

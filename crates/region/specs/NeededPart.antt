@@ -21,7 +21,7 @@ use Rattle.table.specs.declared.Held.{Held}
 use Rattle.table.specs.declared.Held.TheVariants as held
 use Rattle.output.specs.declared.Written.{Written}
 use Rattle.output.specs.declared.Written.TheVariants.{Bytes, Refused}
-use Rattle.output.specs.Outcome.{Outcome, leaves, refuses}
+use Rattle.output.specs.Outcome.{Outcome, refuses}
 use Rattle.region.specs.declared.Bound.{Bound}
 use Rattle.region.specs.declared.Part.{Part}
 use Rattle.region.specs.declared.Needed.{Needed}

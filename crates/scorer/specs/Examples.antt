@@ -1,6 +1,6 @@
 -- The user's case, computed: a hundred bases asked, fifty typed, 49 of them right. The score is 490, never 980; and if only fifty bases are left
 -- there is no key and no score.
-use Rattle.std.specs.Prelude.{ℕ, zero, suc, ◌≡◌, refl, List, [], ◌∷◌, ◌++◌}
+use Rattle.std.specs.Prelude.{ℕ, ◌≡◌, refl, List, [], ◌∷◌, ◌++◌}
 use Rattle.ascii.specs.Text.{text}
 use Rattle.refusal.specs.Numbers.{over_limit}
 use Rattle.refusal.specs.declared.Refusal.TheVariants.{PastLength}

@@ -1,6 +1,6 @@
 -- What is known of a score that the scorer gives: the exercise that was read, the row that was found, the whole key that was fetched, and the rule
 -- that counted what was typed. And of a refusal: the room is as it was.
-use Rattle.std.specs.Prelude.{ℕ, ◌+◌, ◌-◌, ◌≤◌, ◌<◌, ◌≡◌, List, ◌++◌, map, Bool, cond, ◌||◌, ◌⊎◌, eqb, take, drop}
+use Rattle.std.specs.Prelude.{ℕ, ◌+◌, ◌-◌, ◌≤◌, ◌≡◌, List, ◌++◌, map, Bool, cond, ◌||◌, ◌⊎◌, eqb, drop}
 use Rattle.std.proofs.Math.Path.{refl}
 use Rattle.std.proofs.Common.{sym, ap, ◌∙◌, true≢false, inl, inr, arith, take_at, eqb-true}
 use Rattle.std.proofs.Math.Bool.{true, false}
@@ -10,21 +10,18 @@ use Rattle.refusal.specs.Numbers.{over_limit}
 use Rattle.refusal.specs.declared.Refusal.{Refusal}
 use Rattle.refusal.specs.declared.Refusal.TheVariants.{TooLong, UnknownEdition}
 use Rattle.output.specs.declared.Written.{Written}
-use Rattle.output.specs.declared.Written.TheVariants as written
 use Rattle.output.specs.Outcome.{Outcome, leaves, refuses, gives}
 use Rattle.record.specs.Bases.{byte_at}
 use Rattle.table.specs.declared.Held.{Held}
-use Rattle.table.specs.declared.Held.TheVariants as held
 use Rattle.table.specs.Rows.{held_at}
 use Rattle.index.specs.declared.Found.{Found}
 use Rattle.index.specs.declared.Found.TheVariants as found
 use Rattle.index.specs.Find.{row_read}
-use Rattle.region.specs.declared.Bound.{Bound}
 use Rattle.region.specs.Region.{start_of, end_of}
-use Rattle.region.specs.Exact.{exact_of, exact_held, exact_read}
+use Rattle.region.specs.Exact.{exact_held}
 use Rattle.region.specs.Inside.{length-offsets}
 use Rattle.region.specs.Laws.{good-bounds}
-use Rattle.region.specs.Dependence.{region_offsets, region_count, exact-reads, exact-either, Refusing, Reading}
+use Rattle.region.specs.Dependence.{region_offsets, exact-reads, exact-either, Reading}
 use Rattle.exercise.specs.declared.Exercise.{Exercise}
 use Rattle.exercise.specs.declared.ExerciseRead.{ExerciseRead}
 use Rattle.exercise.specs.declared.ExerciseRead.TheVariants as read

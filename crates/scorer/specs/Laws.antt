@@ -1,7 +1,7 @@
 -- Laws of the scorer: what each step says of the outcome. The code's proofs cite these.
-use Rattle.std.specs.Prelude.{ℕ, ◌+◌, ◌-◌, ◌≤◌, ◌<◌, Bool, take}
+use Rattle.std.specs.Prelude.{ℕ, ◌+◌, ◌≤◌, Bool, take}
 use Rattle.std.proofs.Math.Path.{◌≡◌, refl, sym, ap}
-use Rattle.std.proofs.Common.{◌∙◌, ⊎_elim, arith, length-take}
+use Rattle.std.proofs.Common.{◌∙◌, arith, length-take}
 use mathlib.Core.List.{List, ◌++◌, map}
 use Rattle.std.proofs.Math.Bool.{true, false, cond}
 use Rattle.std.proofs.Math.ListN.{length, drop, length-append, length-map}
@@ -16,19 +16,17 @@ use Rattle.table.specs.declared.Held.{Held}
 use Rattle.region.specs.declared.Bound.{Bound}
 use Rattle.region.specs.Exact.{exact_of, exact_held}
 use Rattle.region.specs.Inside.{length-offsets}
-use Rattle.region.specs.Dependence.{region_offsets, region_count, exact-known, exact-either, Refusing, Reading}
+use Rattle.region.specs.Dependence.{region_offsets, region_count, exact-known}
 use Rattle.scoring.specs.declared.Scored.{Scored}
 use Rattle.scoring.specs.declared.Scored.TheVariants as scored
 use Rattle.scoring.specs.Places.{key_scored}
 use Rattle.table.specs.Rows.{held_at}
-use Rattle.index.specs.declared.Found.{Found}
 use Rattle.index.specs.declared.Found.TheVariants as found
 use Rattle.index.specs.Find.{row_read}
 use Rattle.exercise.specs.declared.Exercise.{Exercise}
 use Rattle.exercise.specs.declared.ExerciseRead.TheVariants as read
 use Rattle.exercise.specs.Reading.{says_from, read_as}
 use Rattle.exercise.specs.Within.{read-sound}
-use Rattle.scorer.specs.declared.Asked.{Asked}
 use Rattle.scorer.specs.declared.Asked.TheVariants as asked
 use Rattle.scorer.specs.Scorer.{any_over, name_asked, asked_row, asked_by, asked_of, refuses_score, counted_as, key_counted, first, last, row_scored, asked_scored, scorer_of}
 

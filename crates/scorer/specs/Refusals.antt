@@ -3,16 +3,16 @@
 -- `refused-only-if`, `refused-if`: the scorer refuses with f exactly if `Refuses` says so: 1 if one of the lent inputs is too long; else the first
 -- fault of the exercise's fields (31, 32, 33); else the refusal of looking up its name (25, 15); else that of the exact read of its bounds (16, 17,
 -- 14, 18). In each case the room is as it was (`unchanged` in Known.antt).
-use Rattle.std.specs.Prelude.{ℕ, ◌≡◌, refl, List, Bool, true, false}
+use Rattle.std.specs.Prelude.{ℕ, ◌≡◌, List, true, false}
 use Rattle.std.proofs.Math.Path.{sym}
-use Rattle.std.proofs.Common.{ap, ◌∙◌, arith}
+use Rattle.std.proofs.Common.{ap, ◌∙◌}
 use Rattle.refusal.specs.declared.Refusal.{Refusal}
 use Rattle.refusal.specs.declared.Refusal.TheVariants.{TooLong}
 use Rattle.output.specs.Outcome.{Outcome, leaves, refuses}
 use Rattle.table.specs.Rows.{held_at}
 use Rattle.index.specs.declared.Found.TheVariants as found
 use Rattle.index.specs.Find.{row_read}
-use Rattle.region.specs.Exact.{exact_held, exact_read}
+use Rattle.region.specs.Exact.{exact_read}
 use Rattle.exercise.specs.declared.Exercise.{Exercise}
 use Rattle.exercise.specs.declared.ExerciseRead.TheVariants as read
 use Rattle.exercise.specs.Reading.{read_as}
@@ -21,7 +21,7 @@ use Rattle.exercise.specs.Faults as exercise
 use Rattle.exercise.specs.Within.{read-sound, known_two}
 use Rattle.scoring.specs.declared.Scored.{Scored}
 use Rattle.scoring.specs.declared.Scored.TheVariants as scored
-use Rattle.scorer.specs.Scorer.{any_over, name_asked, refuses_score, first, last, row_scored, scorer_of}
+use Rattle.scorer.specs.Scorer.{any_over, name_asked, refuses_score, first, last, scorer_of}
 use Rattle.scorer.specs.Laws.{says, asked-unread, asked-unfound, asked-found, scorer-long, scorer-refused, scorer-row}
 use Rattle.scorer.specs.Known.{typed-small, refused-read, read-refused, Either, either}
 use Rattle.scorer.specs.Known.Either.{too-long, unread, unfound, row-found}

@@ -6,23 +6,22 @@
 -- `counted`: each count is how many places satisfy its rule. `fetched`: the key is what the exact read gives of the row that has the name, and stands at
 -- the front of the room; what is behind it stays. That a refusal leaves all of the room as it was is `unchanged` in Known.antt.
 -- `first-edition`, `second-edition`: tag 4 chooses the rule. `edition-rise`: from edition 1 to edition 2 the score never falls.
-use Rattle.std.specs.Prelude.{ℕ, ◌+◌, ◌-◌, ◌*◌, ◌/◌, ◌≤◌, ◌<◌, ◌≡◌, refl, List, [], ◌∷◌, ◌++◌, Bool, true, false, eqb, length, take, drop}
-use Rattle.std.proofs.Common.{sym, ◌∙◌, arith, take_at, eq-eqb}
+use Rattle.std.specs.Prelude.{ℕ, ◌+◌, ◌-◌, ◌*◌, ◌/◌, ◌≤◌, ◌<◌, ◌≡◌, refl, List, [], ◌∷◌, ◌++◌, Bool, length, take, drop}
+use Rattle.std.proofs.Common.{sym, ◌∙◌, arith, take_at}
 use Rattle.std.proofs.Math.Path.{ap}
 use Rattle.output.specs.declared.Written.{Written}
-use Rattle.output.specs.declared.Written.TheVariants as written
 use Rattle.output.specs.Outcome.{Outcome, leaves, gives}
 use Rattle.table.specs.Rows.{held_at}
 use Rattle.index.specs.declared.Found.TheVariants as found
 use Rattle.index.specs.Find.{row_read}
-use Rattle.region.specs.Exact.{exact_held, exact_read}
+use Rattle.region.specs.Exact.{exact_read}
 use Rattle.exercise.specs.declared.Exercise.{Exercise}
 use Rattle.exercise.specs.declared.ExerciseRead.TheVariants as read
 use Rattle.exercise.specs.Reading.{read_as}
 use Rattle.scoring.specs.declared.Score.{Score}
 use Rattle.scoring.specs.declared.Scored.TheVariants as scored
-use Rattle.scoring.specs.Rules.{same, lies, rule_for}
-use Rattle.scoring.specs.Places.{right_of, wrong_of, missing_of, surplus_of, tenths, tenths_of, score_by}
+use Rattle.scoring.specs.Rules.{same, lies}
+use Rattle.scoring.specs.Places.{right_of, wrong_of, missing_of, surplus_of, tenths_of, score_by}
 use Rattle.scoring.specs.Laws as counts
 use Rattle.scoring.specs.Theorems as rules
 use Rattle.scorer.specs.Scorer.{name_asked, first, last, scorer_of}

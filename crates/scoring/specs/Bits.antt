@@ -1,12 +1,12 @@
 -- The bits of a word, and the places that they stand for.
-use Rattle.std.specs.Prelude.{ℕ, zero, suc, ◌+◌, ◌-◌, ◌*◌, ◌/◌, ◌%◌, ◌^◌, ◌≤◌, ◌<◌, min, ◌≡◌, Bool, true, false, ◌&&◌, List, T, eqb, length, get_or}
+use Rattle.std.specs.Prelude.{ℕ, zero, suc, ◌+◌, ◌-◌, ◌*◌, ◌/◌, ◌%◌, ◌^◌, ◌≤◌, ◌<◌, ◌≡◌, Bool, true, false, ◌&&◌, List, eqb, get_or}
 use Rattle.std.proofs.Math.Path.{refl}
-use Rattle.std.proofs.Common.{sym, ap, ◌∙◌, add-zero, zero-add, add-suc, suc-add, mul-one, pow-suc, add-one, arith, eqb→eq}
+use Rattle.std.proofs.Common.{◌∙◌, add-zero, zero-add, suc-add, pow-suc, arith, eqb→eq}
 use Rattle.std.proofs.Math.Arith.{digits_div, digits_mod, lt-one}
 use Rattle.std.specs.Int.Bits.{bit_and, bit_or, and_step, and_self, block_half, block_odd}
-use Rattle.std.specs.Int.Count.{count_trailing_zeros, under}
+use Rattle.std.specs.Int.Count.{count_trailing_zeros}
 use Rattle.letters.specs.Sets.{bit, bit-lt}
-use Rattle.scoring.specs.RuleLaws.{holds, holds_at}
+use Rattle.scoring.specs.RuleLaws.{holds_at}
 use Rattle.scoring.specs.Lanes.{weigh, weigh-small, weigh-none, sum_to, sum-next, IsLanes, lane}
 
 abbrev pub taken : ℕ → Bool → ℕ

@@ -1,6 +1,6 @@
 -- Laws of counting.
-use Rattle.std.specs.Prelude.{ℕ, zero, suc, ◌+◌, ◌-◌, ◌≤◌, ◌<◌, ◌≡◌, refl, Bool, true, false, not, ◌&&◌, List, ltb, length, get_or}
-use Rattle.std.proofs.Common.{sym, ap, ◌∙◌, add-zero, add-suc, zero-add, add-one, arith, ltb-true, ltb-false}
+use Rattle.std.specs.Prelude.{ℕ, zero, suc, ◌+◌, ◌-◌, ◌≤◌, ◌<◌, ◌≡◌, refl, Bool, true, false, not, List, ltb, get_or}
+use Rattle.std.proofs.Common.{ap, add-zero, add-suc, zero-add, add-one, arith, ltb-true, ltb-false}
 use Rattle.letters.specs.Sets.{bit, bit-lt}
 use Rattle.scoring.specs.Places.{count_below}
 

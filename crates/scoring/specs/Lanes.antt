@@ -1,6 +1,6 @@
 -- Places in blocks of 32, and the lanes across them: lane l has the places l, 32 + l, 64 + l and so on.
-use Rattle.std.specs.Prelude.{ℕ, zero, suc, ◌+◌, ◌-◌, ◌*◌, ◌^◌, ◌≤◌, ◌<◌, ◌≡◌, refl, Bool, true, false, List, T, eqb, length, get_or, set}
-use Rattle.std.proofs.Common.{sym, ap, ◌∙◌, add-zero, add-suc, pow-suc, le_trans, add-one, arith, eqb→eq, pow_mono, length-set, get_or-set_same, get_or-set_other, eqb-true}
+use Rattle.std.specs.Prelude.{ℕ, zero, suc, ◌+◌, ◌*◌, ◌^◌, ◌≤◌, ◌<◌, ◌≡◌, refl, Bool, true, false, List, T, eqb, length, get_or, set}
+use Rattle.std.proofs.Common.{ap, ◌∙◌, add-zero, add-suc, pow-suc, add-one, arith, eqb→eq, pow_mono, length-set, get_or-set_same, get_or-set_other, eqb-true}
 use Rattle.scoring.specs.RuleLaws.{holds, holds_at}
 use Rattle.std.proofs.lemmas.Bool.{eqb-false}
 use Rattle.letters.specs.Sets.{bit, bit-lt}

@@ -1,12 +1,11 @@
 -- Laws of the counts: what the code finds is what the places say.
-use Rattle.std.specs.Prelude.{ℕ, zero, suc, ◌+◌, ◌-◌, ◌*◌, ◌/◌, ◌≤◌, ◌<◌, min, ◌≡◌, refl, Bool, true, false, cond, not, ◌&&◌, List, eqb, ltb, get_or}
+use Rattle.std.specs.Prelude.{ℕ, zero, suc, ◌+◌, ◌-◌, ◌*◌, ◌/◌, ◌≤◌, ◌<◌, min, ◌≡◌, refl, Bool, true, false, not, ◌&&◌, List, ltb, get_or}
 use Rattle.std.proofs.Math.Path.{sym}
 use Rattle.std.proofs.Common.{ap, ◌∙◌, arith, lt-ltb, le-ltb, ltb-true, ltb-false}
 use Rattle.std.proofs.Math.ListN.{length}
 use Rattle.letters.specs.Sets.{bit}
-use Rattle.scoring.specs.Places.{count_below, is_right, is_wrong, is_missing, is_surplus, right_of, wrong_of, missing_of, surplus_of, tenths, tenths_of, score_by}
+use Rattle.scoring.specs.Places.{count_below, is_right, is_wrong, is_missing, right_of, wrong_of, missing_of, surplus_of, tenths, tenths_of, score_by}
 use Rattle.scoring.specs.Counting.{Counted, agrees, count_same, count-stops, count-three, count_past, counted-front}
-use Rattle.scoring.specs.declared.Score.{Score}
 
 -- each place of the key is right, wrong or missing, and one of these only
 one_of : (a b : Bool) → bit (a && b) + bit (a && not b) + bit (not a) ≡ 1

@@ -1,13 +1,13 @@
 -- Where edition 2 is told by the letter that the key means: its own, or the typed one where the key has N. T and U are one letter.
-use Rattle.std.specs.Prelude.{ℕ, ◌≤◌, ◌<◌, ◌≡◌, refl, Bool, true, false, cond, not, ◌&&◌, ◌||◌, List, [], ◌∷◌, T, eqb, ltb, leb, get_or}
-use Rattle.std.proofs.Common.{sym, ap, ◌∙◌, true≢false, ltb-true, eqb-true}
+use Rattle.std.specs.Prelude.{ℕ, ◌<◌, ◌≡◌, refl, Bool, true, false, cond, not, ◌&&◌, ◌||◌, List, [], ◌∷◌, T, eqb, ltb, leb, get_or}
+use Rattle.std.proofs.Common.{sym, true≢false, ltb-true, eqb-true}
 use Rattle.std.specs.Int.Bits.{bit_or, bit_xor}
 use Rattle.letters.specs.Letters.{set_of}
 use Rattle.letters.specs.Sets.{bit, inside}
 use Rattle.scoring.specs.Rules.{folded, same, coded, lies}
 use Rattle.scoring.specs.RuleLaws.{holds, holds_at}
 use Rattle.scoring.specs.Counting.{Counted, agrees, counted-as}
-use Rattle.scoring.specs.Theorems.{among, all, all-at, beq, beq_same}
+use Rattle.scoring.specs.Theorems.{among, all-at, beq, beq_same}
 
 -- the letter that the key's means, in lower case
 unfoldable pub meant : ℕ → ℕ → ℕ

@@ -1,12 +1,12 @@
 -- Where the key's letter stands for one base at most, it settles what is right in edition 2. Elsewhere a place is open: the two sets tell.
-use Rattle.std.specs.Prelude.{ℕ, zero, suc, ◌+◌, ◌≤◌, ◌<◌, ◌≡◌, refl, Bool, true, false, cond, not, ◌&&◌, ◌||◌, List, [], ◌∷◌, T, eqb, ltb, leb, get_or}
-use Rattle.std.proofs.Common.{arith, sym, ap, ◌∙◌, true≢false, add-zero, zero-add, ltb-true, lt-ltb}
+use Rattle.std.specs.Prelude.{ℕ, ◌+◌, ◌<◌, ◌≡◌, refl, Bool, true, false, not, ◌&&◌, ◌||◌, List, [], ◌∷◌, eqb, ltb, leb, get_or}
+use Rattle.std.proofs.Common.{arith, sym, add-zero, zero-add, ltb-true, lt-ltb}
 use Rattle.std.specs.Int.Bits.{bit_or, bit_xor}
 use Rattle.letters.specs.Letters.{set_of}
 use Rattle.letters.specs.Sets.{bit, inside}
 use Rattle.scoring.specs.Rules.{folded, same, coded, lies}
 use Rattle.scoring.specs.RuleLaws.{holds, holds_at}
-use Rattle.scoring.specs.Theorems.{among, all, all-at, beq, beq_same}
+use Rattle.scoring.specs.Theorems.{among, all-at, beq, beq_same}
 use Rattle.scoring.specs.Plain.{lone, is_lone}
 use Rattle.scoring.specs.Places.{count_below}
 use Rattle.scoring.specs.Counting.{Counted, agrees, count-two, count-rise}

@@ -1,5 +1,5 @@
 -- The counts of a key and what was typed, for any rule of what is right, each by a rule of its own over places; and the score.
-use Rattle.std.specs.Prelude.{ℕ, zero, suc, ◌+◌, ◌*◌, ◌/◌, Bool, true, false, cond, not, ◌&&◌, ◌||◌, List, eqb, ltb, length, get_or}
+use Rattle.std.specs.Prelude.{ℕ, zero, suc, ◌+◌, ◌*◌, ◌/◌, Bool, cond, not, ◌&&◌, List, eqb, ltb, length, get_or}
 use Rattle.refusal.specs.Numbers.{over_limit}
 use Rattle.refusal.specs.declared.Refusal.TheVariants.{TooLong, UnknownEdition}
 use Rattle.letters.specs.Sets.{bit}

@@ -1,6 +1,6 @@
 -- Where edition 2 is told by the letters alone.
-use Rattle.std.specs.Prelude.{ℕ, ◌<◌, ◌≡◌, refl, Bool, true, false, cond, not, ◌&&◌, ◌||◌, List, [], ◌∷◌, T, eqb, ltb, get_or}
-use Rattle.std.proofs.Common.{sym, ap, ◌∙◌, true≢false, ltb-true}
+use Rattle.std.specs.Prelude.{ℕ, ◌<◌, ◌≡◌, refl, Bool, true, false, not, ◌&&◌, ◌||◌, List, [], ◌∷◌, T, eqb, ltb, get_or}
+use Rattle.std.proofs.Common.{sym, true≢false, ltb-true}
 use Rattle.std.specs.Int.Bits.{bit_or}
 use mir.Val.{bool_byte}
 use Rattle.letters.specs.Letters.{set_of}
@@ -8,7 +8,7 @@ use Rattle.letters.specs.Sets.{bit, inside}
 use Rattle.scoring.specs.Rules.{folded, same, coded, lies}
 use Rattle.scoring.specs.RuleLaws.{holds, holds_at}
 use Rattle.scoring.specs.Counting.{Counted, agrees, counted-as}
-use Rattle.scoring.specs.Theorems.{among, all, all-at, beq, beq_same}
+use Rattle.scoring.specs.Theorems.{among, all-at, beq, beq_same}
 
 abbrev pub lone : List ℕ
 lone = 65 ∷ 67 ∷ 69 ∷ 71 ∷ 84 ∷ 97 ∷ 99 ∷ 101 ∷ 103 ∷ 116 ∷ []

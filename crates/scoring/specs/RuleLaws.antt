@@ -1,6 +1,6 @@
 -- Laws of the two editions' rules.
 use Rattle.std.specs.Prelude.{ℕ, zero, suc, ◌-◌, ◌≤◌, ◌<◌, ◌≡◌, refl, Bool, true, false, cond, not, ◌&&◌, T, eqb, ltb}
-use Rattle.std.proofs.Common.{sym, ap, ◌∙◌, true≢false, arith, eqb→eq, eq-eqb, ne_eqb, eqb-true, ltb-true, ltb-false, lt-ltb, le-ltb}
+use Rattle.std.proofs.Common.{sym, ap, ◌∙◌, arith, eqb→eq, eq-eqb, ne_eqb, eqb-true, ltb-true, ltb-false, lt-ltb, le-ltb}
 use Rattle.std.specs.Int.Bits.{bit_and, and_self, and_zero_r}
 use Rattle.std.proofs.lemmas.Bool.{eqb-false}
 use Rattle.letters.specs.Letters.{set_of}

@@ -1,6 +1,6 @@
 -- What is promised of a score. `asked` of Laws is the first: right, wrong and missing places are all places of the key.
-use Rattle.std.specs.Prelude.{ℕ, zero, suc, ◌+◌, ◌-◌, ◌*◌, ◌/◌, ◌≤◌, ◌<◌, ◌≡◌, refl, Bool, true, false, cond, not, ◌&&◌, List, [], ◌∷◌, ◌++◌, T, eqb, ltb, get_or}
-use Rattle.std.proofs.Common.{sym, ap, ◌∙◌, true≢false, le-div_iff_mul-le, div-mul-le_self, mul-div_cancel, length-append, lt-ltb, ltb-true, eqb-true}
+use Rattle.std.specs.Prelude.{ℕ, zero, suc, ◌+◌, ◌*◌, ◌/◌, ◌≤◌, ◌<◌, ◌≡◌, refl, Bool, true, false, cond, not, ◌&&◌, List, [], ◌∷◌, ◌++◌, T, eqb, ltb, get_or}
+use Rattle.std.proofs.Common.{sym, true≢false, le-div_iff_mul-le, div-mul-le_self, mul-div_cancel, length-append, lt-ltb, ltb-true, eqb-true}
 use native.Mathlib.Omega.{arith}
 use Rattle.std.proofs.Math.Nat.{div-le_of_le-mul, zero-div}
 use Rattle.std.proofs.Math.ListN.{length, get_or-append}

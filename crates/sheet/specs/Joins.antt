@@ -1,5 +1,5 @@
 -- A sheet in terms of single reads: their answers joined in order, or the refusal of the first that is refused.
-use Rattle.std.specs.Prelude.{ℕ, zero, suc, ◌+◌, ◌-◌, ◌≤◌, ◌<◌, ◌≡◌, Bool, get_or, take}
+use Rattle.std.specs.Prelude.{ℕ, zero, suc, ◌≤◌, ◌<◌, ◌≡◌, Bool, get_or, take}
 use Rattle.std.proofs.Math.Path.{refl, ap, sym}
 use Rattle.std.proofs.Common.{◌∙◌, take_at, drop_at, arith, zero-add}
 use mathlib.Core.List.{List, [], ◌∷◌, ◌++◌, append_assoc}
@@ -16,8 +16,8 @@ use Rattle.output.specs.Outcome.{Outcome}
 use Rattle.sheet.specs.declared.Region.{Region}
 use Rattle.sheet.specs.declared.SheetRead.{SheetRead}
 use Rattle.sheet.specs.declared.SheetRead.TheVariants as sheet
-use Rattle.sheet.specs.Sheet.{SheetOutcome, leaves_both, refuses_at, given, pieces, joined, starts_from, capped, poured, refused_or, unless_refused, sheet_of, most, read_of, sheet_read}
-use Rattle.sheet.specs.Laws.{pieces-length, pieces-at, joined-more, joined-split, starts-at, sheet-empty, Good, first-refused}
+use Rattle.sheet.specs.Sheet.{SheetOutcome, leaves_both, refuses_at, pieces, joined, starts_from, capped, poured, refused_or, unless_refused, sheet_of, most, read_of, sheet_read}
+use Rattle.sheet.specs.Laws.{pieces-length, pieces-at, joined-split, starts-at, sheet-empty, Good, first-refused}
 use Rattle.sheet.specs.Turns.{no_region, read-size}
 
 -- ---- what an answer says

@@ -1,8 +1,8 @@
 -- Laws of pieces and of the first refused region. Callers cite these and unfold nothing.
-use Prim.Native.Nat.{ℕ, zero, suc, ◌+◌, ◌-◌, ◌≤◌, ◌<◌, min}
-use Rattle.std.specs.Prelude.{◌≡◌, Bool, true, false, cond, length, get_or, take, drop, ltb}
+use Prim.Native.Nat.{ℕ, zero, suc, ◌+◌, ◌≤◌, ◌<◌}
+use Rattle.std.specs.Prelude.{◌≡◌, Bool, true, false, length, get_or, take, drop, ltb}
 use Rattle.std.proofs.Math.Path.{refl, ap}
-use Rattle.std.proofs.Common.{sym, ◌∙◌, length-append, take_all, take-suc, ltb-true, ltb-false, le-ltb, zero-add, add-one}
+use Rattle.std.proofs.Common.{sym, ◌∙◌, length-append, take_all, ltb-true, ltb-false, le-ltb, zero-add, add-one}
 use mathlib.Core.List.{List, [], ◌∷◌, ◌++◌, append_assoc, append-nil}
 use native.Mathlib.Omega.{arith}
 use Rattle.std.proofs.Math.Nat.{add-zero}

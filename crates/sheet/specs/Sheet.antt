@@ -1,5 +1,5 @@
 -- A sheet: the exact reads of several regions, one after another in one output, and where each begins. All or nothing.
-use Rattle.std.specs.Prelude.{ℕ, suc, ◌+◌, min, List, [], ◌∷◌, ◌++◌, map, Bool, cond, length, take, drop, ltb}
+use Rattle.std.specs.Prelude.{ℕ, suc, ◌+◌, min, List, [], ◌∷◌, ◌++◌, cond, length, take, drop, ltb}
 use Rattle.refusal.specs.Numbers.{over_limit}
 use Rattle.refusal.specs.declared.Refusal.{Refusal}
 use Rattle.refusal.specs.declared.Refusal.TheVariants.{TooLong, NoRoom, TooManyRegions, TooFewStarts}

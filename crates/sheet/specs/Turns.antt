@@ -1,10 +1,10 @@
 -- How a sheet goes on, turn by turn, and why it leaves in the end what the definition says: a turn for each region to judge it, then one for
 -- each to write it.
-use Prim.Native.Nat.{ℕ, zero, suc, ◌+◌, ◌-◌, ◌^◌, ◌≤◌, ◌<◌, min}
+use Prim.Native.Nat.{ℕ, suc, ◌+◌, ◌-◌, ◌≤◌, ◌<◌}
 use Rattle.std.specs.Prelude.{◌≡◌, get_or, set}
 use Rattle.std.proofs.Math.Path.{refl, ap, sym}
-use Rattle.std.proofs.Common.{◌∙◌, drop_of_length-le, drop-cons, drop-drop, take_at, drop_at, add-zero, zero-add, add-one}
-use mathlib.Core.List.{List, [], ◌∷◌, ◌++◌, append_assoc, append-nil}
+use Rattle.std.proofs.Common.{◌∙◌, drop_of_length-le, drop-cons, drop-drop, take_at, drop_at, zero-add, add-one}
+use mathlib.Core.List.{List, [], ◌++◌, append_assoc, append-nil}
 use Rattle.std.proofs.Math.Bool.{Bool, true, false, cond}
 use Rattle.std.proofs.Math.ListN.{length, take, drop, length-append, length-drop}
 use Rattle.std.proofs.Math.Seq.{append_snoc, take_all, length-take-le}
@@ -23,14 +23,14 @@ use Rattle.table.specs.declared.InUse.{InUse}
 use Rattle.table.specs.Rows.{used_at, held_of, held_at}
 use Rattle.region.specs.declared.Bound.TheVariants.{Absent}
 use Rattle.region.specs.Exact.{exact_held, exact_read}
-use Rattle.region.specs.Answer.{exact_answer, answer-same, Gave, read-gave}
+use Rattle.region.specs.Answer.{exact_answer, answer-same, read-gave}
 use Rattle.sheet.specs.declared.Region.{Region}
 use Rattle.sheet.specs.declared.SheetRead.{SheetRead}
 use Rattle.sheet.specs.declared.SheetRead.TheVariants as sheet
 use Rattle.sheet.specs.declared.going.Pass.{Pass}
 use Rattle.sheet.specs.declared.going.Pass.TheVariants as pass
 use Rattle.sheet.specs.declared.going.Going.{Going}
-use Rattle.sheet.specs.Sheet.{SheetOutcome, leaves_both, refuses_at, given, pieces, joined, starts_from, capped, poured, unless_refused, sheet_of, most, read_of, sheet_read}
+use Rattle.sheet.specs.Sheet.{SheetOutcome, leaves_both, refuses_at, given, pieces, joined, starts_from, capped, poured, sheet_of, most, read_of, sheet_read}
 use Rattle.sheet.specs.Laws.{pieces-length, pieces-at, joined-more, joined-all, joined-part, starts-length, starts_more, capped-add, capped-more, capped_fits, sheet-empty, first-refused, none-refused, Good, good_none, good_more}
 
 -- what lies behind the last region

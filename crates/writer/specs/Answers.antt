@@ -1,11 +1,10 @@
 -- Each answer of writing is given exactly in its case: the cases exclude one another, in the order of the refusals, and each answer has one.
 use Prim.Native.Nat.{ℕ, ◌≤◌, ◌<◌}
-use Rattle.std.specs.Prelude.{◌≡◌, Bool, true, false, cond, ◌&&◌, length, drop, eqb, ltb}
+use Rattle.std.specs.Prelude.{◌≡◌, Bool, true, false, cond, ◌&&◌, length, eqb, ltb}
 use Rattle.std.proofs.Math.Path.{refl}
-use mathlib.Core.List.{List, ◌++◌}
+use mathlib.Core.List.{List}
 use Rattle.std.proofs.Common.{eqb-true, ltb-true, ltb-false, arith}
 use Rattle.std.proofs.lemmas.Bool.{eqb-false}
-use Rattle.refusal.specs.declared.Refusal.{Refusal}
 use Rattle.refusal.specs.declared.Refusal.TheVariants.{TooLong, ZeroWidth, NameUnfit, DescriptionUnfit, BaseUnfit, NoRoom}
 use Rattle.output.specs.declared.Written.{Written}
 use Rattle.output.specs.Outcome.{Outcome, refuses, gives, pours}

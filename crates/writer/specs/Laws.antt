@@ -2,7 +2,7 @@
 use Prim.Native.Nat.{ℕ, zero, suc, ◌+◌, ◌-◌, ◌*◌, ◌/◌, ◌≤◌, ◌<◌, min}
 use Rattle.std.specs.Prelude.{◌≡◌, refl, Bool, true, false, ◌||◌, take, get_or, ltb}
 use Rattle.std.proofs.Math.Path.{ap}
-use Rattle.std.proofs.Common.{sym, ◌∙◌, true≢false, take-append-drop, length-drop, length-take, drop_of_length-le, drop-drop, take-suc, take_all, length-take-le, lt-ltb, le-ltb, ltb-true, ltb-false, arith, add-one, div-le_self}
+use Rattle.std.proofs.Common.{sym, ◌∙◌, true≢false, take-append-drop, length-drop, length-take, drop_of_length-le, drop-drop, take-suc, take_all, length-take-le, ltb-true, ltb-false, arith, add-one, div-le_self}
 use mathlib.Core.List.{List, [], ◌∷◌, ◌++◌, append_assoc}
 use Rattle.std.proofs.Math.ListN.{length, drop, set, length-append}
 use Rattle.std.proofs.Math.Seq.{drop-cons}

@@ -1,7 +1,7 @@
 -- A record in pieces: bases that fill whole lines, and then more, are written one behind the other as all of them are at once. So a record of
 -- any size is written with a small output: `write_record` with the first bases, and `write_sequence` with those that follow.
-use Rattle.std.specs.Prelude.{ℕ, zero, suc, ◌+◌, ◌*◌, ◌<◌, ◌≤◌, ◌≡◌, refl, List, [], ◌∷◌, ◌++◌, Bool, length, take, drop}
-use Rattle.std.proofs.Common.{ap, ◌∙◌, append_assoc, length-append, length-drop, arith}
+use Rattle.std.specs.Prelude.{ℕ, zero, suc, ◌*◌, ◌<◌, ◌≤◌, ◌≡◌, refl, List, [], ◌∷◌, ◌++◌, Bool, length, take, drop}
+use Rattle.std.proofs.Common.{append_assoc, length-append, length-drop, arith}
 use Rattle.std.proofs.lemmas.List.{take-append-le, drop-append-le}
 use Rattle.writer.specs.Text.{line_of, sequence_text, record_text}
 use Rattle.writer.specs.Laws.{text-none, text-step}

@@ -1,5 +1,5 @@
 -- A written record is read back: its first line says the name and the description, and the bases by the line rule of the rest are those given.
-use Rattle.std.specs.Prelude.{ℕ, zero, suc, ◌+◌, ◌-◌, ◌<◌, ◌≡◌, Bool, false, cond, ◌&&◌, ◌||◌, length, take, drop, get_or, eqb, ltb}
+use Rattle.std.specs.Prelude.{ℕ, zero, suc, ◌+◌, ◌-◌, ◌<◌, ◌≡◌, Bool, false, cond, ◌&&◌, ◌||◌, length, take, drop, get_or, eqb}
 use Rattle.std.proofs.Math.Path.{refl, ap}
 use Rattle.std.proofs.Common.{sym, ◌∙◌, true≢false, length-append, take_at, drop_at, get_or-append-add, eq-eqb, arith}
 use mathlib.Core.List.{List, [], ◌∷◌, ◌++◌, map, append-nil, append_assoc}
@@ -13,11 +13,10 @@ use Rattle.definition.specs.Laws.{described-some}
 use Rattle.definition.specs.declared.Definition.{Definition}
 use Rattle.definition.specs.declared.Parsed.TheVariants.{Named}
 use Rattle.columns.specs.Bytes.{is}
-use Rattle.output.specs.declared.Written.{Written}
 use Rattle.output.specs.Outcome.{leaves, refuses, pours}
 use Rattle.output.specs.Laws.{no-bytes, poured-known}
 use Rattle.output.specs.declared.Written.TheVariants.{Bytes}
-use Rattle.refusal.specs.declared.Refusal.TheVariants.{TooLong, ZeroWidth, NameUnfit, DescriptionUnfit, BaseUnfit, NoRoom}
+use Rattle.refusal.specs.declared.Refusal.TheVariants.{TooLong, ZeroWidth, NameUnfit, DescriptionUnfit, BaseUnfit}
 use Rattle.writer.specs.Text.{described_text, definition_text, contents_of, line_of, lines_text, sequence_text, record_text, any_of, name_unfit, description_unfit, barred, too_long, record_written}
 use Rattle.writer.specs.Contents.{either-false, none_both, none-at, none-less, lines-line, good-contents, contents-joined, good-lines, good-seq, good-bases}
 

@@ -1,5 +1,5 @@
 -- `scoring::walks` meets its contract: each word has the places of eight lanes.
-use Rattle.std.proofs.Common.{ℕ, ◌+◌, ◌*◌, ◌<◌, min, ◌≡◌, refl, Bool, true, false, not, ◌&&◌, List, arith, ltb, length, lt-ltb}
+use Rattle.std.proofs.Common.{ℕ, ◌+◌, ◌*◌, ◌<◌, min, ◌≡◌, refl, Bool, true, false, not, ◌&&◌, arith, ltb, length, lt-ltb}
 use Rattle.scoring.specs.Rules.{lies}
 use Rattle.scoring.specs.Counting.{agrees}
 use Rattle.scoring.specs.Open.{is_open, open_lies}

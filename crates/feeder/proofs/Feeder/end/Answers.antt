@@ -1,6 +1,6 @@
 -- `feeder::Feeder::end` meets its contract: case by case.
 use Rattle.std.proofs.Common.{◌^◌, arith, sym, ◌∙◌}
-use Rattle.feeder.specs.CallLaws.{end-stopped, end-unsound, end_empty, end-judged, not-true, not-false}
+use Rattle.feeder.specs.CallLaws.{end-stopped, end-unsound, end_empty, end-judged}
 use Rattle.feeder.specs.SmallLaws.{sound-fits, fits-small}
 use Rattle.feeder.proofs.Feeder.end.Goals as goal
 

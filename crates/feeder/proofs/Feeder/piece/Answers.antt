@@ -1,6 +1,6 @@
 -- `feeder::Feeder::piece` meets its contract: case by case.
 use Rattle.std.proofs.Common.{arith, sym, ◌∙◌}
-use Rattle.feeder.specs.CallLaws.{piece-none, piece-stopped, piece-unsound, piece-long, piece-fed, not-true, not-false}
+use Rattle.feeder.specs.CallLaws.{piece-none, piece-stopped, piece-unsound, piece-long, piece-fed}
 use Rattle.feeder.specs.SmallLaws.{sound-fits}
 use Rattle.feeder.proofs.Feeder.piece.Goals as goal
 

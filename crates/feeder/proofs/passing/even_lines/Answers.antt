@@ -1,6 +1,5 @@
 -- `feeder::passing::even_lines` meets its contract: it counts lines only if each test says that they are even with the rows.
 use Rattle.std.proofs.Common.{sym, ◌∙◌, arith, eqb-true}
-use Rattle.feeder.specs.CallLaws.{not-false}
 use Rattle.feeder.proofs.passing.even_lines.Goals as goal
 
 pub returns-then-not-is_same : goal.returns-then-not-is_same

@@ -1,6 +1,5 @@
 -- `feeder::taking::take_whole` meets its contract: it takes records if the feeder awaits a definition and no line waits; else nothing changes.
 use Rattle.std.proofs.Common.{arith, sym, ◌∙◌}
-use Rattle.feeder.specs.CallLaws.{not-false}
 use Rattle.feeder.specs.Turns.{whole-none, whole-place, whole-records}
 use Rattle.feeder.proofs.taking.take_whole.Goals as goal
 

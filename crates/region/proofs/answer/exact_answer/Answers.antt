@@ -1,5 +1,5 @@
 -- `region::answer::exact_answer` meets its contract: it judges as `read_exact` does, and stops there.
-use Rattle.std.proofs.Common.{sym, ◌∙◌, false}
+use Rattle.std.proofs.Common.{sym, ◌∙◌}
 use Rattle.table.specs.RowLaws.{held-of}
 use Rattle.region.specs.Laws.{bounded-known}
 use Rattle.region.specs.Answer.{answer-long, answer-refused, answer-row}
