@@ -1,13 +1,13 @@
 -- A feeder as a host keeps it between two calls: a struct of numbers. Any numbers make a feeder (`feederBy`), and those of a feeder make that
 -- feeder again (`feeder-back`).
 use Rattle.std.specs.Prelude.{ℕ, ◌<◌, ◌≡◌, refl, List, Bool, true, false, cond, not, eqb, get_or}
-use Rattle.std.proofs.Common.{ap, sym, ◌∙◌}
+use Rattle.std.proofs.Common.{ap}
 use Rattle.refusal.specs.declared.Numbers as refused
 use Rattle.fitting.specs.declared.Numbers.{Numbers}
 use Rattle.fitting.specs.declared.Rule.{Rule}
 use Rattle.fitting.specs.declared.Rule.TheVariants.{Strict, Complete}
-use Rattle.table.specs.Numbers.{numbers_in, rest_of, with_numbers}
-use Rattle.table.specs.NumberLaws.{Became, became-bytes}
+use Rattle.table.specs.Numbers.{numbers_in, with_numbers}
+use Rattle.table.specs.NumberLaws.{became-bytes}
 use Rattle.output.specs.Outcome.{Outcome, leaves}
 use Rattle.feeder.specs.declared.Waiting.{Waiting}
 use Rattle.feeder.specs.declared.Opened.{Opened}
@@ -16,8 +16,8 @@ use Rattle.feeder.specs.declared.SoFar.TheVariants.{Blank, Run, Rows}
 use Rattle.feeder.specs.declared.Phase.{Phase}
 use Rattle.feeder.specs.declared.Phase.TheVariants.{Definition, Lines, Halted, Ended}
 use Rattle.feeder.specs.declared.Feeder.{Feeder}
-use Rattle.feeder.specs.Calls.{With, with, CallDone}
-use Rattle.wakeluri.specs.Answer.{fine, no_span, flag_of, given_by}
+use Rattle.feeder.specs.Calls.{With, CallDone}
+use Rattle.wakeluri.specs.Answer.{fine, no_span, flag_of}
 use Rattle.wakeluri.specs.declared.feeding.Feed.{Feed}
 use Rattle.wakeluri.specs.declared.feeding.Told.{Told}
 

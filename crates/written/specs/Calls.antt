@@ -1,12 +1,11 @@
 -- What the calls of the other crates answer for a written record within the limit.
-use Rattle.std.specs.Prelude.{ℕ, ◌+◌, ◌≤◌, ◌<◌, ◌≡◌, refl, List, [], ◌∷◌, Bool, true, false, take}
-use Rattle.std.proofs.Common.{ap, sym, ◌∙◌, le-ltb, arith}
+use Rattle.std.specs.Prelude.{ℕ, ◌+◌, ◌≤◌, ◌<◌, ◌≡◌, refl, List, [], ◌∷◌, Bool, false, take}
+use Rattle.std.proofs.Common.{le-ltb, arith}
 use Rattle.std.proofs.Math.ListN.{length}
 use Rattle.refusal.specs.Numbers.{over_limit}
 use Rattle.lines.specs.Lines.{seq_at, all_bases}
-use Rattle.definition.specs.Definition.{definition_says, read_as, line_read}
+use Rattle.definition.specs.Definition.{read_as, line_read}
 use Rattle.definition.specs.declared.DefinitionRead.TheVariants as read
-use Rattle.record.specs.declared.Record.{Record}
 use Rattle.output.specs.Outcome.{leaves}
 use Rattle.output.specs.declared.Written.TheVariants.{Bytes}
 use Rattle.indexer.specs.Index.{record_read}

@@ -12,10 +12,8 @@ use native.Mathlib.Omega.{arith}
 use Rattle.lines.specs.Lines.{bases_of, none, first_line, sum_bases, sum_widths}
 use Rattle.lines.specs.declared.Line.{Line}
 use Rattle.record.specs.EvenLines.{length-all_bases}
-use Rattle.record.specs.EvenLines as even
 use Rattle.indexer.specs.Rule.{good}
 use Rattle.indexer.specs.Index.{fits_last, rest_of, judge}
-use Rattle.indexer.specs.Index as index
 use Rattle.writer.specs.Text.{contents_up_to, contents_of, line_of, lines_text, any_of, barred}
 use Rattle.writer.specs.Laws.{contents-step}
 use Rattle.writer.specs.Contents.{none_of, bases-line, good-contents, contents-joined, good-bases}
