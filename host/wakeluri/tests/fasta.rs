@@ -250,14 +250,14 @@ fn reasons_are_those_of_the_proved_table() {
     let table = Path::new(env!("CARGO_MANIFEST_DIR")).join("../../crates/refusal/specs/Numbers.antt");
     let table = fs::read_to_string(table).unwrap();
     let mut last = 0;
-    for line in table.lines().filter_map(|line| line.strip_prefix("numbersOf ")?.split_once(" = told ")) {
+    for line in table.lines().filter_map(|line| line.strip_prefix("numbers_of ")?.split_once(" = told ")) {
         let (case, numbers) = (line.0.trim_matches(['(', ')']), line.1.split(' ').collect::<Vec<_>>());
         let case: Vec<&str> = case.strip_prefix("is.").unwrap().split(' ').collect();
         let number: u64 = numbers[0].parse().unwrap();
         let refusal = wakeluri::Refusal::new(wakeluri::Call::Check, number, 3, 4);
         let reason = refusal.reason();
         assert_eq!((reason.number(), reason.name()), (number, case[0]));
-        let fields = case[1..].iter().map(|field| field.trim_end_matches('′'));
+        let fields = case[1..].iter().map(|field| field.trim_end_matches('\''));
         let expected: Vec<(&str, u64)> = match number {
             2..=4 => vec![("record", 3), ("offset", 4)],
             _ => fields.zip([3, 4]).collect(),
