@@ -7,10 +7,8 @@
 -- `second` is that offset.
 use Rattle.std.specs.Prelude.{ℕ, suc, ◌+◌, ◌≤◌, ◌≡◌, List, length}
 use Rattle.std.proofs.Math.Path.{refl, ap}
-use Rattle.std.proofs.Common.{sym, ◌∙◌, arith}
-use Rattle.refusal.specs.Numbers.{numbers_of}
+use Rattle.std.proofs.Common.{arith}
 use Rattle.refusal.specs.declared.Numbers.{Numbers}
-use Rattle.refusal.specs.declared.Refusal.{Refusal}
 use Rattle.lines.specs.Lines.{lines}
 use Rattle.lines.specs.Groups.{groups}
 use Rattle.definition.specs.Definition.{fails_at}
@@ -32,7 +30,7 @@ use Rattle.mission.specs.BadDefinition as mission
 use Rattle.table.specs.Numbers.{numbers_in}
 use Rattle.wakeluri.specs.declared.answer.Answer.{Answer}
 use Rattle.wakeluri.specs.Answer.{filled_answer, verdict_answer}
-use Rattle.output.specs.Outcome.{Outcome, leaves}
+use Rattle.output.specs.Outcome.{Outcome}
 use Rattle.wakeluri.specs.Told.{filled_told}
 use Rattle.demands.specs.Calls.{Check, IndexFile}
 

@@ -5,9 +5,9 @@
 -- `fed-whole`: any pieces within the size limit, and the end, answer the count and the refusal of the call on the joined bytes, and leave its
 -- table, to the byte, for each rule. `fed-told`: before the end, those of all lines but the last. `split-same`: two ways of splitting the same
 -- bytes hand out the same. `refusal-repeated`, `ended-first`: what a later call answers.
-use Rattle.std.specs.Prelude.{ℕ, ◌≤◌, ◌≡◌, refl, List, [], ◌∷◌, length}
+use Rattle.std.specs.Prelude.{ℕ, ◌≤◌, ◌≡◌, refl, List, ◌∷◌, length}
 use Rattle.std.proofs.Math.Path.{ap}
-use Rattle.std.proofs.Common.{sym, ◌∙◌}
+use Rattle.std.proofs.Common.{◌∙◌}
 use Rattle.refusal.specs.Numbers.{numbers_of}
 use Rattle.refusal.specs.declared.Numbers as refused
 use Rattle.refusal.specs.declared.Refusal.TheVariants.{AlreadyEnded}
@@ -19,7 +19,7 @@ use Rattle.table.specs.declared.Stop.{Stop}
 use Rattle.table.specs.declared.Stop.TheVariants as stop
 use Rattle.fitting.specs.declared.Rule.{Rule}
 use Rattle.fitting.specs.Rules.{rows_in}
-use Rattle.output.specs.Outcome.{Outcome, leaves}
+use Rattle.output.specs.Outcome.{Outcome}
 use Rattle.feeder.specs.declared.Phase.{Phase}
 use Rattle.feeder.specs.declared.Phase.TheVariants.{Definition, Lines, Halted, Ended}
 use Rattle.feeder.specs.declared.Feeder.{Feeder}

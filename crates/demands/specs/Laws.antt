@@ -1,7 +1,7 @@
 -- Laws for AtTheEdge.antt: what an answer without a refusal means, the table that a call leaves, and the lines that are written from it.
-use Rattle.std.specs.Prelude.{ℕ, zero, suc, ◌+◌, ◌*◌, ◌≤◌, ◌<◌, ◌≡◌, List, [], ◌∷◌, ◌++◌, drop, Bool}
+use Rattle.std.specs.Prelude.{ℕ, suc, ◌+◌, ◌≤◌, ◌<◌, ◌≡◌, List, [], ◌∷◌, drop, Bool}
 use Rattle.std.proofs.Math.Path.{refl, ap}
-use Rattle.std.proofs.Common.{sym, ◌∙◌, take_at, lt-ltb, le-ltb, arith, add-zero, zero-add}
+use Rattle.std.proofs.Common.{take_at, lt-ltb, le-ltb, arith, add-zero}
 use Rattle.std.proofs.Math.ListN.{length, take}
 use Rattle.std.proofs.Math.Dec.{ltb}
 use Rattle.std.proofs.Math.Bool.{true, false}
@@ -10,10 +10,9 @@ use Rattle.lines.specs.Lines.{lines}
 use Rattle.lines.specs.Groups.{groups}
 use Rattle.record.specs.declared.Record.{Record}
 use Rattle.table.specs.Rows.{row_count, with_rows}
-use Rattle.table.specs.declared.Filled.{Filled}
 use Rattle.table.specs.declared.Stop.{Stop}
 use Rattle.table.specs.declared.Stop.TheVariants as stop
-use Rattle.table.specs.Fill.{Found, FilledAs}
+use Rattle.table.specs.Fill.{Found}
 use Rattle.output.specs.Outcome.{Outcome, leaves, pours}
 use Rattle.index_line.specs.IndexLine.{columns_of, name_in, line_of, line_written, written_as}
 use Rattle.checker.specs.Accepts.{limit}
@@ -23,11 +22,11 @@ use Rattle.region.specs.declared.Bound.{Bound}
 use Rattle.region.specs.Exact.{exact_read}
 use Rattle.table.specs.Numbers.{numbers_in, with_numbers}
 use Rattle.wakeluri.specs.declared.answer.Answer.{Answer}
-use Rattle.wakeluri.specs.Answer.{fine, answer_of, written_answer, filled_answer, verdict_answer}
+use Rattle.wakeluri.specs.Answer.{written_answer, filled_answer, verdict_answer}
 use Rattle.wakeluri.specs.Told.{filled_told, written_told}
 use Rattle.mission.specs.IndexedLaws.{Along, text-fronted, row-held}
 use Rattle.mission.specs.Leading.{line_in, index_text, no_row, row_in, LeadsTo, leading_at}
-use Rattle.mission.specs.TableOf.{record_count, Gives, TableOf}
+use Rattle.mission.specs.TableOf.{Gives, TableOf}
 use Rattle.mission.specs.TableLaws.{filled-table}
 use Rattle.mission.specs.Asked.{Asked}
 use Rattle.mission.specs.Reads.{table-reads}

@@ -8,7 +8,7 @@ use Rattle.index.specs.declared.Found.{Found}
 use Rattle.index.specs.declared.Found.TheVariants as found
 use Rattle.output.specs.declared.Written.{Written}
 use Rattle.output.specs.declared.Written.TheVariants as written
-use Rattle.output.specs.Outcome.{Outcome, leaves, refuses}
+use Rattle.output.specs.Outcome.{Outcome, leaves}
 use Rattle.region.specs.Refusals.{OfLookUp, OfRead}
 use Rattle.region.specs.Refusals.OfLookUp.{bad-row, unknown}
 use Rattle.region.specs.Refusals.OfRead.{bad-bounds, past-length, no_room, not-in-file}

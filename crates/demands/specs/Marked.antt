@@ -1,6 +1,6 @@
 -- The marked examples M1 to M13 (docs/RULES.md, R46): one table, one proof. Each asks an entry point's own definition for what a host gets and
 -- for the bytes that it finds afterwards.
-use Rattle.std.specs.Prelude.{ℕ, zero, suc, ◌*◌, ◌≡◌, refl, List, [], ◌∷◌, ◌++◌, take}
+use Rattle.std.specs.Prelude.{ℕ, zero, suc, ◌*◌, ◌≡◌, refl, List, [], ◌∷◌}
 use Prim.Native.String.{String}
 use Rattle.ascii.specs.Text.{text}
 use Rattle.refusal.specs.Numbers.{numbers_of, over_limit}

@@ -6,7 +6,6 @@ use Rattle.std.specs.Prelude.{ℕ, ◌+◌, ◌≤◌, ◌<◌, ◌≡◌, refl,
 use Rattle.std.proofs.Common.{ap, ◌∙◌, take_all, length-take-le, ltb-true, arith}
 use Rattle.std.proofs.Math.Path.{sym}
 use Rattle.refusal.specs.Numbers.{over_limit}
-use Rattle.refusal.specs.declared.Refusal.{Refusal}
 use Rattle.refusal.specs.declared.Refusal.TheVariants.{TableFull}
 use Rattle.table.specs.Laws.{held_all}
 use Rattle.table.specs.Numbers.{numbers_in}

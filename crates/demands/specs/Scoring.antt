@@ -8,7 +8,7 @@
 -- `refused-room`: if it does not answer 0, all of the room is as it was.
 -- `half-typed`: a hundred asked, fifty typed, 49 right: 490.
 use Rattle.std.specs.Prelude.{ℕ, ◌+◌, ◌-◌, ◌*◌, ◌/◌, ◌^◌, ◌≤◌, ◌<◌, ◌≡◌, refl, List, ◌++◌, length, take, drop}
-use Rattle.std.proofs.Common.{sym, ap, ◌∙◌, arith}
+use Rattle.std.proofs.Common.{ap, ◌∙◌, arith}
 use Rattle.refusal.specs.Apart.{never-zero}
 use Rattle.refusal.specs.Numbers.{numbers_of}
 use Rattle.output.specs.Outcome.{Outcome, leaves}

@@ -4,8 +4,8 @@ use Rattle.std.proofs.Common.{ap, ◌∙◌, append_assoc, arith, length-append,
 use Rattle.std.proofs.lemmas.List.Edits.{sets}
 use Rattle.std.proofs.Math.Seq.{length-sets}
 use Rattle.record.specs.declared.Record.{Record}
-use Rattle.table.specs.Rows.{row_words, words_of, words, row_count, with_rows}
-use Rattle.table.specs.Numbers.{from_bytes, to_bytes, first_numbers, numbers_in, rest_of, bytes_of, with_numbers}
+use Rattle.table.specs.Rows.{words_of, words, row_count, with_rows}
+use Rattle.table.specs.Numbers.{to_bytes, first_numbers, numbers_in, rest_of, bytes_of, with_numbers}
 use Rattle.table.specs.NumberLaws.{length-to_bytes, from-to, from-fits, length-numbers}
 use Rattle.mission.specs.Leading.{row_in}
 use Rattle.mission.specs.TableOf.{Fits}

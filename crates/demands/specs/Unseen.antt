@@ -2,9 +2,9 @@
 --
 -- `unseen-told`, `told-unseen`: it answers 34 and base position p exactly if base p is the first of the region that is in the file and not in the
 -- window, and nothing else is refused (`FirstUnseen`); then the output is as it was.
-use Rattle.std.specs.Prelude.{ℕ, ◌≡◌, refl, List, Bool, true, false, cond, eqb, ltb}
+use Rattle.std.specs.Prelude.{ℕ, ◌≡◌, List, Bool, true, false, cond, eqb, ltb}
 use Rattle.std.proofs.Math.Path.{ap}
-use Rattle.std.proofs.Common.{sym, ◌∙◌, arith}
+use Rattle.std.proofs.Common.{◌∙◌, arith}
 use Rattle.refusal.specs.Numbers.{numbers_of}
 use Rattle.refusal.specs.Apart.{case_of, case-by-number}
 use Rattle.refusal.specs.declared.Refusal.{Refusal}
@@ -12,7 +12,7 @@ use Rattle.refusal.specs.declared.Refusal.TheVariants.{NotInWindow}
 use Rattle.record.specs.declared.Record.{Record}
 use Rattle.output.specs.declared.Written.{Written}
 use Rattle.output.specs.declared.Written.TheVariants as written
-use Rattle.output.specs.Outcome.{Outcome, leaves}
+use Rattle.output.specs.Outcome.{Outcome}
 use Rattle.table.specs.declared.Held.TheVariants as held
 use Rattle.table.specs.declared.InUse.TheVariants as used
 use Rattle.table.specs.Rows.{row_count, row_at, no_row, bad_row, used_at, sound_row, held_of, held_at}

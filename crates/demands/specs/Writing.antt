@@ -8,9 +8,9 @@
 -- `written_row`, `written-end`: if there are bases, wakeluri_index_record of offset 0 answers one row, that of their count and the width, and that
 -- the record ends where the bytes do; asked there, it answers the end.
 use Prim.Native.Nat.{ℕ, ◌≤◌, ◌<◌}
-use Rattle.std.specs.Prelude.{◌≡◌, refl, take, drop}
+use Rattle.std.specs.Prelude.{◌≡◌, take, drop}
 use Rattle.std.proofs.Math.Path.{ap}
-use Rattle.std.proofs.Common.{sym, ◌∙◌, arith}
+use Rattle.std.proofs.Common.{◌∙◌, arith}
 use mathlib.Core.List.{List, ◌++◌}
 use Rattle.std.proofs.Math.ListN.{length}
 use borrow.Author.Tests.{le-ltb, le-leb}
@@ -21,7 +21,7 @@ use Rattle.sequence.specs.Read.{read_whole, poured, written as poured-all}
 use Rattle.checker.specs.Accepts.{limit}
 use Rattle.writer.specs.Text.{definition_text, record_text}
 use Rattle.writer.specs.Reads.{definition_of, call-put}
-use Rattle.written.specs.Indexed.{row_worked, text-long}
+use Rattle.written.specs.Indexed.{row_worked}
 use Rattle.written.specs.Scans.{written-scans}
 use Rattle.written.specs.Calls.{call-reads, call-indexed}
 use Rattle.wakeluri.specs.declared.answer.Answer.{Answer}

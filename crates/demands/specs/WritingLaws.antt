@@ -1,6 +1,6 @@
 -- A law for Writing.antt: an answer without a refusal says what the call wrote.
 use Rattle.std.specs.Prelude.{ℕ, ◌≡◌, refl, List}
-use Rattle.std.proofs.Common.{ap, sym, ◌∙◌, arith}
+use Rattle.std.proofs.Common.{ap, ◌∙◌, arith}
 use Rattle.refusal.specs.Apart.{never-zero}
 use Rattle.refusal.specs.Numbers.{numbers_of}
 use Rattle.output.specs.declared.Written.{Written}

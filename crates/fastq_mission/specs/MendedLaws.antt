@@ -1,5 +1,5 @@
 -- Laws for Mended.antt and Mending.antt: the records of a FASTQ file with one base replaced. Names, places and every other byte stay.
-use Rattle.std.specs.Prelude.{ℕ, ◌-◌, ◌<◌, ◌≡◌, refl, List, Bool, true, false, length, get_or, set, eqb}
+use Rattle.std.specs.Prelude.{ℕ, ◌<◌, ◌≡◌, refl, List, Bool, true, false, length, get_or, set, eqb}
 use Rattle.std.proofs.Common.{ap, sym, ◌∙◌, ext_get_or, get_or-set_same, get_or-set_other, eqb-true, arith}
 use Rattle.std.proofs.lemmas.Bool.{eqb-false}
 use Rattle.record.specs.Bases.{byte_at}

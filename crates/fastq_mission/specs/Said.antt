@@ -1,5 +1,5 @@
 -- Every verdict of the checker of FASTQ is what Accepts.antt of its crate and FirstFault.antt say, and nothing else is: one record and its line.
-use Rattle.std.specs.Prelude.{ℕ, suc, ◌≡◌, Bool, cond, length}
+use Rattle.std.specs.Prelude.{ℕ, suc, ◌≡◌, Bool, cond}
 use Rattle.std.proofs.Math.Path.{refl}
 use Rattle.std.proofs.Common.{sym, ◌∙◌, true≢false, zero-add}
 use mathlib.Core.List.{List, [], ◌∷◌}
