@@ -52,7 +52,7 @@ fn either_in_8(l: &[u8], i: usize, a: u8, b: u8) -> bool
     any
 }
 
-// The same of 4 bytes. The size has to be constant, and Rattle has no generics: hence one function for each.
+// The same of 4 bytes. The size has to be constant: hence one function for each.
 fn either_in_4(l: &[u8], i: usize, a: u8, b: u8) -> bool
     requires { i + 4 ≤ length l.now }
     ensures { result ≡ among (either a b) (take 4 (drop i l.now)) }

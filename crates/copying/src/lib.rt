@@ -26,8 +26,8 @@ fn behind(bytes: usize, place: usize) -> usize
     bytes - place
 }
 
-// Copies 8 bytes. They are all read before one is written, so that they move together. The size has to be constant for that, and Rattle
-// has no generics: hence one function, and one proof, for each of three sizes.
+// Copies 8 bytes. They are all read before one is written, so that they move together. The size has to be constant for that: hence
+// one function, and one proof, for each of three sizes.
 fn put8(from: &[u8], start: usize, out: &mut [u8], to: usize)
     requires start_in_bounds { start + 8 ≤ length from.now }
     requires to_in_bounds { to + 8 ≤ length out.old }

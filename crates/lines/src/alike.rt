@@ -11,7 +11,7 @@ ghost use Rattle.lines.specs.Blocks.{lf_in_either};
 use crate::Line;
 
 // Is there an LF among the 16 bytes from `p` on or the 16 from `q` on. The loop never stops early, so the compiler looks at all of them
-// at once. That needs a block of constant size, and Rattle has no generics: hence one function, and one proof, for each of three sizes.
+// at once. That needs a block of constant size: hence one function, and one proof, for each of three sizes.
 fn lf_in_either_16(s: &[u8], p: usize, q: usize) -> bool
     requires { (p + 16 ≤ length s.now) × (q + 16 ≤ length s.now) }
     ensures { result ≡ lf_in_either s.now p q 16 }

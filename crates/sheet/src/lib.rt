@@ -3,8 +3,8 @@
 // long; 40, more than 200 regions; 41, a list of starts that is shorter than that of the regions; what the exact read of the first
 // refused region refuses, with all the room; 14, an output that is too short for all of them. A refusal comes with the place of its
 // region in the sheet, which for 1, 40, 41 and the last 14 is the number of regions, and leaves output and starts as they were.
-// The regions are a lent slice of structs. Two functions walk such a slice, and are proved by hand: `region_at`, which copies a region out,
-// and `read_sheet`, a loop that hands each region to `turn`. `bytes` has the same over regions and a table that are lent as bytes.
+// The regions are a lent slice of structs. Two functions walk such a slice: `region_at`, which copies a region out, and `read_sheet`, a loop
+// that hands each region to `turn`. `bytes` has the same over regions and a table that are lent as bytes.
 #![tactic(auto)]
 
 pub mod bytes;
