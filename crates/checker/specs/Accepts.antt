@@ -1,16 +1,14 @@
 -- What it means that an index is accepted for a file, over the file's records and the index's lines, and without the checker's walk.
 -- That the checker accepts exactly these pairs is in Exactly.antt.
-use Rattle.std.specs.Prelude.{ℕ, suc, ◌+◌, ◌≤◌, ◌<◌, ◌≡◌, List, [], ◌∷◌, length, take, get_or}
+use Rattle.std.specs.Prelude.{ℕ, suc, ◌+◌, ◌≤◌, ◌<◌, ◌≡◌, List, [], ◌∷◌, length, take, get_or, Ok}
 use Rattle.lines.specs.Lines.{lines, sum_bases, sum_widths, bases_at}
 use Rattle.lines.specs.Groups.{Group, groups}
 use Rattle.definition.specs.Definition as definition
 use Rattle.definition.specs.declared.Definition.{Definition}
-use Rattle.definition.specs.declared.Parsed.TheVariants.{Named}
 use Rattle.record.specs.Place.{place_in}
 use Rattle.index_line.specs.IndexLine.{name_of}
 use Rattle.index_line.specs.IndexLine as index
 use Rattle.index_line.specs.declared.Entry.{Entry}
-use Rattle.index_line.specs.declared.LineRead.TheVariants.{Row}
 use Rattle.checker.specs.Check.{span_of}
 
 -- ---- the records of a file, from 0, and their places
@@ -37,9 +35,9 @@ sequence_at gs k = definition_at gs k + length (record_at gs k).def
 -- the definition line of a record reads, and line number n of the index reads
 pub record BothRead (n : ℕ) (g : Group) (l : List ℕ) : Type 0 where
   pub said : Definition
-  pub defined : definition.definition_says g.def ≡ Named said
+  pub defined : definition.definition_says g.def ≡ Ok said
   pub entry : Entry
-  pub reads : index.index_line_says n l ≡ Row entry
+  pub reads : index.index_line_says n l ≡ Ok entry
 
 -- they have the same name bytes
 abbrev pub SameName : {n : ℕ} {g : Group} {l : List ℕ} → BothRead n g l → Type 0

@@ -1,6 +1,7 @@
 -- Refusals 2 to 4 of the checker come from a definition line alone: an index line that does not read is refused with a number of 9 or more.
-use Rattle.std.specs.Prelude.{ℕ, zero, suc, ◌≤◌, ◌≡◌, refl, List, [], ◌∷◌, Bool, true, false, cond, length}
+use Rattle.std.specs.Prelude.{ℕ, zero, suc, ◌≤◌, ◌≡◌, refl, List, [], ◌∷◌, Bool, true, false, cond, length, Option, Some, None, Result, Ok, Err}
 use Rattle.std.proofs.Common.{arith}
+use Rattle.columns.specs.declared.fields.Field.{Field}
 use Rattle.refusal.specs.Numbers.{numbers_of}
 use Rattle.refusal.specs.declared.Refusal.{Refusal}
 use Rattle.refusal.specs.declared.Refusal.TheVariants.{EmptyIndexLine, FieldAbsent, NotANumber, ZeroField}
@@ -11,11 +12,6 @@ use Rattle.columns.specs.Fields.{zero_barred, placed, field_says, Numbers, front
 use Rattle.columns.specs.Fields.Numbers.{Are, Not}
 use Rattle.index_line.specs.IndexLine.{fields_of, entry_read, fields_say, plain_end, only_if}
 use Rattle.index_line.specs.IndexLine as index
-use Rattle.columns.specs.declared.Number.{Number}
-use Rattle.columns.specs.declared.Number.TheVariants.{Value, Bad}
-use Rattle.index_line.specs.declared.LineRead.TheVariants as read
-use Rattle.columns.specs.declared.fields.FieldRead.{FieldRead}
-use Rattle.columns.specs.declared.fields.FieldRead.TheVariants as field
 use Rattle.checker.specs.FirstFault.{LineFault}
 use Rattle.checker.specs.FirstFault.LineFault.{bad-line, other_name, other_length, other_place}
 
@@ -23,17 +19,17 @@ use Rattle.checker.specs.FirstFault.LineFault.{bad-line, other_name, other_lengt
 abbrev pub High : Refusal → Type 0
 High x = 9 ≤ (numbers_of x).refusal
 
-field-high : (line place : ℕ) (f : List ℕ) (x : Refusal) → field_says line place f ≡ field.Refused x → High x
+field-high : (line place : ℕ) (f : List ℕ) (x : Refusal) → field_says line place f ≡ Err x → High x
 unfolding field_says numbers_of
 field-high line place f x h = go (number_of f) h
   where
-    zero_high : (t : Bool) (v : ℕ) → cond t (field.Refused (ZeroField line place)) (field.Good (record { value = v; length = length f; plain = plain_number f })) ≡ field.Refused x → High x
+    zero_high : (t : Bool) (v : ℕ) → cond {A = Result Field Refusal} t (Err (ZeroField line place)) (Ok (record { value = v; length = length f; plain = plain_number f })) ≡ Err x → High x
     zero_high true v k = let e : ZeroField line place ≡ x = cc in rw (← e) (omega arith)
     zero_high false v k = let z : ◌≡◌ {A = ℕ} 0 1 = cc in absurd (omega arith)
 
-    go : (v : Number) → placed line place (length f) (plain_number f) v ≡ field.Refused x → High x
-    go Bad k = let e : NotANumber line place ≡ x = cc in rw (← e) (omega arith)
-    go (Value v) k = zero_high (zero_barred place v) v k
+    go : (v : Option ℕ) → placed line place (length f) (plain_number f) v ≡ Err x → High x
+    go None k = let e : NotANumber line place ≡ x = cc in rw (← e) (omega arith)
+    go (Some v) k = zero_high (zero_barred place v) v k
 
 numbers-high : (line place k : ℕ) (fs : List (List ℕ)) (x : Refusal) → numbers_from line place k fs ≡ Not x → High x
 unfolding numbers_from numbers_of
@@ -41,20 +37,20 @@ numbers-high line place zero fs x h = let z : ◌≡◌ {A = ℕ} 0 1 = cc in ab
 numbers-high line place (suc k) [] x h = let e : FieldAbsent line place ≡ x = cc in rw (← e) (omega arith)
 numbers-high line place (suc k) (f ∷ fs) x h = go (field_says line place f) refl (numbers_from line (suc place) k fs) (numbers-high line (suc place) k fs) h
   where
-    go : (r : FieldRead) → field_says line place f ≡ r → (ns : Numbers) → ((y : Refusal) → ns ≡ Not y → High y) → front r ns ≡ Not x → High x
-    go (field.Refused y) e ns m q = let v : y ≡ x = cc in rw (← v) (field-high line place f y e)
-    go (field.Good g) e (Not y) m q = let v : y ≡ x = cc in rw (← v) (m y refl)
-    go (field.Good g) e (Are vs p) m q = let z : ◌≡◌ {A = ℕ} 0 1 = cc in absurd (omega arith)
+    go : (r : Result Field Refusal) → field_says line place f ≡ r → (ns : Numbers) → ((y : Refusal) → ns ≡ Not y → High y) → front r ns ≡ Not x → High x
+    go (Err y) e ns m q = let v : y ≡ x = cc in rw (← v) (field-high line place f y e)
+    go (Ok g) e (Not y) m q = let v : y ≡ x = cc in rw (← v) (m y refl)
+    go (Ok g) e (Are vs p) m q = let z : ◌≡◌ {A = ℕ} 0 1 = cc in absurd (omega arith)
 
-line-high : (n : ℕ) (l : List ℕ) (x : Refusal) → index.index_line_says n l ≡ read.Refused x → High x
+line-high : (n : ℕ) (l : List ℕ) (x : Refusal) → index.index_line_says n l ≡ Err x → High x
 unfolding index.index_line_says index.content_says numbers_of
 line-high n l x h = go (fields_of (content_of l)) h
   where
-    numbers : (name : List ℕ) (ns : Numbers) → ((y : Refusal) → ns ≡ Not y → High y) → only_if (plain_end l) (entry_read (length name) ns) ≡ read.Refused x → High x
+    numbers : (name : List ℕ) (ns : Numbers) → ((y : Refusal) → ns ≡ Not y → High y) → only_if (plain_end l) (entry_read (length name) ns) ≡ Err x → High x
     numbers name (Not y) k q = let v : y ≡ x = cc in rw (← v) (k y refl)
     numbers name (Are vs p) k q = let z : ◌≡◌ {A = ℕ} 0 1 = cc in absurd (omega arith)
 
-    go : (fs : List (List ℕ)) → only_if (plain_end l) (fields_say n fs) ≡ read.Refused x → High x
+    go : (fs : List (List ℕ)) → only_if (plain_end l) (fields_say n fs) ≡ Err x → High x
     go [] q = let v : EmptyIndexLine n ≡ x = cc in rw (← v) (omega arith)
     go (name ∷ fs) q = numbers name (numbers_from n 2 4 fs) (numbers-high n 2 4 fs) q
 

@@ -1,6 +1,6 @@
 -- What each refusal of the checker means: the first fault in the order of R43 (docs/RULES.md), record by record. That the checker refuses exactly
 -- so is in Faults.antt.
-use Rattle.std.specs.Prelude.{ℕ, suc, ◌+◌, ◌≤◌, ◌<◌, ◌≡◌, List, [], ◌∷◌, length, drop}
+use Rattle.std.specs.Prelude.{ℕ, suc, ◌+◌, ◌≤◌, ◌<◌, ◌≡◌, List, [], ◌∷◌, length, drop, Ok, Err}
 use Rattle.refusal.specs.declared.Refusal.{Refusal}
 use Rattle.refusal.specs.declared.Refusal.TheVariants.{TooLong, LineAbsent, BytesLeft, NameDiffers, LengthDiffers, BaseElsewhere}
 use Rattle.lines.specs.Lines.{lines, sum_bases}
@@ -9,15 +9,13 @@ use Rattle.definition.specs.Definition.{refusal_in}
 use Rattle.definition.specs.Definition as definition
 use Rattle.definition.specs.declared.Definition.{Definition}
 use Rattle.definition.specs.declared.Fault.{Fault}
-use Rattle.definition.specs.declared.Parsed.TheVariants.{Named, Bad}
 use Rattle.index_line.specs.IndexLine as index
-use Rattle.index_line.specs.declared.LineRead.TheVariants.{Refused}
 use Rattle.checker.specs.Accepts.{record_at, definition_at, BothRead, SameName, SameLength, InPlace, limit, Fit, MatchesAt}
 
 -- what is wrong between record n, whose definition line reads and whose sequence begins at an offset, and its line
 pub data LineFault (n start : ℕ) (g : Group) (l : List ℕ) : Refusal → Type 0 where
   -- 9 to 12: the line does not read
-  bad-line : (x : Refusal) → index.index_line_says n l ≡ Refused x → LineFault n start g l x
+  bad-line : (x : Refusal) → index.index_line_says n l ≡ Err x → LineFault n start g l x
   -- 21: it reads, and has another name
   other_name : (b : BothRead n g l) → (SameName b → ⊥) → LineFault n start g l (NameDiffers n)
   -- 22: it has the same name, and another count of bases
@@ -29,11 +27,11 @@ pub data LineFault (n start : ℕ) (g : Group) (l : List ℕ) : Refusal → Type
 -- what is wrong with record n, which begins at an offset, where some lines of the index are left
 pub data RecordFault (n at : ℕ) (g : Group) : List (List ℕ) → Refusal → Type 0 where
   -- 2 to 4: its definition line does not read; the refusal has the record, and the offset at which reading failed
-  bad-definition : {left : List (List ℕ)} → (e : Fault) → definition.definition_says g.def ≡ Bad e → RecordFault n at g left (refusal_in e n at)
+  bad-definition : {left : List (List ℕ)} → (e : Fault) → definition.definition_says g.def ≡ Err e → RecordFault n at g left (refusal_in e n at)
   -- 19: it reads, and no line is left
-  no-line : (d : Definition) → definition.definition_says g.def ≡ Named d → RecordFault n at g [] (LineAbsent n)
+  no-line : (d : Definition) → definition.definition_says g.def ≡ Ok d → RecordFault n at g [] (LineAbsent n)
   -- it reads, and the next line is wrong
-  wrong-line : {l : List ℕ} {left : List (List ℕ)} {x : Refusal} → (d : Definition) → definition.definition_says g.def ≡ Named d → LineFault n (at + length g.def) g l x → RecordFault n at g (l ∷ left) x
+  wrong-line : {l : List ℕ} {left : List (List ℕ)} {x : Refusal} → (d : Definition) → definition.definition_says g.def ≡ Ok d → LineFault n (at + length g.def) g l x → RecordFault n at g (l ∷ left) x
 
 -- a file and an index have a first fault
 pub data FirstFault (f i : List ℕ) : Refusal → Type 0 where

@@ -1,16 +1,16 @@
 -- A record that its index line describes, told by what the fast way finds: the line as it is written, the name where it stands, and even lines.
-use Rattle.std.specs.Prelude.{ℕ, zero, suc, ◌+◌, ◌-◌, ◌≤◌, ◌<◌, ◌≡◌, refl, List, [], ◌∷◌, Bool, true, false, cond, ◌&&◌, ◌||◌, length, drop, get_or, eqb, ltb}
-use Rattle.std.proofs.Common.{ap, subst, ◌∙◌, true≢false, length-drop, drop-cons, get_or-drop, get_or-take, length-take-le, ext_get_or, eq-eqb, ne_eqb, eqb-true, ltb-true, ltb-false, arith, add-zero}
+use Rattle.std.specs.Prelude.{ℕ, zero, suc, ◌+◌, ◌-◌, ◌≤◌, ◌<◌, ◌≡◌, refl, List, [], ◌∷◌, Bool, true, false, cond, ◌&&◌, ◌||◌, length, drop, get_or, eqb, ltb, None, Ok}
+use Rattle.std.proofs.Common.{ap, subst, ◌∙◌, true≢false, length-drop, drop-cons, get_or-drop, get_or-take, length-take-le, ext_get_or, eq-eqb, ne_eqb, eqb-true, ltb-true, ltb-false, arith, add-zero, zero-add}
 use Rattle.std.proofs.Math.Path.{sym}
 use Rattle.std.proofs.Math.ListN.{take}
 use Rattle.std.proofs.Math.Seq.{take-take}
 use Rattle.std.proofs.lemmas.Bool.{eqb-false}
+use Rattle.std.specs.List.{list_any}
 use Rattle.lines.specs.Lines.{part, line_len, line_end, chop, ends, content_of, seq_at}
 use Rattle.lines.specs.Laws.{part_length, line_end-le}
 use Rattle.lines.specs.Same.{same_bytes, same_refl}
 use Rattle.definition.specs.Definition.{is_space, spaced, run, trim, described, content_says, definition_says}
 use Rattle.definition.specs.declared.Definition.{Definition}
-use Rattle.definition.specs.declared.Parsed.TheVariants.{Named}
 use Rattle.record.specs.Place.{place_in}
 use Rattle.record.specs.declared.Record.{Record}
 use Rattle.columns.specs.Standing.{LineAt}
@@ -20,13 +20,10 @@ use Rattle.index_line.specs.Laws.{line-sound}
 use Rattle.index_line.specs.declared.Entry.{Entry}
 use Rattle.walking.specs.Places.{walked_as}
 use Rattle.walking.specs.Even.{EvenTo}
-use Rattle.walking.specs.declared.Placed.TheVariants.{There}
 use Rattle.walking.specs.declared.Walked.{Walked}
 use Rattle.checker.specs.Check.{span_of}
 use Rattle.checker.specs.Steps.{group_of, only_line, behind_at, check_at, step_of, Moved, check-next, judged-there, judged-same, judged-row, judged-named, stepped-next}
-use Rattle.checker.specs.declared.Judged.TheVariants as judged
 use Rattle.checker.specs.declared.Place.{Place}
-use Rattle.checker.specs.declared.Step.TheVariants as step
 use Rattle.checker.specs.declared.quick.Passed.{Passed}
 
 -- ---- what the code finds
@@ -53,7 +50,7 @@ pub record DefinedSo (f : List ℕ) (at start : ℕ) (i : List ℕ) (line n : �
 -- the record at an offset is accepted with the index line at a place, whatever came before
 pub record PassedAt (f : List ℕ) (at : ℕ) (i : List ℕ) (line : ℕ) (r : Passed) : Type 0 where
   pub here : at < length f
-  pub told : (k : ℕ) → step.Next (record { fasta = r.fasta; index = r.index; records = k + 1 }) ≡ step_of f i (record { fasta = at; index = line; records = k })
+  pub told : (k : ℕ) → Ok (record { fasta = r.fasta; index = r.index; records = k + 1 }) ≡ step_of f i (record { fasta = at; index = line; records = k })
 
 -- ---- words
 
@@ -112,14 +109,18 @@ module _ (a : List ℕ) (p : ℕ) (b : List ℕ) (q : ℕ) where
       ext_get_or 0 (take n (drop p a)) (take n (drop q b)) (x ∙ sym y)
       (λ j l. let r : j < n = omega arith in rw (get_or-take n (drop p a) j 0 r, get_or-take n (drop q b) j 0 r, get_or-drop p a j 0, get_or-drop q b j 0) (w.same j r))
 
+-- of parts, and so of what they are parts of
+pub word-of-parts : (a : List ℕ) (p : ℕ) (b : List ℕ) (q n : ℕ) → WordAt (take n (drop p a)) 0 (take n (drop q b)) 0 n → WordAt a p b q n
+word-of-parts a p b q n w = record { same = λ k l. here a p k l ∙ (rw (zero-add k) at (w.same k l) ∙ sym (here b q k l)); high = λ k l. rw (here a p k l) (rw (zero-add k) at (w.high k l)) }
+  where
+    here : (s : List ℕ) (i k : ℕ) → k < n → get_or s (i + k) 0 ≡ get_or (take n (drop i s)) k 0
+    here s i k l = sym (get_or-take n (drop i s) k 0 l ∙ get_or-drop i s k 0)
+
 -- ---- bytes without an LF
 
 module _ (s : List ℕ) (p : ℕ) where
   pub clear_none : NoLf s p p
   clear_none = record { clear = λ k h l e. omega arith }
-
-  pub clear-less : (i e : ℕ) → NoLf s p i → e ≤ i → NoLf s p e
-  clear-less i e a h = record { clear = λ k l m. a.clear k l (omega arith) }
 
   -- the two parts may overlap
   pub clear-on : (i j e : ℕ) → NoLf s p i → j ≤ i → NoLf s j e → NoLf s p e
@@ -141,6 +142,24 @@ module _ (s : List ℕ) (p : ℕ) where
       neither : (a b : Bool) → (a || b) ≡ false → (a ≡ false) × (b ≡ false)
       neither true b e = absurd (true≢false e)
       neither false b e = (refl, e)
+
+-- none of a part is an LF
+no-lf : (l : List ℕ) → list_any (λ b. eqb b 10) l ≡ false → (k : ℕ) → k < length l → get_or l k 0 ≡ 10 → ⊥
+no-lf [] e k h q = omega arith
+no-lf (b ∷ l) e zero h q = true≢false (rw (eq-eqb b 10 q) at e)
+no-lf (b ∷ l) e (suc k) h q = no-lf l (behind (eqb b 10) (list_any (λ x. eqb x 10) l) e) k (omega arith) q
+  where
+    behind : (x y : Bool) → (x || y) ≡ false → y ≡ false
+    behind true y r = absurd (true≢false r)
+    behind false y r = r
+
+pub clear-part : (s : List ℕ) (from to : ℕ) → to ≤ length s → list_any (λ b. eqb b 10) (take (to - from) (drop from s)) ≡ false → NoLf s from to
+clear-part s from to h e = record { clear = λ k l m q. no-lf (take (to - from) (drop from s)) e (k - from) (omega (arith, length-take-le (to - from) (drop from s) (omega (arith, length-drop from s)))) (at k l m ∙ q) }
+  where
+    at : (k : ℕ) → from ≤ k → k < to → get_or (take (to - from) (drop from s)) (k - from) 0 ≡ get_or s k 0
+    at k l m =
+        let x : from + (k - from) ≡ k = omega arith in
+        get_or-take (to - from) (drop from s) (k - from) 0 (omega arith) ∙ (get_or-drop from s (k - from) 0 ∙ ap (λ (y : ℕ). get_or s y 0) x)
 
 -- a line whose first LF is byte m
 lf-at : (s : List ℕ) (m : ℕ) → m < length s → ((k : ℕ) → k < m → get_or s k 0 ≡ 10 → ⊥) → get_or s m 0 ≡ 10 → line_len s ≡ suc m
@@ -200,7 +219,7 @@ chop-behind b x (y ∷ s) e = refl
 -- a definition line with a name of n bytes
 record NamedSo (l : List ℕ) (n : ℕ) : Type 0 where
   pub definition : Definition
-  pub says : definition_says l ≡ Named definition
+  pub says : definition_says l ≡ Ok definition
   pub name : definition.name ≡ record { start = 1; length = n }
 
 named-content : (l u : List ℕ) (n : ℕ) → content_of l ≡ 62 ∷ u → run (spaced false) u ≡ n → 0 < n → NamedSo l n
@@ -288,12 +307,12 @@ module _ (f : List ℕ) (at start : ℕ) (i : List ℕ) (line n : ℕ) (d : Defi
           take-take n (behind - line) (drop line i) (omega (arith, text-inside, part_length i line behind h.within)) in
           rw nm.name (a ∙ sym b)
 
-      told-of : (k : ℕ) → step.Next (record { fasta = end; index = behind; records = k + 1 }) ≡ step_of f i (record { fasta = at; index = line; records = k })
+      told-of : (k : ℕ) → Ok (record { fasta = end; index = behind; records = k + 1 }) ≡ step_of f i (record { fasta = at; index = line; records = k })
       told-of k =
           let S : ℕ = at + length def in
           let x : Record = record_of n ns in
           let said = standing-says i line n behind ns h (k + 1) four in
-          let v : Walked = record { bases = get_or ns 0 0; placed = There; next = end } in
+          let v : Walked = record { bases = get_or ns 0 0; placed = None; next = end } in
           let walked : v ≡ walked_as (place_in x) S (seq_at f S) = rw (def-length, p) even.walked in
           let same : true ≡ same_bytes (span_of def nm.definition.name) (name_in text x) = rw same_names (sym (same_refl (name_in text x))) in
           let next : ℕ = behind_at f S in
@@ -301,7 +320,7 @@ module _ (f : List ℕ) (at start : ℕ) (i : List ℕ) (line n : ℕ) (d : Defi
           let b = judged-same (k + 1) S next (span_of def nm.definition.name) (seq_at f S) (name_in text x) x true same refl in
           let c = judged-row (k + 1) S next (span_of def nm.definition.name) (seq_at f S) text (λ z. omega (arith, text-inside, d.some)) entry (sym said.read) in
           let e = judged-named (k + 1) at next (group_of def f S) (only_line text) nm.definition nm.says in
-          stepped-next f i (record { fasta = at; index = line; records = k }) d.here (omega (arith, h.inside)) start behind d.end said.end (judged.Behind end) (a ∙ (b ∙ (c ∙ e))) end refl
+          stepped-next f i (record { fasta = at; index = line; records = k }) d.here (omega (arith, h.inside)) start behind d.end said.end (Ok end) (a ∙ (b ∙ (c ∙ e))) end refl
 
     pub passed-told : PassedAt f at i line (record { fasta = end; index = behind })
     passed-told = record { here = d.here; told = told-of def-named }

@@ -13,26 +13,9 @@ ghost use Rattle.checker.specs.Check.{span_of, sequence_says, entry_says, agains
 ghost use Rattle.checker.specs.Steps.{group_of, only_line, behind_at, judged_as, step_of};
 ghost use Rattle.checker.specs.Quick.{PastGood};
 
-use definition::Parsed;
-use index_line::LineRead;
 use lines::Span;
 use record::Record;
 use refusal::Refusal;
-use walking::Placed;
-
-// Does an index describe its file, or why not.
-#[derive(Clone, Copy)]
-pub enum Verdict {
-    Accepted,
-    Refused(Refusal),
-}
-
-// The offset behind a record, or why it is refused.
-#[derive(Clone, Copy)]
-enum Judged {
-    Behind(usize),
-    Refused(Refusal),
-}
 
 // The place behind some records: in the file and in the index, and how many they are.
 #[derive(Clone, Copy)]
@@ -42,26 +25,18 @@ struct Place {
     records: u64,
 }
 
-// The place behind one record more, or why it is refused.
-#[derive(Clone, Copy)]
-enum Step {
-    Next(Place),
-    Refused(Refusal),
-}
-
 // The sequence from `start` on against a record: 22, 23.
-fn judge_sequence(fasta: &[u8], start: usize, x: Record, record: u64) -> Judged
+fn judge_sequence(fasta: &[u8], start: usize, x: Record, record: u64) -> Result<usize, Refusal>
     requires { 0 < x.line_bases }
     ensures { result ≡ judged_as (sequence_says «record» start (seq_at fasta.now start) x) (behind_at fasta.now start) }
 {
     let found = walking::walk_sequence(fasta, start, x);
     if found.bases != x.length {
-        return Judged::Refused(Refusal::LengthDiffers { record });
+        return Err(Refusal::LengthDiffers { record });
     }
-    let placed = found.placed;
-    match placed {
-        Placed::There => Judged::Behind(found.next),
-        Placed::Elsewhere(p, _) => Judged::Refused(Refusal::BaseElsewhere { record, base: p.0 }),
+    match found.placed {
+        None => Ok(found.next),
+        Some((p, _)) => Err(Refusal::BaseElsewhere { record, base: p.0 }),
     }
 }
 
@@ -74,7 +49,7 @@ fn judge_entry(
     line: &[u8],
     x: Record,
     record: u64,
-) -> Judged
+) -> Result<usize, Refusal>
     requires { (name.start + name.length ≤ length def.now) × (x.name_start + x.name_length ≤ length line.now) × (0 < x.line_bases) }
     ensures { result ≡ judged_as (entry_says «record» start (span_of def.now name) (seq_at fasta.now start) (name_in line.now x) x) (behind_at fasta.now start) }
 {
@@ -83,7 +58,7 @@ fn judge_entry(
     if comparing::same_spans(def, name.start, name.length, line, from, n) {
         return judge_sequence(fasta, start, x, record);
     }
-    Judged::Refused(Refusal::NameDiffers { record })
+    Err(Refusal::NameDiffers { record })
 }
 
 // A record with a name against its index line, which has no bytes where there is none: 19, 9 to 12, then what it says.
@@ -94,33 +69,31 @@ fn judge_named(
     name: Span,
     line: &[u8],
     record: u64,
-) -> Judged
+) -> Result<usize, Refusal>
     requires { name.start + name.length ≤ length def.now }
     ensures { result ≡ judged_as (against_lines «record» start (span_of def.now name) (seq_at fasta.now start) (only_line line.now)) (behind_at fasta.now start) }
 {
-    if line.len() == 0 {
-        return Judged::Refused(Refusal::LineAbsent { record });
+    if line.is_empty() {
+        return Err(Refusal::LineAbsent { record });
     }
-    match index_line::parse_line(line, record) {
-        LineRead::Refused(r) => Judged::Refused(r),
-        LineRead::Row(e) => {
-            let x = e.record;
-            judge_entry(fasta, start, def, name, line, x, record)
-        }
-    }
+    let e = index_line::parse_line(line, record)?;
+    judge_entry(fasta, start, def, name, line, e.record, record)
 }
 
 // A record, which begins at `at` with its definition line, against its index line: 2 to 4, then the line.
-fn judge_record(fasta: &[u8], at: usize, def: &[u8], line: &[u8], record: u64) -> Judged
+fn judge_record(
+    fasta: &[u8],
+    at: usize,
+    def: &[u8],
+    line: &[u8],
+    record: u64,
+) -> Result<usize, Refusal>
     requires { at + length def.now ≤ length fasta.now }
     ensures { result ≡ judged_as (record_says «record» at (group_of def.now fasta.now (at + length def.now)) (only_line line.now)) (behind_at fasta.now (at + length def.now)) }
 {
     match definition::parse_line(def) {
-        Parsed::Bad(f) => Judged::Refused(f.refusal(record, (at + f.place()) as u64)),
-        Parsed::Named(d) => {
-            let name = d.name;
-            judge_named(fasta, at + def.len(), def, name, line, record)
-        }
+        Err(f) => Err(f.refusal(record, (at + f.place()) as u64)),
+        Ok(d) => judge_named(fasta, at + def.len(), def, d.name, line, record),
     }
 }
 
@@ -131,21 +104,18 @@ impl Place {
         ensures { PastGood fasta.now index.now self result }
     {
         let mut w = self;
-        loop {
-            let passed = quick::passed_at(fasta, w.fasta, index, w.index);
-            if passed.fasta == 0 {
-                return w;
-            }
+        while let Some(passed) = quick::passed_at(fasta, w.fasta, index, w.index) {
             w = Place {
                 fasta: passed.fasta,
                 index: passed.index,
                 records: w.records + 1,
             };
         }
+        w
     }
 
     // Checks the record at the place, and hands back the place behind it.
-    fn check_record(self, fasta: &[u8], index: &[u8]) -> Step
+    fn check_record(self, fasta: &[u8], index: &[u8]) -> Result<Place, Refusal>
         requires { (self.records ≤ self.fasta) × (self.fasta < length fasta.now) × (self.index ≤ length index.now) }
         ensures { result ≡ step_of fasta.now index.now self }
     {
@@ -154,19 +124,17 @@ impl Place {
         let line = self.index;
         let behind = lines::ends::line_end(index, line);
         let record = self.records + 1;
-        match judge_record(fasta, at, &fasta[at..start], &index[line..behind], record) {
-            Judged::Refused(r) => Step::Refused(r),
-            Judged::Behind(next) => Step::Next(Place {
-                fasta: next,
-                index: behind,
-                records: record,
-            }),
-        }
+        let next = judge_record(fasta, at, &fasta[at..start], &index[line..behind], record)?;
+        Ok(Place {
+            fasta: next,
+            index: behind,
+            records: record,
+        })
     }
 }
 
 // The records from `at` on against the index lines from `line` on, as if no record came before.
-fn check_places(fasta: &[u8], at: usize, index: &[u8], line: usize) -> Verdict
+fn check_places(fasta: &[u8], at: usize, index: &[u8], line: usize) -> Result<(), Refusal>
     requires { line ≤ length index.now }
     ensures { result ≡ from_says fasta.now at index.now line }
 {
@@ -176,41 +144,31 @@ fn check_places(fasta: &[u8], at: usize, index: &[u8], line: usize) -> Verdict
         records: 0,
     };
     let mut w = first.past_good(fasta, index);
+    // no index is counted: each record tells where the next begins
     while w.fasta < fasta.len() {
-        match w.check_record(fasta, index) {
-            Step::Refused(r) => {
-                return Verdict::Refused(r);
-            }
-            Step::Next(next) => {
-                w = next.past_good(fasta, index);
-            }
-        }
+        let next = w.check_record(fasta, index)?;
+        w = next.past_good(fasta, index);
     }
     if w.index < index.len() {
-        return Verdict::Refused(Refusal::BytesLeft { records: w.records });
+        return Err(Refusal::BytesLeft { records: w.records });
     }
-    Verdict::Accepted
+    Ok(())
 }
 
 // The same for every place, of a file and an index that are not too long: behind the end of the index there is no line.
-pub fn check_from(fasta: &[u8], at: usize, index: &[u8], line: usize) -> Verdict
+pub fn check_from(fasta: &[u8], at: usize, index: &[u8], line: usize) -> Result<(), Refusal>
     ensures { result ≡ from_says fasta.now at index.now line }
 {
-    if index.len() < line {
-        return check_places(fasta, at, index, index.len());
-    }
-    check_places(fasta, at, index, line)
+    check_places(fasta, at, index, line.min(index.len()))
 }
 
 // Checks an index against its file.
-pub fn check(fasta: &[u8], index: &[u8]) -> Verdict
+#[tactic(auto, unfolding(crate::specs::Check::check_of, crate::specs::Check::from_says))]
+pub fn check(fasta: &[u8], index: &[u8]) -> Result<(), Refusal>
     ensures { result ≡ check_of fasta.now index.now }
 {
-    if refusal::over_limit(fasta.len()) {
-        return Verdict::Refused(Refusal::TooLong);
-    }
-    if refusal::over_limit(index.len()) {
-        return Verdict::Refused(Refusal::TooLong);
+    if refusal::over_limit(fasta.len()) || refusal::over_limit(index.len()) {
+        return Err(Refusal::TooLong);
     }
     check_places(fasta, 0, index, 0)
 }

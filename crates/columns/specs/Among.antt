@@ -2,7 +2,7 @@
 use Prim.Native.Nat.{ℕ, zero, suc, ◌+◌, ◌-◌, ◌≤◌, ◌<◌}
 use Rattle.std.specs.Prelude.{◌≡◌, Bool, not, ◌||◌, take, get_or, eqb}
 use Rattle.std.proofs.Math.Path.{refl, sym, ap}
-use Rattle.std.proofs.Common.{◌∙◌, true≢false, add-one, zero-add, take-suc, take-add, get_or-drop}
+use Rattle.std.proofs.Common.{◌∙◌, true≢false, add-one, zero-add, take-suc, take-add}
 use mathlib.Core.List.{List, [], ◌∷◌, ◌++◌}
 use Rattle.std.proofs.Math.Bool.{true, false, cond}
 use native.Mathlib.Omega.{arith}
@@ -65,9 +65,8 @@ module _ (p : ℕ → Bool) where
   among_none l = refl
 
   -- one byte more
-  among-more : (s : List ℕ) (i k : ℕ) → i + k < length s → among p (take (k + 1) (drop i s)) ≡ (among p (take k (drop i s)) || p (get_or s (i + k) 0))
-  among-more s i k h =
-      rw (add-one k, take-suc (drop i s) k 0 (omega (arith, length-drop i s)), get_or-drop i s k 0, among-append (take k (drop i s)) (get_or s (i + k) 0 ∷ []), among_one (get_or s (i + k) 0))
+  among-more : (s : List ℕ) (k : ℕ) → k < length s → among p (take (k + 1) s) ≡ (among p (take k s) || p (get_or s k 0))
+  among-more s k h = rw (add-one k, take-suc s k 0 h, among-append (take k s) (get_or s k 0 ∷ []), among_one (get_or s k 0))
 
   -- none is among the first n: the first is behind them
   clear_first : (n : ℕ) (l : List ℕ) → n ≤ length l → among p (take n l) ≡ false → first_where p l ≡ n + first_where p (drop n l)
@@ -80,6 +79,24 @@ module _ (p : ℕ → Bool) where
           → cond t 0 (suc (first_where p l)) ≡ suc n + first_where p (drop n l)
       go true c r = absurd (true≢false c)
       go false c r = omega (arith, r c)
+
+  -- the first is no nearer than n: it is the first of those behind n
+  first-skip : (n : ℕ) (l : List ℕ) → n ≤ first_where p l → first_where p l ≡ n + first_where p (drop n l)
+  unfolding first_where
+  first-skip zero l h = sym (zero-add (first_where p l))
+  first-skip (suc n) [] h = absurd (omega arith)
+  first-skip (suc n) (b ∷ l) h = go (p b) h (first-skip n l)
+    where
+      go : (t : Bool) → suc n ≤ cond t 0 (suc (first_where p l)) → (n ≤ first_where p l → first_where p l ≡ n + first_where p (drop n l))
+          → cond t 0 (suc (first_where p l)) ≡ suc n + first_where p (drop n l)
+      go true k r = absurd (omega arith)
+      go false k r = omega (arith, r (omega arith))
+
+  -- a search from `from` has come to j, and may begin again at a place between
+  pub first-between : (s : List ℕ) (from k j : ℕ) → from ≤ k → k ≤ j → j + first_where p (drop j s) ≡ from + first_where p (drop from s) → k + first_where p (drop k s) ≡ from + first_where p (drop from s)
+  first-between s from k j g h e =
+      let n : from + (k - from) ≡ k = omega arith in
+      omega (arith, first-skip (k - from) (drop from s) (omega arith), ap (first_where p) (drop-drop (k - from) from s), ap (λ (x : ℕ). first_where p (drop x s)) n)
 
   clear-part : (j k : ℕ) (l : List ℕ) → among p (take (j + k) l) ≡ false → among p (take j l) ≡ false
   clear-part j k l e = left (among p (take j l)) (among p (take k (drop j l))) (sym (among-append (take j l) (take k (drop j l))) ∙ rw (← take-add j k l) e)
@@ -119,7 +136,6 @@ neither false true e = absurd (true≢false (sym e))
 neither false false e = (refl, refl)
 
 -- one byte more of a block that is looked through for two
-pub either-more : (s : List ℕ) (i k a b : ℕ) (any : Bool) → i + k < length s → any ≡ among (either a b) (take k (drop i s))
-    → (any || eqb (get_or s (i + k) 0) a || eqb (get_or s (i + k) 0) b) ≡ among (either a b) (take (k + 1) (drop i s))
-either-more s i k a b any h e =
-    rw (e, among-more (either a b) s i k h) (or_assoc (among (either a b) (take k (drop i s))) (eqb (get_or s (i + k) 0) a) (eqb (get_or s (i + k) 0) b))
+pub either-more : (s : List ℕ) (k a b : ℕ) (any : Bool) → k < length s → any ≡ among (either a b) (take k s)
+    → (any || eqb (get_or s k 0) a || eqb (get_or s k 0) b) ≡ among (either a b) (take (k + 1) s)
+either-more s k a b any h e = rw (e, among-more (either a b) s k h) (or_assoc (among (either a b) (take k s)) (eqb (get_or s k 0) a) (eqb (get_or s k 0) b))

@@ -1,8 +1,6 @@
 -- Decimal numbers (docs/RULES.md, R26).
-use Rattle.std.specs.Prelude.{ℕ, zero, suc, ◌+◌, ◌-◌, ◌*◌, ◌/◌, ◌%◌, ◌^◌, ◌≡◌, List, [], ◌∷◌, Bool, true, cond, not, ◌&&◌, ◌||◌, length, ltb, leb, eqb}
+use Rattle.std.specs.Prelude.{ℕ, zero, suc, ◌+◌, ◌-◌, ◌*◌, ◌/◌, ◌%◌, ◌^◌, ◌≡◌, List, [], ◌∷◌, Bool, true, cond, not, ◌&&◌, ◌||◌, length, ltb, leb, eqb, Option, Some, None}
 use Rattle.columns.specs.Bytes.{overlaid}
-use Rattle.columns.specs.declared.Number.{Number}
-use Rattle.columns.specs.declared.Number.TheVariants.{Value, Bad}
 
 -- ---- reading
 
@@ -20,17 +18,17 @@ value_from a [] = a
 value_from a (b ∷ r) = value_from (a * 10 + (b - 48)) r
 
 -- digits, with those of a before them, are a number if it is at most 18,446,744,073,709,551,615
-unfoldable pub number_from : ℕ → List ℕ → Number
-number_from a l = cond (all_digits l) (cond (ltb (value_from a l) (2 ^ 64)) (Value (value_from a l)) Bad) Bad
+unfoldable pub number_from : ℕ → List ℕ → Option ℕ
+number_from a l = cond (all_digits l) (cond (ltb (value_from a l) (2 ^ 64)) (Some (value_from a l)) None) None
 
 -- one or more digits; leading zeros are read
-unfoldable pub digits_of : List ℕ → Number
-digits_of [] = Bad
+unfoldable pub digits_of : List ℕ → Option ℕ
+digits_of [] = None
 digits_of (b ∷ r) = number_from 0 (b ∷ r)
 
 -- a number is one or more digits, which may have one plus before them
-unfoldable pub number_of : List ℕ → Number
-number_of [] = Bad
+unfoldable pub number_of : List ℕ → Option ℕ
+number_of [] = None
 number_of (b ∷ r) = cond (eqb b 43) (digits_of r) (digits_of (b ∷ r))
 
 -- has a number no needless leading zero and no plus

@@ -1,17 +1,16 @@
 -- Reading and writing share these facts over the number of digits.
-use Rattle.std.specs.Prelude.{ℕ, zero, suc, ◌+◌, ◌-◌, ◌*◌, ◌/◌, ◌%◌, ◌^◌, ◌≤◌, ◌<◌, ◌≡◌, refl, List, [], ◌∷◌, Bool, true, false, cond, not, ◌&&◌, ◌||◌, length, drop, ltb, leb, eqb}
+use Rattle.std.specs.Prelude.{ℕ, zero, suc, ◌+◌, ◌-◌, ◌*◌, ◌/◌, ◌%◌, ◌^◌, ◌≤◌, ◌<◌, ◌≡◌, refl, List, [], ◌∷◌, Bool, true, false, cond, not, ◌&&◌, ◌||◌, length, drop, ltb, leb, eqb, Some, None, Option}
 use Rattle.std.proofs.Common.{sym, ap, ◌∙◌, true≢false, add-one, add-mul, mul_assoc, mul-le-mul_right, mod-eq_of_lt, lt_of_not-le, le_trans, add-zero, suc-add, add-suc, le-div_iff_mul-le, div-lt_iff_lt-mul, mul_comm, drop_of_length-le, drop-cons, lit<}
 use native.Mathlib.Omega.{arith}
 use Rattle.std.proofs.Math.Nat.{pow-succ', pow-le-pow_right, one-le-pow, div-eq_of_lt-le, div-div-eq-div-mul}
 use Rattle.std.proofs.Math.Arith.{mod-mul}
 use Rattle.std.proofs.Math.ListN.{get_or}
 use borrow.Author.Tests.{lt-ltb, le-ltb, ltb-true, ltb-false, le-leb, lt-leb, leb-true, eq-eqb, ne_eqb, eqb-false}
-use Rattle.columns.specs.declared.Number.TheVariants.{Value, Bad}
 use Rattle.columns.specs.Decimal.{all_digits, value_from, number_from, digits_of, number_of, plain_number, digits, width_from, width, decimal_of}
 
 -- ---- reading, from a place on
 
-pub digits-none : (s : List ℕ) → length s ≡ 0 → Bad ≡ digits_of s
+pub digits-none : (s : List ℕ) → length s ≡ 0 → None ≡ digits_of s
 unfolding digits_of
 digits-none [] h = refl
 digits-none (b ∷ r) h = absurd (omega arith)
@@ -22,15 +21,15 @@ digits-start [] h = absurd (h refl)
 digits-start (b ∷ r) h = refl
 
 module _ (s : List ℕ) (a i : ℕ) where
-  pub number-end : length s ≤ i → a < 2 ^ 64 → number_from a (drop i s) ≡ Value a
+  pub number-end : length s ≤ i → a < 2 ^ 64 → number_from a (drop i s) ≡ Some a
   unfolding number_from all_digits value_from
   number-end h b = rw (drop_of_length-le s h, lt-ltb _ _ b)
 
-  pub number-low : i < length s → get_or s i 0 < 48 → number_from a (drop i s) ≡ Bad
+  pub number-low : i < length s → get_or s i 0 < 48 → number_from a (drop i s) ≡ None
   unfolding number_from all_digits
   number-low h b = rw (drop-cons s i 0, lt-leb _ _ b)
 
-  pub number-high : i < length s → 57 < get_or s i 0 → number_from a (drop i s) ≡ Bad
+  pub number-high : i < length s → 57 < get_or s i 0 → number_from a (drop i s) ≡ None
   unfolding number_from all_digits
   number-high h b = let l : 48 ≤ get_or s i 0 = omega arith in rw (drop-cons s i 0, le-leb _ _ l, lt-leb _ _ b)
 
@@ -44,11 +43,11 @@ unfolding value_from
 from-ge a [] = omega arith
 from-ge a (b ∷ r) = omega (arith, from-ge (a * 10 + (b - 48)) r)
 
-pub number-over : (a : ℕ) (l : List ℕ) → 2 ^ 64 ≤ a → number_from a l ≡ Bad
+pub number-over : (a : ℕ) (l : List ℕ) → 2 ^ 64 ≤ a → number_from a l ≡ None
 unfolding number_from
 number-over a l h = rw (le-ltb (value_from a l) (2 ^ 64) (omega (arith, from-ge a l))) (go (all_digits l))
   where
-    go : (t : Bool) → cond t Bad Bad ≡ Bad
+    go : (t : Bool) → cond {A = Option ℕ} t None None ≡ None
     go true = refl
     go false = refl
 
@@ -72,7 +71,7 @@ plain-first (b ∷ x ∷ r) h p = rw (ne_eqb b 43 p)
 
 -- ---- a number, with a plus and without
 
-pub number-none : (s : List ℕ) → length s ≡ 0 → Bad ≡ number_of s
+pub number-none : (s : List ℕ) → length s ≡ 0 → None ≡ number_of s
 unfolding number_of
 number-none [] h = refl
 number-none (b ∷ r) h = absurd (omega arith)
@@ -225,7 +224,7 @@ digits-all (suc k) n =
     let u : 48 + n / 10 ^ k % 10 ≤ 57 = omega arith in
     rw (le-leb _ _ l, le-leb _ _ u) (digits-all k n)
 
-from-digits : (k n : ℕ) → n < 10 ^ k → n < 2 ^ 64 → number_from 0 (digits k n) ≡ Value n
+from-digits : (k n : ℕ) → n < 10 ^ k → n < 2 ^ 64 → number_from 0 (digits k n) ≡ Some n
 unfolding number_from
 from-digits k n g d =
     let e : value_from 0 (digits k n) ≡ n = value-digits k n 0 ∙ (rw (mod-eq_of_lt g) (omega arith)) in
@@ -243,7 +242,7 @@ digits-first zero n e = absurd (omega arith)
 digits-first (suc k) n e = absurd (omega arith)
 
 -- a number that is written reads back as itself
-pub read-written : (n : ℕ) → n < 2 ^ 64 → number_of (decimal_of n) ≡ Value n
+pub read-written : (n : ℕ) → n < 2 ^ 64 → number_of (decimal_of n) ≡ Some n
 unfolding decimal_of
 read-written n b =
     sym (number_digits _ (digits-first (width n) n))
@@ -298,29 +297,29 @@ digits_value a (b ∷ r) h =
     let e : 48 + (a * 10 + (b - 48)) % 10 ≡ b = omega (arith, d) in
     rw (q, e, digits_value (a * 10 + (b - 48)) r d.1.1)
 
-number_is : (s : List ℕ) (v : ℕ) → number_from 0 s ≡ Value v → (all_digits s ≡ true) × ((value_from 0 s ≡ v) × (v < 2 ^ 64))
+number_is : (s : List ℕ) (v : ℕ) → number_from 0 s ≡ Some v → (all_digits s ≡ true) × ((value_from 0 s ≡ v) × (v < 2 ^ 64))
 unfolding number_from
 number_is s v h = go (all_digits s) (ltb (value_from 0 s) (2 ^ 64)) refl refl h
   where
-    go : (t u : Bool) → all_digits s ≡ t → ltb (value_from 0 s) (2 ^ 64) ≡ u → cond t (cond u (Value (value_from 0 s)) Bad) Bad ≡ Value v
+    go : (t u : Bool) → all_digits s ≡ t → ltb (value_from 0 s) (2 ^ 64) ≡ u → cond t (cond u (Some (value_from 0 s)) None) None ≡ Some v
         → (all_digits s ≡ true) × ((value_from 0 s ≡ v) × (v < 2 ^ 64))
     go true true e g k = let z : value_from 0 s ≡ v = cc in (e, (z, rw (← z) (ltb-true _ _ g)))
     go true false e g k = let z : ◌≡◌ {A = ℕ} 0 1 = cc in absurd (omega arith)
     go false u e g k = let z : ◌≡◌ {A = ℕ} 0 1 = cc in absurd (omega arith)
 
 -- digits that are read are one or more
-digits_are : (s : List ℕ) (v : ℕ) → digits_of s ≡ Value v → (1 ≤ length s) × (number_from 0 s ≡ Value v)
+digits_are : (s : List ℕ) (v : ℕ) → digits_of s ≡ Some v → (1 ≤ length s) × (number_from 0 s ≡ Some v)
 unfolding digits_of
 digits_are [] v h = let z : ◌≡◌ {A = ℕ} 0 1 = cc in absurd (omega arith)
 digits_are (b ∷ r) v h = (omega arith, h)
 
 -- a number that is read fits 64 bits
-pub number_fits : (s : List ℕ) (v : ℕ) → number_of s ≡ Value v → v < 2 ^ 64
+pub number_fits : (s : List ℕ) (v : ℕ) → number_of s ≡ Some v → v < 2 ^ 64
 unfolding number_of
 number_fits [] v h = let z : ◌≡◌ {A = ℕ} 0 1 = cc in absurd (omega arith)
 number_fits (b ∷ r) v h = go (eqb b 43) h
   where
-    go : (t : Bool) → cond t (digits_of r) (digits_of (b ∷ r)) ≡ Value v → v < 2 ^ 64
+    go : (t : Bool) → cond t (digits_of r) (digits_of (b ∷ r)) ≡ Some v → v < 2 ^ 64
     go true k = (number_is r v (digits_are r v k).1).1.1
     go false k = (number_is (b ∷ r) v (digits_are (b ∷ r) v k).1).1.1
 
@@ -335,11 +334,11 @@ plain-front b x r p = go (eqb b 43) (eqb b 48) refl refl p
     go false false e g k = (e, g)
 
 -- so it is its digits
-plain-digits-are : (b : ℕ) (r : List ℕ) (v : ℕ) → number_of (b ∷ r) ≡ Value v → plain_number (b ∷ r) ≡ true → number_from 0 (b ∷ r) ≡ Value v
+plain-digits-are : (b : ℕ) (r : List ℕ) (v : ℕ) → number_of (b ∷ r) ≡ Some v → plain_number (b ∷ r) ≡ true → number_from 0 (b ∷ r) ≡ Some v
 unfolding number_of
 plain-digits-are b [] v h p = go (eqb b 43) h
   where
-    go : (t : Bool) → cond t (digits_of []) (digits_of (b ∷ [])) ≡ Value v → number_from 0 (b ∷ []) ≡ Value v
+    go : (t : Bool) → cond t (digits_of []) (digits_of (b ∷ [])) ≡ Some v → number_from 0 (b ∷ []) ≡ Some v
     go true k = absurd (omega (arith, (digits_are [] v k).0))
     go false k = (digits_are (b ∷ []) v k).1
 plain-digits-are b (x ∷ r) v h p = (digits_are (b ∷ x ∷ r) v (rw (plain-front b x r p).0 at h)).1
@@ -354,7 +353,7 @@ wide_value b (x ∷ r) h p =
     wide_by _ k (omega (arith, (value-span 0 (b ∷ x ∷ r) h).1)) (λ _. omega (arith, e, value-span d (x ∷ r) (digit-in b (x ∷ r) h).1.1))
 
 -- a plain number is written as it was read
-pub write_read : (s : List ℕ) (v : ℕ) → number_of s ≡ Value v → plain_number s ≡ true → decimal_of v ≡ s
+pub write_read : (s : List ℕ) (v : ℕ) → number_of s ≡ Some v → plain_number s ≡ true → decimal_of v ≡ s
 unfolding number_of decimal_of
 write_read [] v h p = let z : ◌≡◌ {A = ℕ} 0 1 = cc in absurd (omega arith)
 write_read (b ∷ r) v h p =

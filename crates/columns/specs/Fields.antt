@@ -1,17 +1,13 @@
 -- A line of a name and numbers with tabs between, read by fields from the left, and written.
-use Rattle.std.specs.Prelude.{ℕ, zero, suc, List, [], ◌∷◌, ◌++◌, map, Bool, true, cond, ◌&&◌, ◌||◌, length, eqb, ltb}
+use Rattle.std.specs.Prelude.{ℕ, zero, suc, List, [], ◌∷◌, ◌++◌, map, Bool, true, cond, ◌&&◌, ◌||◌, length, eqb, ltb, Option, Some, None, Result, Ok, Err}
+use Rattle.columns.specs.declared.fields.Field.{Field}
 use Rattle.refusal.specs.declared.Refusal.{Refusal}
 use Rattle.refusal.specs.Numbers.{over_limit}
 use Rattle.refusal.specs.declared.Refusal.TheVariants.{TooLong, FieldAbsent, NotANumber, ZeroField, NameSplit}
 use Rattle.lines.specs.Lines.{onto}
 use Rattle.columns.specs.Bytes.{is, first_where}
 use Rattle.columns.specs.Decimal.{number_of, plain_number, decimal_of}
-use Rattle.columns.specs.declared.Number.{Number}
-use Rattle.columns.specs.declared.Number.TheVariants.{Value, Bad}
-use Rattle.output.specs.declared.Written.{Written}
 use Rattle.output.specs.Outcome.{Outcome, refuses, pours}
-use Rattle.columns.specs.declared.fields.FieldRead.{FieldRead}
-use Rattle.columns.specs.declared.fields.FieldRead.TheVariants as field
 
 -- ---- reading
 
@@ -26,12 +22,12 @@ abbrev pub zero_barred : ℕ → ℕ → Bool
 zero_barred place value = eqb value 0 && (eqb place 4 || eqb place 5)
 
 -- what a number says in its place of a line, where its field has so many bytes and is plain or not
-abbrev pub placed : ℕ → ℕ → ℕ → Bool → Number → FieldRead
-placed line place n plain Bad = field.Refused (NotANumber line place)
-placed line place n plain (Value v) = cond (zero_barred place v) (field.Refused (ZeroField line place)) (field.Good (record { value = v; length = n; plain = plain }))
+abbrev pub placed : ℕ → ℕ → ℕ → Bool → Option ℕ → Result Field Refusal
+placed line place n plain None = Err (NotANumber line place)
+placed line place n plain (Some v) = cond (zero_barred place v) (Err (ZeroField line place)) (Ok (record { value = v; length = n; plain = plain }))
 
 -- what a field says in its place of a line
-unfoldable pub field_says : ℕ → ℕ → List ℕ → FieldRead
+unfoldable pub field_says : ℕ → ℕ → List ℕ → Result Field Refusal
 field_says line place f = placed line place (length f) (plain_number f) (number_of f)
 
 -- some numbers, and whether none has a needless leading zero or a plus; or why they are refused
@@ -40,10 +36,10 @@ pub data Numbers : Type 0 where
   Not : Refusal → Numbers
 
 -- a field in front of some numbers
-abbrev pub front : FieldRead → Numbers → Numbers
-front (field.Refused r) ns = Not r
-front (field.Good f) (Not r) = Not r
-front (field.Good f) (Are vs plain) = Are (f.value ∷ vs) (f.plain && plain)
+abbrev pub front : Result Field Refusal → Numbers → Numbers
+front (Err r) ns = Not r
+front (Ok f) (Not r) = Not r
+front (Ok f) (Are vs plain) = Are (f.value ∷ vs) (f.plain && plain)
 
 -- the first k of some fields as numbers, judged from left to right; the first has the given place in its line
 unfoldable pub numbers_from : ℕ → ℕ → ℕ → List (List ℕ) → Numbers
@@ -71,9 +67,9 @@ abbrev pub splits : ℕ → Bool
 splits b = is 9 b || is 10 b
 
 -- a name and numbers: a name with a tab or an LF is refused, with the first place of one
-unfoldable pub text_written : List ℕ → List ℕ → List ℕ → Outcome Written
+unfoldable pub text_written : List ℕ → List ℕ → List ℕ → Outcome (Result ℕ Refusal)
 text_written name ns out = cond (ltb (first_where splits name) (length name)) (refuses (NameSplit (first_where splits name)) out) (pours (text_of name ns) out)
 
 -- the call: the size limit first, of the name and of the numbers
-unfoldable pub text_within : List ℕ → List ℕ → List ℕ → Outcome Written
+unfoldable pub text_within : List ℕ → List ℕ → List ℕ → Outcome (Result ℕ Refusal)
 text_within name ns out = cond (over_limit (length name)) (refuses TooLong out) (cond (over_limit (length ns)) (refuses TooLong out) (text_written name ns out))

@@ -1,8 +1,11 @@
 -- A number written from its first digits to its last: by its size it is a few digits, or a number and its last four or eight digits.
-use Rattle.std.specs.Prelude.{ℕ, zero, suc, ◌+◌, ◌-◌, ◌*◌, ◌/◌, ◌%◌, ◌^◌, ◌≤◌, ◌<◌, ◌≡◌, refl, List, [], ◌∷◌, ◌++◌, length, set}
-use Rattle.std.proofs.Common.{sym, ap, ◌∙◌, arith, mod-eq_of_lt, mul_comm, zero-add, suc-add, lit<}
+use Rattle.std.specs.Prelude.{ℕ, zero, suc, ◌+◌, ◌-◌, ◌*◌, ◌/◌, ◌%◌, ◌^◌, ◌≤◌, ◌<◌, ◌≡◌, refl, List, [], ◌∷◌, ◌++◌, length, get_or, set}
+use Rattle.std.proofs.Common.{drop-drop, sym, ap, ◌∙◌, arith, mod-eq_of_lt, mul_comm, zero-add, suc-add, lit<}
 use Rattle.std.proofs.Math.Nat.{pow-succ', one-le-pow, div-div-eq-div-mul}
-use Rattle.columns.specs.Bytes.{overlaid, overlaid-one, overlaid-next, overlaid-more, overlaid-length}
+use Rattle.std.specs.Int.{to_le_bytes, w16, w32}
+use Rattle.std.proofs.lemmas.Nat.{le_bytes_2, le_bytes_4}
+use borrow.Rule.Slice.PartMut.{put_mid}
+use Rattle.columns.specs.Bytes.{overlaid, overlaid-one, overlaid-more, overlaid-length}
 use Rattle.columns.specs.Decimal.{digits, decimal_of, NumberPut}
 use Rattle.columns.specs.Digits.{ten-times, all-digits, digits-length, one-digit, digit-more}
 
@@ -120,30 +123,10 @@ four-word n two r b e t =
 
 -- ---- digits laid over the output
 
-two_bytes : (out : List ℕ) (at a b : ℕ) → at + 2 ≤ length out → set (set out at a) (at + 1) b ≡ overlaid out at (a ∷ b ∷ [])
-two_bytes out at a b h =
-    rw (overlaid-one out at a (omega arith)) (overlaid-next out at (at + 1) (a ∷ []) b (omega arith) (omega arith))
-
-four_bytes : (out : List ℕ) (at a b c d : ℕ) → at + 4 ≤ length out
-    → set (set (set (set out at a) (at + 1) b) (at + 2) c) (at + 3) d ≡ overlaid out at (a ∷ b ∷ c ∷ d ∷ [])
-four_bytes out at a b c d h =
-    rw (two_bytes out at a b (omega arith), overlaid-next out at (at + 2) (a ∷ b ∷ []) c (omega arith) (omega arith))
-    (overlaid-next out at (at + 3) (a ∷ b ∷ c ∷ []) d (omega arith) (omega arith))
-
--- the low byte of a word, and the others
-low : (a b w : ℕ) → a < 256 → w ≡ a + 256 * b → (w / 256 ≡ b) × (w % 256 ≡ a)
-low a b w h e = let q : w / 256 ≡ b = omega arith in (q, omega arith)
-
-nested : (a b c d : ℕ) → a + 256 * b + 65536 * c + 16777216 * d ≡ a + 256 * (b + 256 * (c + 256 * d))
-nested a b c d = omega arith
-
-four-of : (a b c d w : ℕ) → a < 256 → b < 256 → c < 256 → w ≡ a + 256 * b + 65536 * c + 16777216 * d
-    → (w % 256 ≡ a) × ((w / 256 % 256 ≡ b) × ((w / 256 / 256 % 256 ≡ c) × (w / 256 / 256 / 256 ≡ d)))
-four-of a b c d w f g h e =
-    let x = low a (b + 256 * (c + 256 * d)) w f (e ∙ nested a b c d) in
-    let y = low b (c + 256 * d) (w / 256) g x.0 in
-    let z = low c d (w / 256 / 256) h y.0 in
-    (x.1, (y.1, (z.1, z.0)))
+-- bytes copied into a part of the output
+pub part-laid : (out : List ℕ) (at k : ℕ) (s : List ℕ) → length s ≡ k → put_mid at (at + k - at) out s ≡ overlaid out at s
+unfolding overlaid
+part-laid out at k s e = let x : at + k - at ≡ length s = omega (arith, e) in rw (x, drop-drop (length s) at out)
 
 thousands : (n : ℕ) → n < 10000 → n / 10 ^ 3 % 10 ≡ n / 1000
 thousands n h = mod-eq_of_lt (omega arith)
@@ -155,25 +138,26 @@ small : (n : ℕ) → 48 + n % 10 < 256
 small n = omega arith
 
 -- the bytes of a word are the digits
-pub two-put : (out : List ℕ) (at n w : ℕ) → n < 100 → at + 2 ≤ length out → w ≡ 48 + n / 10 + 256 * (48 + n % 10)
-    → set (set out at (w % 256)) (at + 1) (w / 256) ≡ overlaid out at (digits 2 n)
+pub two-bytes : (n w : ℕ) → n < 100 → w ≡ 48 + n / 10 + 256 * (48 + n % 10) → to_le_bytes w16 w ≡ digits 2 n
 unfolding digits
-two-put out at n w bound h e =
-    let x = low (48 + n / 10 ^ 1 % 10) (48 + n / 10 ^ 0 % 10) w (omega arith) (omega arith) in
-    rw (x.1, x.0) (two_bytes out at (48 + n / 10 ^ 1 % 10) (48 + n / 10 ^ 0 % 10) h)
+two-bytes n w h e = le_bytes_2 ((48 + n / 10 ^ 1 % 10) ∷ (48 + n / 10 ^ 0 % 10) ∷ []) w refl bytes (omega (arith, e))
+  where
+    bytes : (i : ℕ) → get_or ((48 + n / 10 ^ 1 % 10) ∷ (48 + n / 10 ^ 0 % 10) ∷ []) i 0 < 256
+    bytes zero = small (n / 10 ^ 1)
+    bytes (suc zero) = small (n / 10 ^ 0)
+    bytes (suc (suc i)) = omega arith
 
-pub four-put : (out : List ℕ) (at n w : ℕ) → n < 10000 → at + 4 ≤ length out
-    → w ≡ 48 + n / 1000 + 256 * (48 + n / 100 % 10) + 65536 * (48 + n / 10 % 10) + 16777216 * (48 + n % 10)
-    → set (set (set (set out at (w % 256)) (at + 1) (w / 256 % 256)) (at + 2) (w / 256 / 256 % 256)) (at + 3) (w / 256 / 256 / 256) ≡ overlaid out at (digits 4 n)
+pub four-bytes : (n w : ℕ) → n < 10000 → w ≡ 48 + n / 1000 + 256 * (48 + n / 100 % 10) + 65536 * (48 + n / 10 % 10) + 16777216 * (48 + n % 10) → to_le_bytes w32 w ≡ digits 4 n
 unfolding digits
-four-put out at n w bound h e =
-    let a : ℕ = 48 + n / 1000 in
-    let b : ℕ = 48 + n / 100 % 10 in
-    let c : ℕ = 48 + n / 10 % 10 in
-    let d : ℕ = 48 + n % 10 in
-    let f : a < 256 = rw (thousands n bound) at (small (n / 1000)) in
-    let x = four-of a b c d w f (small (n / 100)) (small (n / 10)) e in
-    rw (x.0, x.1.0, x.1.1.0, x.1.1.1, thousands n bound, ones n) (four_bytes out at a b c d h)
+four-bytes n w h e =
+    le_bytes_4 ((48 + n / 10 ^ 3 % 10) ∷ (48 + n / 10 ^ 2 % 10) ∷ (48 + n / 10 ^ 1 % 10) ∷ (48 + n / 10 ^ 0 % 10) ∷ []) w refl bytes (omega (arith, e, thousands n h, ones n))
+  where
+    bytes : (i : ℕ) → get_or ((48 + n / 10 ^ 3 % 10) ∷ (48 + n / 10 ^ 2 % 10) ∷ (48 + n / 10 ^ 1 % 10) ∷ (48 + n / 10 ^ 0 % 10) ∷ []) i 0 < 256
+    bytes zero = small (n / 10 ^ 3)
+    bytes (suc zero) = small (n / 10 ^ 2)
+    bytes (suc (suc zero)) = small (n / 10 ^ 1)
+    bytes (suc (suc (suc zero))) = small (n / 10 ^ 0)
+    bytes (suc (suc (suc (suc i)))) = omega arith
 
 pub eight-put : (out : List ℕ) (at n : ℕ) → at + 8 ≤ length out
     → overlaid (overlaid out at (digits 4 (n / 10000))) (at + 4) (digits 4 (n % 10000)) ≡ overlaid out at (digits 8 n)

@@ -1,14 +1,13 @@
 -- Fields that read as numbers, by what each is; and that numbers as they are written read so.
-use Rattle.std.specs.Prelude.{ℕ, zero, suc, ◌+◌, ◌^◌, ◌≤◌, ◌<◌, ◌≡◌, refl, List, [], ◌∷◌, map, Bool, true, false, ◌&&◌, length, get_or}
+use Rattle.std.specs.Prelude.{ℕ, zero, suc, ◌+◌, ◌^◌, ◌≤◌, ◌<◌, ◌≡◌, refl, List, [], ◌∷◌, map, Bool, true, false, ◌&&◌, length, get_or, Result, Ok, Err}
 use Rattle.std.proofs.Common.{sym, ap, ◌∙◌, true≢false, arith, add-zero, suc-add, add-suc}
+use Rattle.refusal.specs.declared.Refusal.{Refusal}
 use Rattle.columns.specs.Decimal.{decimal_of}
 use Rattle.columns.specs.Digits.{read-written, written-plain, write_read, number_fits}
 use Rattle.columns.specs.Fields.{zero_barred, field_says, Numbers, front, numbers_from}
 use Rattle.columns.specs.Fields.Numbers.{Are, Not}
 use Rattle.columns.specs.Reading.{Fine, good-is}
 use Rattle.columns.specs.declared.fields.Field.{Field}
-use Rattle.columns.specs.declared.fields.FieldRead.{FieldRead}
-use Rattle.columns.specs.declared.fields.FieldRead.TheVariants as field
 
 -- the first k of some fields are these numbers, all plain or not; the first has the given place
 pub data Reads : ℕ → ℕ → List (List ℕ) → List ℕ → Bool → Type 0 where
@@ -23,18 +22,18 @@ numbers-read line place zero fs vs p h = let v : vs ≡ [] = cc in let q : p ≡
 numbers-read line place (suc k) [] vs p h = let z : ◌≡◌ {A = ℕ} 0 1 = cc in absurd (omega arith)
 numbers-read line place (suc k) (f ∷ fs) vs p h = go (field_says line place f) refl (numbers_from line (suc place) k fs) refl (λ ws q. numbers-read line (suc place) k fs ws q) h
   where
-    go : (r : FieldRead) → field_says line place f ≡ r → (ns : Numbers) → numbers_from line (suc place) k fs ≡ ns
+    go : (r : Result Field Refusal) → field_says line place f ≡ r → (ns : Numbers) → numbers_from line (suc place) k fs ≡ ns
         → ((ws : List ℕ) (q : Bool) → numbers_from line (suc place) k fs ≡ Are ws q → Reads (suc place) k fs ws q)
         → front r ns ≡ Are vs p → Reads place (suc k) (f ∷ fs) vs p
-    go (field.Refused r) e ns g ih m = let z : ◌≡◌ {A = ℕ} 0 1 = cc in absurd (omega arith)
-    go (field.Good x) e (Not r) g ih m = let z : ◌≡◌ {A = ℕ} 0 1 = cc in absurd (omega arith)
-    go (field.Good x) e (Are ws q) g ih m =
+    go (Err r) e ns g ih m = let z : ◌≡◌ {A = ℕ} 0 1 = cc in absurd (omega arith)
+    go (Ok x) e (Not r) g ih m = let z : ◌≡◌ {A = ℕ} 0 1 = cc in absurd (omega arith)
+    go (Ok x) e (Are ws q) g ih m =
         let v : vs ≡ x.value ∷ ws = cc in
         let b : p ≡ (x.plain && q) = cc in
         rw (v, b) (more (good-is line place f x e) (ih ws q g))
 
 -- and are read in any line
-fine-says : (line place : ℕ) (f : List ℕ) (g : Field) → Fine place f g → field_says line place f ≡ field.Good g
+fine-says : (line place : ℕ) (f : List ℕ) (g : Field) → Fine place f g → field_says line place f ≡ Ok g
 unfolding field_says
 fine-says line place f g x = rw (x.number, x.allowed, ← x.long, ← x.plain)
 

@@ -1,9 +1,8 @@
 -- Digits as most numbers have them, 1 to 9 in front and no sign: what the quick way through a line finds, and that it is a number as it is written.
-use Rattle.std.specs.Prelude.{ℕ, zero, suc, ◌+◌, ◌-◌, ◌*◌, ◌^◌, ◌≤◌, ◌<◌, ◌≡◌, refl, List, [], ◌∷◌, ◌++◌, Bool, true, false, ◌&&◌, length, take, drop, get_or}
+use Rattle.std.specs.Prelude.{ℕ, zero, suc, ◌+◌, ◌-◌, ◌*◌, ◌^◌, ◌≤◌, ◌<◌, ◌≡◌, refl, List, [], ◌∷◌, ◌++◌, Bool, true, false, ◌&&◌, length, take, drop, get_or, Some}
 use Rattle.std.proofs.Common.{sym, ap, ◌∙◌, arith, add-one, add-zero, length-drop, take-suc, get_or-drop, ne_eqb, lt-ltb, le-leb}
 use Rattle.columns.specs.Decimal.{is_digit, all_digits, value_from, number_from, digits_of, number_of, plain_number, decimal_of}
 use Rattle.columns.specs.Digits.{from-ge, digit-in, write_read}
-use Rattle.columns.specs.declared.Number.TheVariants.{Value}
 
 -- the first n bytes are digits, whose value is v
 pub record FrontDigits (s : List ℕ) (v n : ℕ) : Type 0 where
@@ -78,7 +77,7 @@ plain-first b [] h z = refl
 plain-first b (x ∷ r) h z = rw (ne_eqb b 43 (λ q. omega arith), ne_eqb b 48 z)
 
 -- digits that begin with 1 to 9 are a number
-number_is : (b : ℕ) (r : List ℕ) → all_digits (b ∷ r) ≡ true → value_from 0 (b ∷ r) < 2 ^ 64 → number_of (b ∷ r) ≡ Value (value_from 0 (b ∷ r))
+number_is : (b : ℕ) (r : List ℕ) → all_digits (b ∷ r) ≡ true → value_from 0 (b ∷ r) < 2 ^ 64 → number_of (b ∷ r) ≡ Some (value_from 0 (b ∷ r))
 unfolding number_of digits_of number_from
 number_is b r h l =
     let d = digit-in b r h in
@@ -96,7 +95,7 @@ front-written (b ∷ l) v (suc n) h p z =
     let d = digit-in b (take n l) h.digits in
     let c : 48 < b = omega arith in
     let k : plain_number (b ∷ take n l) ≡ true = plain-first b (take n l) d.0 z in
-    let w : number_of (b ∷ take n l) ≡ Value v = number_is b (take n l) h.digits (omega (arith, h.value, h.small)) ∙ ap Value (sym h.value) in
+    let w : number_of (b ∷ take n l) ≡ Some v = number_is b (take n l) h.digits (omega (arith, h.value, h.small)) ∙ ap Some (sym h.value) in
     (write_read (b ∷ take n l) v w k, omega (arith, h.value, value_pos b (take n l) c))
 
 pub digits-written : (s : List ℕ) (at v end : ℕ) → DigitsAt s at v end → at < end → (decimal_of v ≡ take (end - at) (drop at s)) × (0 < v)

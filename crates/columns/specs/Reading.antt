@@ -1,5 +1,5 @@
 -- What the code's steps through a line find, and the laws that make `numbersFrom` of it.
-use Rattle.std.specs.Prelude.{ℕ, zero, suc, ◌+◌, ◌-◌, ◌≤◌, ◌<◌, ◌≡◌, refl, Bool, true, false, cond, ◌&&◌, length, take, drop, eqb}
+use Rattle.std.specs.Prelude.{ℕ, zero, suc, ◌+◌, ◌-◌, ◌≤◌, ◌<◌, ◌≡◌, refl, Bool, true, false, cond, ◌&&◌, length, take, drop, eqb, Option, Some, None, Result, Ok, Err}
 use Rattle.std.proofs.Common.{sym, ap, ◌∙◌, arith, add-one, drop_of_length-le, length-drop, drop-cons, drop-drop, length-take-le}
 use mathlib.Core.List.{List, [], ◌∷◌, ◌++◌, append-nil}
 use Rattle.std.proofs.Math.Bool.{and-true}
@@ -11,12 +11,7 @@ use Rattle.columns.specs.Bytes.{is, first_where, first-le}
 use Rattle.columns.specs.Decimal.{number_of, plain_number}
 use Rattle.columns.specs.Fields.{cut_at, zero_barred, placed, field_says, Numbers, front, numbers_from}
 use Rattle.columns.specs.Fields.Numbers.{Are, Not}
-use Rattle.columns.specs.declared.Number.{Number}
-use Rattle.columns.specs.declared.Number.TheVariants.{Value, Bad}
 use Rattle.columns.specs.declared.fields.Field.{Field}
-use Rattle.columns.specs.declared.fields.FieldRead.TheVariants as field
-use Rattle.columns.specs.declared.fields.NumbersRead.{NumbersRead}
-use Rattle.columns.specs.declared.fields.NumbersRead.TheVariants as read
 
 -- how many bytes the first field has, where k tabs cut
 unfoldable pub field_len : ℕ → List ℕ → ℕ
@@ -30,9 +25,9 @@ behind (suc k) [] = []
 behind (suc k) (b ∷ l) = cut_at k l
 
 -- what an answer and a table of numbers tell together
-abbrev pub told : NumbersRead → List ℕ → Numbers
-told (read.All plain) vs = Are vs plain
-told (read.Refused r) vs = Not r
+abbrev pub told : Result Bool Refusal → List ℕ → Numbers
+told (Ok plain) vs = Are vs plain
+told (Err r) vs = Not r
 
 -- numbers behind others, which are plain or not
 abbrev pub after : List ℕ → Bool → Numbers → Numbers
@@ -93,38 +88,38 @@ numbers-absent line place zero s at p h = absurd (omega arith)
 numbers-absent line place (suc k) s at p h = rw (drop_of_length-le s h)
 
 module _ (line place : ℕ) (f : List ℕ) where
-  pub field-bad : number_of f ≡ Bad → field.Refused (NotANumber line place) ≡ field_says line place f
+  pub field-bad : number_of f ≡ None → Err (NotANumber line place) ≡ field_says line place f
   unfolding field_says
   field-bad e = rw e
 
-  pub field-zero : (v : ℕ) → number_of f ≡ Value v → zero_barred place v ≡ true → field.Refused (ZeroField line place) ≡ field_says line place f
+  pub field-zero : (v : ℕ) → number_of f ≡ Some v → zero_barred place v ≡ true → Err (ZeroField line place) ≡ field_says line place f
   unfolding field_says
   field-zero v e t = rw (e, t)
 
-  pub field-good : (v : ℕ) → number_of f ≡ Value v → zero_barred place v ≡ false
-      → field.Good (record { value = v; length = length f; plain = plain_number f }) ≡ field_says line place f
+  pub field-good : (v : ℕ) → number_of f ≡ Some v → zero_barred place v ≡ false
+      → Ok (record { value = v; length = length f; plain = plain_number f }) ≡ field_says line place f
   unfolding field_says
   field-good v e t = rw (e, t)
 
 -- a good field is a number in its place
 pub record Fine (place : ℕ) (f : List ℕ) (g : Field) : Type 0 where
-  pub number : number_of f ≡ Value g.value
+  pub number : number_of f ≡ Some g.value
   pub allowed : zero_barred place g.value ≡ false
   pub long : g.length ≡ length f
   pub plain : g.plain ≡ plain_number f
 
-pub good-is : (line place : ℕ) (f : List ℕ) (g : Field) → field_says line place f ≡ field.Good g → Fine place f g
+pub good-is : (line place : ℕ) (f : List ℕ) (g : Field) → field_says line place f ≡ Ok g → Fine place f g
 unfolding field_says
 good-is line place f g h = go (number_of f) refl h
   where
-    pick : (v : ℕ) (t : Bool) → number_of f ≡ Value v → zero_barred place v ≡ t
-        → cond t (field.Refused (ZeroField line place)) (field.Good (record { value = v; length = length f; plain = plain_number f })) ≡ field.Good g → Fine place f g
+    pick : (v : ℕ) (t : Bool) → number_of f ≡ Some v → zero_barred place v ≡ t
+        → cond t (Err (ZeroField line place)) (Ok (record { value = v; length = length f; plain = plain_number f })) ≡ Ok g → Fine place f g
     pick v true n b e = let z : ◌≡◌ {A = ℕ} 0 1 = cc in absurd (omega arith)
     pick v false n b e = record { number = cc; allowed = cc; long = cc; plain = cc }
 
-    go : (n : Number) → number_of f ≡ n → placed line place (length f) (plain_number f) n ≡ field.Good g → Fine place f g
-    go Bad n e = let z : ◌≡◌ {A = ℕ} 0 1 = cc in absurd (omega arith)
-    go (Value v) n e = pick v (zero_barred place v) n refl e
+    go : (n : Option ℕ) → number_of f ≡ n → placed line place (length f) (plain_number f) n ≡ Ok g → Fine place f g
+    go None n e = let z : ◌≡◌ {A = ℕ} 0 1 = cc in absurd (omega arith)
+    go (Some v) n e = pick v (zero_barred place v) n refl e
 
 -- ---- numbers behind others
 
@@ -136,7 +131,7 @@ and_assoc : (a b c : Bool) → ((a && b) && c) ≡ (a && (b && c))
 and_assoc true b c = refl
 and_assoc false b c = refl
 
-after-good : (vs : List ℕ) (p : Bool) (f : Field) (ns : Numbers) → after vs p (front (field.Good f) ns) ≡ after (vs ++ (f.value ∷ [])) (p && f.plain) ns
+after-good : (vs : List ℕ) (p : Bool) (f : Field) (ns : Numbers) → after vs p (front (Ok f) ns) ≡ after (vs ++ (f.value ∷ [])) (p && f.plain) ns
 after-good vs p f (Are ws q) = rw (append_snoc, and_assoc p f.plain q)
 after-good vs p f (Not r) = refl
 
@@ -152,10 +147,10 @@ module _ (line place k : ℕ) (s : List ℕ) (at : ℕ) (vs : List ℕ) (p : Boo
   on-absent h e = rw (numbers-absent line place k s at h e) at inv
 
   module _ (h : 0 < k) (m : at < length s) where
-    pub on-refused : (r : Refusal) → field.Refused r ≡ field_says line place (take (field_len (k - 1) (drop (at + 1) s)) (drop (at + 1) s)) → Not r ≡ w
+    pub on-refused : (r : Refusal) → Err r ≡ field_says line place (take (field_len (k - 1) (drop (at + 1) s)) (drop (at + 1) s)) → Not r ≡ w
     on-refused r e = rw (numbers-step line place k s at h m, ← e) at inv
 
-    module _ (f : Field) (e : field.Good f ≡ field_says line place (take (field_len (k - 1) (drop (at + 1) s)) (drop (at + 1) s))) where
+    module _ (f : Field) (e : Ok f ≡ field_says line place (take (field_len (k - 1) (drop (at + 1) s)) (drop (at + 1) s))) where
       on-length : f.length ≡ field_len (k - 1) (drop (at + 1) s)
       on-length = (good-is line place _ f (sym e)).long ∙ length-take-le _ _ (field_len-le (k - 1) (drop (at + 1) s))
 

@@ -1,16 +1,15 @@
 -- What the code's steps of writing leave, and the laws that make a written line of it.
-use Rattle.std.specs.Prelude.{ℕ, suc, ◌+◌, ◌*◌, ◌^◌, ◌≤◌, ◌<◌, ◌≡◌, refl, List, [], ◌∷◌, ◌++◌, map, Bool, true, false, cond, length, get_or, take, drop, set, ltb}
+use Rattle.std.specs.Prelude.{ℕ, suc, ◌+◌, ◌*◌, ◌^◌, ◌≤◌, ◌<◌, ◌≡◌, refl, List, [], ◌∷◌, ◌++◌, map, Bool, true, false, cond, length, get_or, take, drop, set, ltb, Ok, Err}
 use Rattle.std.proofs.Common.{ap, ◌∙◌, append-nil, append_assoc, arith, add-one, length-append, take-append-drop, take-suc}
 use Rattle.std.proofs.lemmas.List.{map-append}
 use Rattle.std.proofs.Math.Seq.{append_snoc}
-use borrow.Author.Tests.{lt-ltb, le-ltb, ltb-true, ltb-false}
+use borrow.Author.Tests.{lt-ltb, le-ltb, ltb-false}
 use Rattle.columns.specs.Bytes.{first_where, first-le, overlaid, overlaid-next, overlaid-more, overlaid-zero}
 use Rattle.columns.specs.Decimal.{decimal_of}
 use Rattle.columns.specs.Digits.{decimal-short}
 use Rattle.output.specs.Outcome.{leaves, refuses, pours}
 use Rattle.output.specs.Laws.{no-bytes, poured-known}
 use Rattle.columns.specs.Fields.{tabbed, numbers_text, text_of, splits, text_written, text_within}
-use Rattle.output.specs.declared.Written.TheVariants.{Bytes, Refused}
 use Rattle.refusal.specs.declared.Refusal.TheVariants.{TooLong, NameSplit, NoRoom}
 use Rattle.refusal.specs.Numbers.{over_limit}
 
@@ -83,34 +82,17 @@ put-line name ns out h =
     rw (overlaid-more out 0 (length name) name w (omega arith) (omega arith), overlaid-next out 0 (length name + length w) (name ++ w) 10 (omega (arith, length-append name w)) (omega arith))
     (ap (overlaid out 0) (append_assoc name w (10 ∷ [])))
 
--- ---- how many bytes are lacking
-
-module _ (room long r : ℕ) (e : r ≡ cond (ltb room long) long 0) where
-  pub lack-some : 0 < r → (room < long) × (r ≡ long)
-  lack-some h = go (ltb room long) refl e
-    where
-      go : (t : Bool) → ltb room long ≡ t → r ≡ cond t long 0 → (room < long) × (r ≡ long)
-      go true q k = (ltb-true room long q, k)
-      go false q k = absurd (omega arith)
-
-  pub lack-none : (0 < r → ⊥) → 0 < long → long ≤ room
-  lack-none h p = go (ltb room long) refl e
-    where
-      go : (t : Bool) → ltb room long ≡ t → r ≡ cond t long 0 → long ≤ room
-      go true q k = absurd (h (omega arith))
-      go false q k = ltb-false room long q
-
 module _ (name ns out : List ℕ) where
-  pub text-split : first_where splits name < length name → leaves (Refused (NameSplit (first_where splits name))) out ≡ text_written name ns out
+  pub text-split : first_where splits name < length name → leaves (Err (NameSplit (first_where splits name))) out ≡ text_written name ns out
   unfolding text_written
   text-split h = rw (lt-ltb _ _ h)
 
   module _ (h : length name ≤ first_where splits name) where
-    pub text-no-room : length out < length (text_of name ns) → leaves (Refused (NoRoom (length (text_of name ns)))) out ≡ text_written name ns out
+    pub text-no-room : length out < length (text_of name ns) → leaves (Err (NoRoom (length (text_of name ns)))) out ≡ text_written name ns out
     unfolding text_written pours
     text-no-room r = rw (le-ltb _ _ h, lt-ltb _ _ r)
 
-    pub text-put : length (text_of name ns) ≤ length out → leaves (Bytes (length (text_of name ns))) (overlaid out 0 (text_of name ns)) ≡ text_written name ns out
+    pub text-put : length (text_of name ns) ≤ length out → leaves (Ok (length (text_of name ns))) (overlaid out 0 (text_of name ns)) ≡ text_written name ns out
     unfolding text_written pours
     text-put r = rw (overlaid-zero out (text_of name ns), le-ltb _ _ h, le-ltb _ _ r)
 
@@ -120,12 +102,12 @@ pub record TextPut (name ns out : List ℕ) (k : ℕ) (after : List ℕ) : Type 
   pub front : take k after ≡ text_of name ns
   pub rest : drop k after ≡ drop k out
 
-pub text-known : (name ns out : List ℕ) (k : ℕ) (after : List ℕ) → text_written name ns out ≡ leaves (Bytes k) after → TextPut name ns out k after
+pub text-known : (name ns out : List ℕ) (k : ℕ) (after : List ℕ) → text_written name ns out ≡ leaves (Ok k) after → TextPut name ns out k after
 unfolding text_written
 text-known name ns out k after h = go (ltb (first_where splits name) (length name)) refl h
   where
     go : (t : Bool) → ltb (first_where splits name) (length name) ≡ t
-        → cond t (refuses (NameSplit (first_where splits name)) out) (pours (text_of name ns) out) ≡ leaves (Bytes k) after → TextPut name ns out k after
+        → cond t (refuses (NameSplit (first_where splits name)) out) (pours (text_of name ns) out) ≡ leaves (Ok k) after → TextPut name ns out k after
     go true e q = absurd (no-bytes _ out k after q)
     go false e q =
         let f = poured-known (text_of name ns) out k after q in

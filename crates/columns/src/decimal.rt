@@ -4,25 +4,13 @@ ghost use Rattle.std.specs.Prelude.{◌≡◌, cond, ◌+◌, ◌*◌, ◌/◌, 
 ghost use Rattle.columns.specs.Bytes.{overlaid};
 ghost use Rattle.columns.specs.Decimal.{digits_of, number_of, plain_number, digits, decimal_of, NumberPut};
 
-use crate::Number;
-
 // The bytes of the digits 0 and 9, as numbers.
 pub(crate) const ZERO: u64 = 48;
 
 pub(crate) const NINE: u64 = 57;
 
-// The largest number.
-const LARGEST: u64 = 18446744073709551615;
-
 // Up to this number every digit may follow.
 pub(crate) const ROOMY: u64 = 1844674407370955160;
-
-// A byte as a number.
-pub(crate) fn wide(b: u8) -> u64
-    ensures { result ≡ b }
-{
-    b as u64
-}
 
 // May a digit follow a number, so that both together are no more than the largest. Nothing is divided but at its end.
 fn may_follow(value: u64, digit: u64) -> bool
@@ -32,42 +20,40 @@ fn may_follow(value: u64, digit: u64) -> bool
     if value <= ROOMY {
         return true;
     }
-    value <= (LARGEST - digit) / 10
+    value <= (u64::MAX - digit) / 10
 }
 
 // Reads one or more digits that are all of `s`.
-fn read_digits(s: &[u8]) -> Number
+fn read_digits(s: &[u8]) -> Option<u64>
     ensures { result ≡ digits_of s.now }
 {
     if s.len() == 0 {
-        return Number::Bad;
+        return None;
     }
     let mut value: u64 = 0;
-    let mut i = 0;
-    while i < s.len() {
-        let b = wide(s[i]);
+    for &byte in s {
+        let b = u64::from(byte);
         if b < ZERO {
-            return Number::Bad;
+            return None;
         }
         if NINE < b {
-            return Number::Bad;
+            return None;
         }
         let d = b - ZERO;
         if !may_follow(value, d) {
-            return Number::Bad;
+            return None;
         }
         value = value * 10 + d;
-        i += 1;
     }
-    Number::Value(value)
+    Some(value)
 }
 
 // Reads a number that is all of `s`.
-pub(crate) fn read_number(s: &[u8]) -> Number
+pub(crate) fn read_number(s: &[u8]) -> Option<u64>
     ensures { result ≡ number_of s.now }
 {
     if s.len() == 0 {
-        return Number::Bad;
+        return None;
     }
     if s[0] == b'+' {
         return read_digits(&s[1..]);
@@ -88,15 +74,9 @@ pub(crate) fn plain_number(s: &[u8]) -> bool
     s[0] != b'0'
 }
 
-// 1 if n is at least k, else 0.
-fn at_least(n: u64, k: u64) -> usize
-    ensures { result ≡ cond (ltb n k) 0 1 }
-{
-    if n < k { 0 } else { 1 }
-}
-
 // How many digits a number is written with. Four go with each division by 10,000, and what is left is compared, without a branch: of
-// 1,234,567 the division leaves 123, which is at least 10 and at least 100, and so there are 4 + 1 + 2 digits.
+// 1,234,567 the division leaves 123, which is at least 10 and at least 100, and so there are 4 + 1 + 2 digits. The loop stays a `while`: it
+// divides, and counts no index.
 pub(crate) fn digit_count(n: u64) -> usize
     ensures { result ≡ length (decimal_of n) }
 {
@@ -106,7 +86,7 @@ pub(crate) fn digit_count(n: u64) -> usize
         m = m / 10000;
         w += 4;
     }
-    w + at_least(m, 10) + at_least(m, 100) + at_least(m, 1000)
+    w + usize::from(10 <= m) + usize::from(100 <= m) + usize::from(1000 <= m)
 }
 
 // The tenth of a number below 100, without a division: of 99 it is 10,197 / 1,024, which is 9.
@@ -164,23 +144,18 @@ fn put_two(n: u64, out: &mut [u8], at: usize)
     requires { (n < 100) × (at + 2 ≤ length out.old) }
     ensures { out.new ≡ overlaid out.old at (digits 2 n) }
 {
-    let w = two_digits(n);
-    out[at] = (w % 256) as u8;
-    out[at + 1] = (w / 256) as u8;
+    let w = two_digits(n) as u16;
+    out[at..at + 2].copy_from_slice(&w.to_le_bytes());
 }
 
 // Writes four digits from place `at` on. The compiler makes one store of them.
+// The numbers of `put_two` are others: a size as a parameter would hide the constants of the multiplications.
 fn put_four(n: u64, out: &mut [u8], at: usize)
     requires { (n < 10000) × (at + 4 ≤ length out.old) }
     ensures { out.new ≡ overlaid out.old at (digits 4 n) }
 {
-    let w = four_digits(n);
-    let w1 = w / 256;
-    let w2 = w1 / 256;
-    out[at] = (w % 256) as u8;
-    out[at + 1] = (w1 % 256) as u8;
-    out[at + 2] = (w2 % 256) as u8;
-    out[at + 3] = (w2 / 256) as u8;
+    let w = four_digits(n) as u32;
+    out[at..at + 4].copy_from_slice(&w.to_le_bytes());
 }
 
 // Writes eight digits from place `at` on.

@@ -1,16 +1,15 @@
 // A line of a name and numbers with tabs between, read by fields from the left, and written. How many numbers a line has is the
 // caller's to say, by the table of numbers that it lends.
-ghost use Rattle.std.specs.Prelude.{◌≡◌, true, cond, ◌+◌, ◌*◌, ◌^◌, ◌<◌, ◌≤◌, length, take, drop, ltb};
+ghost use Rattle.std.specs.Prelude.{◌≡◌, true, ◌+◌, ◌*◌, ◌^◌, ◌<◌, ◌≤◌, length, take, drop, IfSome, MatchOption};
 ghost use Rattle.columns.specs.Bytes.{first_where, overlaid};
-ghost use Rattle.columns.specs.Among.{among, either};
+ghost use Rattle.columns.specs.Among.{among};
 ghost use Rattle.output.specs.Outcome.{leaves};
 ghost use Rattle.columns.specs.Fields.{zero_barred, field_says, numbers_from, numbers_text, text_of, splits, text_written, text_within};
 ghost use Rattle.columns.specs.Reading.{field_len, behind, told};
 ghost use Rattle.columns.specs.Quick.{DigitsAt};
 ghost use Rattle.columns.specs.Standing.{NumbersAt, LineAt, ReadAll};
 
-use crate::{Number, decimal};
-use output::Written;
+use crate::decimal;
 use refusal::Refusal;
 
 // A field that is a number: its value, how many bytes it has, and whether it has no needless leading zero and no plus.
@@ -21,77 +20,34 @@ pub struct Field {
     pub plain: bool,
 }
 
-// A field read as a number, or why it is none.
-#[derive(Clone, Copy)]
-pub enum FieldRead {
-    Good(Field),
-    Refused(Refusal),
-}
-
-// All numbers are read, and none has a needless leading zero or a plus, or some have; or why they are not.
-#[derive(Clone, Copy)]
-pub enum NumbersRead {
-    All { plain: bool },
-    Refused(Refusal),
-}
-
 // The bytes that end a field, and a line.
 const TAB: u8 = b'\t';
 
 const LF: u8 = b'\n';
 
-// Is one of the 8 bytes from place `i` on an `a` or a `b`. The loop never stops early, so the compiler looks at all of them at once.
-fn either_in_8(l: &[u8], i: usize, a: u8, b: u8) -> bool
-    requires { i + 8 ≤ length l.now }
-    ensures { result ≡ among (either a b) (take 8 (drop i l.now)) }
+// Is one of the N bytes from place `i` on a tab or an LF. The loop never stops early and N is constant, so the compiler looks at all of them at once.
+fn split_in<const N: usize>(l: &[u8], i: usize) -> bool
+    requires { i + N ≤ length l.now }
+    ensures { result ≡ among splits (take N (drop i l.now)) }
 {
     let mut any = false;
-    for k in 0..8 {
-        any = any | (l[i + k] == a) | (l[i + k] == b);
+    for &b in &l[i..i + N] {
+        any = any | (b == TAB) | (b == LF);
     }
     any
 }
 
-// The same of 4 bytes. The size has to be constant: hence one function for each.
-fn either_in_4(l: &[u8], i: usize, a: u8, b: u8) -> bool
-    requires { i + 4 ≤ length l.now }
-    ensures { result ≡ among (either a b) (take 4 (drop i l.now)) }
-{
-    let mut any = false;
-    for k in 0..4 {
-        any = any | (l[i + k] == a) | (l[i + k] == b);
-    }
-    any
-}
-
-// The same of 16 bytes.
-fn either_in_16(l: &[u8], i: usize, a: u8, b: u8) -> bool
-    requires { i + 16 ≤ length l.now }
-    ensures { result ≡ among (either a b) (take 16 (drop i l.now)) }
-{
-    let mut any = false;
-    for k in 0..16 {
-        any = any | (l[i + k] == a) | (l[i + k] == b);
-    }
-    any
-}
-
-// The place of the first `a` or `b` from place `from` on, byte by byte; the length where there is none.
-fn first_near(l: &[u8], from: usize, a: u8, b: u8) -> usize
+// The place of the first tab or LF from place `from` on, byte by byte; the length where there is none.
+fn first_near(l: &[u8], from: usize) -> usize
     requires { from ≤ length l.now }
-    ensures { result ≡ from + first_where (either a b) (drop from l.now) }
+    ensures { result ≡ from + first_where splits (drop from l.now) }
 {
-    let mut i = from;
-    while i < l.len() {
-        if l[i] == a {
+    for i in from..l.len() {
+        if (l[i] == TAB) | (l[i] == LF) {
             return i;
         }
-        if l[i] == b {
-            return i;
-        }
-        i += 1;
     }
-    i
+    l.len()
 }
 
 // The place of the first tab or LF from place `from` on; the length where there is none. Blocks of 8 bytes that have none are passed; the last
@@ -101,23 +57,22 @@ fn first_split(l: &[u8], from: usize) -> usize
     ensures { result ≡ from + first_where splits (drop from l.now) }
 {
     if l.len() < 8 {
-        return first_near(l, from, TAB, LF);
+        return first_near(l, from);
     }
     let last = l.len() - 8;
-    let mut i = from;
-    while i < last {
-        if either_in_8(l, i, TAB, LF) {
-            return first_near(l, i, TAB, LF);
+    for i in (from..last).step_by(8) {
+        if split_in::<8>(l, i) {
+            return first_near(l, i);
         }
-        i += 8;
     }
-    if either_in_8(l, last, TAB, LF) {
-        return first_near(l, i, TAB, LF);
+    if split_in::<8>(l, last) {
+        return first_near(l, from.max(last));
     }
     l.len()
 }
 
 // How many bytes the first field of `l` has, where so many tabs cut. An LF is passed: few lines have one before their end.
+// The loop stays a `while`: each place comes from a search, and none is counted.
 pub fn field_length(l: &[u8], tabs: usize) -> usize
     ensures { result ≡ field_len tabs l.now }
 {
@@ -148,17 +103,17 @@ fn zero_barred(place: u64, value: u64) -> bool
 }
 
 // Reads a field that is a number. Refusals tell the line and the field's place in it.
-fn whole_field(f: &[u8], line: u64, place: u64) -> FieldRead
+fn whole_field(f: &[u8], line: u64, place: u64) -> Result<Field, Refusal>
     ensures { result ≡ field_says line place f.now }
 {
     match decimal::read_number(f) {
-        Number::Bad => FieldRead::Refused(Refusal::NotANumber { line, field: place }),
-        Number::Value(value) => {
+        None => Err(Refusal::NotANumber { line, field: place }),
+        Some(value) => {
             if zero_barred(place, value) {
-                return FieldRead::Refused(Refusal::ZeroField { line, field: place });
+                return Err(Refusal::ZeroField { line, field: place });
             }
             let plain = decimal::plain_number(f);
-            FieldRead::Good(Field {
+            Ok(Field {
                 value,
                 length: f.len(),
                 plain,
@@ -168,7 +123,7 @@ fn whole_field(f: &[u8], line: u64, place: u64) -> FieldRead
 }
 
 // Reads the number at the front of `rest`, which is what stands behind a tab, and where so many more tabs cut.
-fn number_field(rest: &[u8], tabs: usize, line: u64, place: u64) -> FieldRead
+fn number_field(rest: &[u8], tabs: usize, line: u64, place: u64) -> Result<Field, Refusal>
     ensures { result ≡ field_says line place (take (field_len tabs rest.now) rest.now) }
 {
     let length = field_length(rest, tabs);
@@ -176,31 +131,28 @@ fn number_field(rest: &[u8], tabs: usize, line: u64, place: u64) -> FieldRead
 }
 
 // Reads as many numbers as the table has, one by one, and tells which is refused and why.
-fn read_each(content: &[u8], name: usize, line: u64, numbers: &mut [u64]) -> NumbersRead
+fn read_each(content: &[u8], name: usize, line: u64, numbers: &mut [u64]) -> Result<bool, Refusal>
     ensures { told result numbers.new ≡ numbers_from line 2 (length numbers.old) (behind (length numbers.old) (drop name content.now)) }
 {
     let mut tab = name;
     let mut plain = true;
-    let mut place: u64 = 2;
-    let mut i = 0;
-    while i < numbers.len() {
+    for i in 0..numbers.len() {
+        let place = i as u64 + 2;
         if content.len() <= tab {
-            return NumbersRead::Refused(Refusal::FieldAbsent { line, field: place });
+            return Err(Refusal::FieldAbsent { line, field: place });
         }
         match number_field(&content[tab + 1..], numbers.len() - i - 1, line, place) {
-            FieldRead::Refused(r) => {
-                return NumbersRead::Refused(r);
+            Err(r) => {
+                return Err(r);
             }
-            FieldRead::Good(f) => {
+            Ok(f) => {
                 numbers[i] = f.value;
                 plain = plain & f.plain;
                 tab = tab + 1 + f.length;
             }
         }
-        place += 1;
-        i += 1;
     }
-    NumbersRead::All { plain }
+    Ok(plain)
 }
 
 // Some digits of a line: their value, and the place behind them.
@@ -212,74 +164,66 @@ struct Digits {
 
 // The digits at a place of a line, up to those that are no more than the largest number whatever follows. There are none where the first
 // is a 0: most numbers begin with 1 to 9, and the others are read by `read_each`.
-fn digits_at(content: &[u8], at: usize) -> Digits
+fn digits_at(content: &[u8], at: usize) -> Option<Digits>
     requires { at < length content.now }
-    ensures { DigitsAt content.now at result.value result.end }
+    ensures { IfSome result (λ d. DigitsAt content.now at d.value d.end × (at < d.end)) }
 {
-    let first = decimal::wide(content[at]);
+    let first = u64::from(content[at]);
     if first <= decimal::ZERO {
-        return Digits { value: 0, end: at };
+        return None;
     }
     if decimal::NINE < first {
-        return Digits { value: 0, end: at };
+        return None;
     }
     let mut value = first - decimal::ZERO;
-    let mut i = at + 1;
-    while i < content.len() {
-        let b = decimal::wide(content[i]);
+    for i in at + 1..content.len() {
+        let b = u64::from(content[i]);
         if b < decimal::ZERO {
-            return Digits { value, end: i };
+            return Some(Digits { value, end: i });
         }
         if decimal::NINE < b {
-            return Digits { value, end: i };
+            return Some(Digits { value, end: i });
         }
         if decimal::ROOMY <= value {
-            return Digits { value, end: i };
+            return Some(Digits { value, end: i });
         }
         value = value * 10 + (b - decimal::ZERO);
-        i += 1;
     }
-    Digits { value, end: i }
+    Some(Digits {
+        value,
+        end: content.len(),
+    })
 }
 
-// Reads as many numbers as the table has, if all are as they are written, each with a tab before it, and tells the place behind the last; else 0,
-// and the table holds any numbers. Each byte is looked at once: whether a number ended at a tab is seen where the next begins.
-fn numbers_at(s: &[u8], place: usize, numbers: &mut [u64]) -> usize
-    ensures { 0 < result → NumbersAt s.now place numbers.new result }
+// Reads as many numbers as the table has, if all are as they are written, each with a tab before it, and tells the place behind the last; else
+// the table holds any numbers. Each byte is looked at once: whether a number ended at a tab is seen where the next begins.
+fn numbers_at(s: &[u8], place: usize, numbers: &mut [u64]) -> Option<usize>
+    ensures { IfSome result (λ end. NumbersAt s.now place numbers.new end) }
 {
-    if s.len() == 0 {
-        return 0;
-    }
-    let last = s.len() - 1;
+    let last = s.len().checked_sub(1)?;
     let mut tab = place;
-    let mut i = 0;
-    while i < numbers.len() {
+    for number in numbers.iter_mut() {
         if last <= tab {
-            return 0;
+            return None;
         }
         if s[tab] != TAB {
-            return 0;
+            return None;
         }
-        let d = digits_at(s, tab + 1);
-        if d.end <= tab + 1 {
-            return 0;
-        }
-        numbers[i] = d.value;
-        tab = d.end;
-        i += 1;
+        let digits = digits_at(s, tab + 1)?;
+        *number = digits.value;
+        tab = digits.end;
     }
-    tab
+    Some(tab)
 }
 
 // Reads as many numbers as the table has, if all are as they are written and are all the rest; else the table holds any numbers.
 fn read_quickly(content: &[u8], name: usize, numbers: &mut [u64]) -> bool
     ensures { result ≡ true → ReadAll content.now name numbers.new }
 {
-    let end = numbers_at(content, name, numbers);
-    if end == 0 {
-        return false;
+    match numbers_at(content, name, numbers) {
+        None => false,
+        Some(end) => end == content.len(),
     }
-    end == content.len()
 }
 
 // A line as it is written: how many bytes its name has, and the place behind its LF.
@@ -290,57 +234,49 @@ pub struct Standing {
 }
 
 // Reads the line that begins at a place of a text, in one walk and without a look for its end first: a name, as many numbers as the table has, and an
-// LF, if they stand there as they are written and no number is 0. Else its end is 0, and the table holds any numbers.
-pub fn line_at(text: &[u8], at: usize, numbers: &mut [u64]) -> Standing
-    ensures { 0 < result.end → LineAt text.now at result.name result.end numbers.new }
+// LF, if they stand there as they are written and no number is 0. Else the table holds any numbers.
+pub fn line_at(text: &[u8], at: usize, numbers: &mut [u64]) -> Option<Standing>
+    ensures { IfSome result (λ line. LineAt text.now at line.name line.end numbers.new) }
 {
     if text.len() <= at {
-        return Standing { name: 0, end: 0 };
+        return None;
     }
     let place = first_split(text, at);
-    let end = numbers_at(text, place, numbers);
-    if end == 0 {
-        return Standing { name: 0, end: 0 };
-    }
+    let end = numbers_at(text, place, numbers)?;
     if text.len() <= end {
-        return Standing { name: 0, end: 0 };
+        return None;
     }
     if text[end] != LF {
-        return Standing { name: 0, end: 0 };
+        return None;
     }
-    Standing {
+    Some(Standing {
         name: place - at,
         end: end + 1,
-    }
+    })
 }
 
 // Reads as many numbers as the table has, each behind a tab; the first tab stands behind a name of `name` bytes, or there is the end.
-pub fn read_numbers(content: &[u8], name: usize, line: u64, numbers: &mut [u64]) -> NumbersRead
+pub fn read_numbers(
+    content: &[u8],
+    name: usize,
+    line: u64,
+    numbers: &mut [u64],
+) -> Result<bool, Refusal>
     ensures { told result numbers.new ≡ numbers_from line 2 (length numbers.old) (behind (length numbers.old) (drop name content.now)) }
 {
     if read_quickly(content, name, numbers) {
-        return NumbersRead::All { plain: true };
+        return Ok(true);
     }
     read_each(content, name, line, numbers)
 }
 
-// Is it seen at a glance that 4 to 8 bytes have no tab and no LF: two blocks of 4 are all of them.
-fn whole_by_4(name: &[u8]) -> bool
-    requires { (4 ≤ length name.now) × (length name.now ≤ 8) }
+// Is it seen at a glance that N to 2 * N bytes have no tab and no LF: two blocks of N are all of them. The compiler looks at both at once.
+fn whole_by_two<const N: usize>(name: &[u8]) -> bool
+    requires { (N ≤ length name.now) × (length name.now ≤ 2 * N) }
     ensures { result ≡ true → first_where splits name.now ≡ length name.now }
 {
-    let front = either_in_4(name, 0, TAB, LF);
-    let back = either_in_4(name, name.len() - 4, TAB, LF);
-    !(front | back)
-}
-
-// The same of 8 to 16 bytes, by two blocks of 8. The compiler looks at both at once.
-fn whole_by_8(name: &[u8]) -> bool
-    requires { (8 ≤ length name.now) × (length name.now ≤ 16) }
-    ensures { result ≡ true → first_where splits name.now ≡ length name.now }
-{
-    let front = either_in_8(name, 0, TAB, LF);
-    let back = either_in_8(name, name.len() - 8, TAB, LF);
+    let front = split_in::<N>(name, 0);
+    let back = split_in::<N>(name, name.len() - N);
     !(front | back)
 }
 
@@ -350,14 +286,12 @@ fn whole_by_16(name: &[u8]) -> bool
     ensures { result ≡ true → first_where splits name.now ≡ length name.now }
 {
     let last = name.len() - 16;
-    let mut i = 0;
-    while i < last {
-        if either_in_16(name, i, TAB, LF) {
+    for i in (0..last).step_by(16) {
+        if split_in::<16>(name, i) {
             return false;
         }
-        i += 16;
     }
-    !either_in_16(name, last, TAB, LF)
+    !split_in::<16>(name, last)
 }
 
 // Is it seen by blocks that a name has no tab and no LF. One of 3 bytes or fewer has no block.
@@ -368,10 +302,10 @@ fn whole_name(name: &[u8]) -> bool
         if name.len() < 4 {
             return false;
         }
-        return whole_by_4(name);
+        return whole_by_two::<4>(name);
     }
     if name.len() <= 16 {
-        return whole_by_8(name);
+        return whole_by_two::<8>(name);
     }
     whole_by_16(name)
 }
@@ -392,10 +326,8 @@ fn text_length(name: &[u8], numbers: &[u64]) -> usize
     ensures { result ≡ length (text_of name.now numbers.now) }
 {
     let mut n = name.len() + 1;
-    let mut i = 0;
-    while i < numbers.len() {
-        n = n + 1 + decimal::digit_count(numbers[i]);
-        i += 1;
+    for &number in numbers {
+        n += 1 + decimal::digit_count(number);
     }
     n
 }
@@ -414,11 +346,9 @@ fn put_numbers(numbers: &[u64], out: &mut [u8], at: usize) -> usize
     ensures { (result ≡ at + length (numbers_text numbers.now)) × (out.new ≡ overlaid out.old at (numbers_text numbers.now)) }
 {
     let mut place = at;
-    let mut i = 0;
-    while i < numbers.len() {
+    for &number in numbers {
         out[place] = TAB;
-        place = decimal::put_number(numbers[i], out, place + 1);
-        i += 1;
+        place = decimal::put_number(number, out, place + 1);
     }
     place
 }
@@ -434,52 +364,51 @@ fn put_text(name: &[u8], numbers: &[u64], out: &mut [u8]) -> usize
     end + 1
 }
 
-// How many bytes a name and numbers are written with, if there is no room for so many; else 0. Where there is room for the longest numbers, of
+// How many bytes a name and numbers are written with, if there is no room for so many. Where there is room for the longest numbers, of
 // 20 digits each, none is counted.
-fn lacking(name: &[u8], numbers: &[u64], room: usize) -> usize
+fn lacking(name: &[u8], numbers: &[u64], room: usize) -> Option<usize>
     requires { length name.now + 21 * length numbers.now + 1 < 2 ^ 64 }
-    ensures { result ≡ cond (ltb room (length (text_of name.now numbers.now))) (length (text_of name.now numbers.now)) 0 }
+    ensures { MatchOption result (length (text_of name.now numbers.now) ≤ room) (λ n. (room < n) × (n ≡ length (text_of name.now numbers.now))) }
 {
     if name.len() + 21 * numbers.len() + 1 <= room {
-        return 0;
+        return None;
     }
     let needed = text_length(name, numbers);
     if room < needed {
-        return needed;
+        return Some(needed);
     }
-    0
+    None
 }
 
 // Writes a name and numbers, if the name has no tab and no LF, and if there is room.
-fn write_short(name: &[u8], numbers: &[u64], out: &mut [u8]) -> Written
+fn write_short(name: &[u8], numbers: &[u64], out: &mut [u8]) -> Result<usize, Refusal>
     requires { length name.now + 21 * length numbers.now + 1 < 2 ^ 64 }
     ensures { leaves result out.new ≡ text_written name.now numbers.now out.old }
 {
     let place = name_split(name);
     if place < name.len() {
-        return Written::Refused(Refusal::NameSplit {
+        return Err(Refusal::NameSplit {
             place: place as u64,
         });
     }
-    let needed = lacking(name, numbers, out.len());
-    if 0 < needed {
-        return Written::Refused(Refusal::NoRoom {
+    if let Some(needed) = lacking(name, numbers, out.len()) {
+        return Err(Refusal::NoRoom {
             needed: needed as u64,
         });
     }
     let written = put_text(name, numbers, out);
-    Written::Bytes(written)
+    Ok(written)
 }
 
 // The same for any name and numbers: those over the size limit are refused (1).
-pub fn write_text(name: &[u8], numbers: &[u64], out: &mut [u8]) -> Written
+pub fn write_text(name: &[u8], numbers: &[u64], out: &mut [u8]) -> Result<usize, Refusal>
     ensures { leaves result out.new ≡ text_within name.now numbers.now out.old }
 {
     if refusal::over_limit(name.len()) {
-        return Written::Refused(Refusal::TooLong);
+        return Err(Refusal::TooLong);
     }
     if refusal::over_limit(numbers.len()) {
-        return Written::Refused(Refusal::TooLong);
+        return Err(Refusal::TooLong);
     }
     write_short(name, numbers, out)
 }

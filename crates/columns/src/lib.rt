@@ -4,10 +4,3 @@
 
 mod decimal;
 pub mod fields;
-
-// A number read: its value, or that it is none.
-#[derive(Clone, Copy)]
-pub enum Number {
-    Value(u64),
-    Bad,
-}

@@ -1,6 +1,7 @@
 -- When some bytes are the same as others, by their parts.
 use Rattle.std.specs.Prelude.{ℕ, ◌+◌, ◌≤◌, ◌<◌, ◌≡◌, refl, List, [], ◌∷◌, ◌++◌, Bool, true, false, ◌&&◌, length, take, drop, get_or, eqb}
-use Rattle.std.proofs.Common.{sym, ap, ◌∙◌, true≢false, arith, add-one, length-drop, take-suc, take-add, take-take, take_all, get_or-drop, length-take-le}
+use Rattle.std.proofs.Common.{sym, ap, ◌∙◌, true≢false, arith, add-one, take-suc, take-add, take-take, take_all, length-take-le}
+use Rattle.std.specs.Cmp.Lexicographic.{pointwise}
 use Rattle.lines.specs.Same.{same_bytes, same_refl, same_true, same-is}
 
 -- one byte more behind as many
@@ -19,17 +20,23 @@ same-snoc (a ∷ s) (b ∷ t) x y h = rw (same-snoc s t x y (omega arith)) (go (
     go true = refl
     go false = refl
 
+-- as the library compares bytes
+pub same-pointwise : (s t : List ℕ) → pointwise eqb s t ≡ same_bytes s t
+unfolding same_bytes
+same-pointwise [] [] = refl
+same-pointwise [] (b ∷ t) = refl
+same-pointwise (a ∷ s) [] = refl
+same-pointwise (a ∷ s) (b ∷ t) = rw (same-pointwise s t)
+
 pub block_none : (a b : List ℕ) → true ≡ same_bytes (take 0 a) (take 0 b)
 unfolding same_bytes
 block_none a b = refl
 
-pub block_more : (a b : List ℕ) (i k : ℕ) (all : Bool) → i + k < length a → i + k < length b → all ≡ same_bytes (take k (drop i a)) (take k (drop i b))
-    → (all && eqb (get_or a (i + k) 0) (get_or b (i + k) 0)) ≡ same_bytes (take (k + 1) (drop i a)) (take (k + 1) (drop i b))
-block_more a b i k all h m e =
-    let f : length (take k (drop i a)) ≡ k = length-take-le k (drop i a) (omega (arith, length-drop i a)) in
-    let g : length (take k (drop i b)) ≡ k = length-take-le k (drop i b) (omega (arith, length-drop i b)) in
-    rw (e, add-one k, take-suc (drop i a) k 0 (omega (arith, length-drop i a)), take-suc (drop i b) k 0 (omega (arith, length-drop i b)), get_or-drop i a k 0, get_or-drop i b k 0)
-    (sym (same-snoc (take k (drop i a)) (take k (drop i b)) (get_or a (i + k) 0) (get_or b (i + k) 0) (f ∙ sym g)))
+pub block_more : (a b : List ℕ) (k : ℕ) (all : Bool) → k < length a → k < length b → all ≡ same_bytes (take k a) (take k b)
+    → (all && eqb (get_or a k 0) (get_or b k 0)) ≡ same_bytes (take (k + 1) a) (take (k + 1) b)
+block_more a b k all h m e =
+    let f : length (take k a) ≡ length (take k b) = omega (arith, length-take-le k a (omega arith), length-take-le k b (omega arith)) in
+    rw (e, add-one k, take-suc a k 0 h, take-suc b k 0 m) (sym (same-snoc (take k a) (take k b) (get_or a k 0) (get_or b k 0) f))
 
 -- what would make bytes that are the same differ shows that they are not
 pub not_same : (a b : List ℕ) → (a ≡ b → ⊥) → false ≡ same_bytes a b
@@ -43,22 +50,13 @@ module _ (a b : List ℕ) where
   pub other_length : (length a ≡ length b → ⊥) → false ≡ same_bytes a b
   other_length h = not_same a b (λ e. h (ap length e))
 
-  pub other_byte : (i : ℕ) → (get_or a i 0 ≡ get_or b i 0 → ⊥) → false ≡ same_bytes a b
-  other_byte i h = not_same a b (λ e. h (ap (λ (l : List ℕ). get_or l i 0) e))
-
   pub other_block : (i n : ℕ) → same_bytes (take n (drop i a)) (take n (drop i b)) ≡ false → false ≡ same_bytes a b
   other_block i n h = not_same a b (λ e. true≢false (sym (same_refl (take n (drop i b))) ∙ rw e at h))
 
   -- the first i bytes are the same
   module _ (i : ℕ) (f : take i a ≡ take i b) where
-    pub byte-on : i < length a → i < length b → get_or a i 0 ≡ get_or b i 0 → take (i + 1) a ≡ take (i + 1) b
-    byte-on h m e = rw (add-one i, take-suc a i 0 h, take-suc b i 0 m, f, e)
-
     pub block_on : (n : ℕ) → same_bytes (take n (drop i a)) (take n (drop i b)) ≡ true → take (i + n) a ≡ take (i + n) b
     block_on n e = rw (take-add i n a, take-add i n b, f, same_true _ _ e)
-
-    pub all_same : length a ≤ i → length b ≤ i → true ≡ same_bytes a b
-    all_same h m = let e : a ≡ b = sym (take_all i a h) ∙ f ∙ take_all i b m in rw e (sym (same_refl b))
 
     -- the last n decide, if no byte is between
     pub last_says : (last n : ℕ) → last ≤ i → length a ≡ last + n → length b ≡ last + n → same_bytes (take n (drop last a)) (take n (drop last b)) ≡ same_bytes a b

@@ -1,10 +1,9 @@
 -- The complement of a sequence into a lent output: what a call answers, and what the output holds afterwards.
-use Rattle.std.specs.Prelude.{ℕ, suc, Bool, true, false, cond, List, [], ◌∷◌, ◌++◌, map, reverse, eqb, ltb, length}
+use Rattle.std.specs.Prelude.{ℕ, suc, Bool, true, false, cond, List, [], ◌∷◌, ◌++◌, map, reverse, eqb, ltb, length, Result}
 use Rattle.refusal.specs.Numbers.{over_limit}
 use Rattle.refusal.specs.declared.Refusal.{Refusal}
 use Rattle.refusal.specs.declared.Refusal.TheVariants.{TooLong, NoRoom, NoComplement}
 use Rattle.letters.specs.Letters.{partner}
-use Rattle.output.specs.declared.Written.{Written}
 use Rattle.output.specs.Outcome.{Outcome, refuses, gives}
 
 -- how the bytes are judged before anything is written: the complements to write, or a refusal
@@ -40,10 +39,10 @@ unfoldable pub sized : List ℕ → ℕ → Judged → Judged
 sized s room j = cond (over_limit (length s)) (refused TooLong) (cond (ltb room (length s)) (refused (NoRoom (length s))) j)
 
 -- the complements at the front of the output, or the refusal
-unfoldable pub poured : Judged → List ℕ → Outcome Written
+unfoldable pub poured : Judged → List ℕ → Outcome (Result ℕ Refusal)
 poured (given l) out = gives l out
 poured (refused f) out = refuses f out
 
 -- the call
-unfoldable pub complement_written : List ℕ → Judged → List ℕ → Outcome Written
+unfoldable pub complement_written : List ℕ → Judged → List ℕ → Outcome (Result ℕ Refusal)
 complement_written s j out = poured (sized s (length out) j) out

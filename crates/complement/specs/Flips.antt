@@ -1,12 +1,19 @@
 -- The bits in which the letters of a pair differ, and that a base with those of its pair flipped is its partner.
-use Rattle.std.specs.Prelude.{ℕ, ◌+◌, ◌≤◌, ◌≡◌, true, false, cond, ◌||◌, eqb}
+use Rattle.std.specs.Prelude.{ℕ, List, ◌+◌, ◌≤◌, ◌≡◌, true, false, cond, ◌||◌, eqb}
 use Prim.Native.Char.{code}
 use Rattle.std.specs.Int.Bits.{bit_or, bit_xor}
 use Rattle.std.proofs.Common.{eqb→eq, arith}
 use Rattle.letters.specs.Letters.{partner}
 use Rattle.letters.specs.Laws.{of-each}
+use Rattle.letters.specs.Table.{IsTable}
+use Rattle.std.proofs.Props.{props}
 use Rattle.complement.specs.Kinds.{is_of}
 use Rattle.complement.specs.KindLaws.{kind-good}
+
+-- that a list is the table of the partners is a fact
+pub is_table-prop : (t : List ℕ) → IsProp (IsTable partner t)
+unfolding IsTable
+is_table-prop t = hlevel props
 
 -- the bits in which a byte and its partner differ
 unfoldable pub flip : ℕ → ℕ

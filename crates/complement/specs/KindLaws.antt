@@ -1,20 +1,19 @@
 -- Laws of the kinds: of the tests and the flips of one byte, and of bytes that are all of a kind.
-use Prim.Native.Nat.{ℕ, zero, suc, ◌+◌, ◌-◌, ◌*◌, ◌/◌, ◌≤◌, ◌<◌}
+use Prim.Native.Nat.{ℕ, zero, suc, ◌*◌, ◌/◌, ◌<◌}
 use Prim.Native.Char.{code}
 use Prim.Native.String.{String, [] as empty, ◌∷◌ as ◌◂◌}
 use Rattle.std.specs.Prelude.{◌≡◌, Bool, not, ◌||◌, ◌&&◌, T, eqb, leb, length, take, drop, get_or}
 use Rattle.std.proofs.Math.Path.{refl}
-use Rattle.std.proofs.Common.{sym, ap, ◌∙◌, eqb→eq, take-append-drop, take-suc, drop-drop, eqb-true, ne_eqb, arith}
+use Rattle.std.proofs.Common.{sym, ap, ◌∙◌, eqb→eq, take-append-drop, take-suc, eqb-true, ne_eqb, arith}
 use Rattle.std.proofs.Math.Bool.{true, false, cond}
 use mathlib.Core.List.{List, [], ◌∷◌, ◌++◌, map, reverse, reverse-reverse, cons≢nil}
 use Rattle.std.specs.Int.Bits.{bit_and, bit_or, bit_xor}
-use Rattle.std.proofs.Math.Seq.{drop-length}
 use Rattle.std.proofs.lemmas.Bool.{eqb-false}
 use Rattle.refusal.specs.declared.Refusal.{Refusal}
 use Rattle.refusal.specs.declared.Refusal.TheVariants.{NoComplement}
 use Rattle.letters.specs.Letters.{partner}
 use Rattle.complement.specs.Complement.{given, first_or, when, faults, complement_of, reverse_complement_of, poured}
-use Rattle.complement.specs.Kinds.{among, is_of, all_of, judged_of, output_of}
+use Rattle.complement.specs.Kinds.{among, is_of, all_of, in_order, judged_of, output_of}
 use Rattle.letters.specs.Laws.{both}
 
 -- ---- the tests of a byte
@@ -100,18 +99,14 @@ pub kind-good : (p : Bool) (b : ℕ) → is_of p b ≡ true → partner b ≡ 0 
 kind-good true b h e = plain-good b h e
 kind-good false b h e = paired-good b h e
 
--- what the test of a byte says of its complement
-pub tested-bad : (v : Bool) (b : ℕ) → v ≡ is_of false b → not v ≡ true → partner b ≡ 0
+-- a byte that is of neither kind has no complement
+pub unpaired : (b : ℕ) → is_of false b ≡ false → partner b ≡ 0
 unfolding is_of
-tested-bad v b e t = go (eqb (partner b) 0) refl (rw e at t)
+unpaired b t = go (eqb (partner b) 0) refl t
   where
-    go : (w : Bool) → eqb (partner b) 0 ≡ w → not (not w) ≡ true → partner b ≡ 0
+    go : (w : Bool) → eqb (partner b) 0 ≡ w → not w ≡ false → partner b ≡ 0
     go true q t = eqb-true _ _ q
     go false q t = let z : ◌≡◌ {A = ℕ} 0 1 = cc in absurd (omega arith)
-
-pub tested-good : (v : Bool) (b : ℕ) → v ≡ is_of false b → not v ≡ false → partner b ≡ 0 → ⊥
-tested-good true b e t = kind-good false b (sym e)
-tested-good false b e t = let z : ◌≡◌ {A = ℕ} 0 1 = cc in absurd (omega arith)
 
 -- ---- bytes that are all of a kind
 
@@ -141,29 +136,37 @@ module _ (p : Bool) where
   pub all_more : (s : List ℕ) (k : ℕ) → k < length s → all_of p (take (suc k) s) ≡ cond (all_of p (take k s)) (is_of p (get_or s k 0)) false
   all_more s k h = rw (take-suc s k 0 h, ← all_one (get_or s k 0)) (all_append (take k s) (get_or s k 0 ∷ []))
 
-  -- the bytes from one place to another: if they are of the kind, those behind them decide
-  module _ (s : List ℕ) (i e : ℕ) (h : i ≤ e) where
-    block : all_of p (drop i s) ≡ cond (all_of p (take (e - i) (drop i s))) (all_of p (drop e s)) false
-    block =
-        let q : i + (e - i) ≡ e = omega arith in
-        ap (all_of p) (sym (take-append-drop (e - i) (drop i s))) ∙ all_append (take (e - i) (drop i s)) (drop (e - i) (drop i s)) ∙ rw (drop-drop (e - i) i s, q)
+  -- a block in front of the rest: if it is of the kind, the rest decides
+  module _ (s x rest : List ℕ) (q : s ≡ x ++ rest) where
+    pub block-good : all_of p x ≡ true → all_of p s ≡ all_of p rest
+    block-good e = rw (q, all_append x rest, e)
 
-    pub block-good : (v : Bool) → v ≡ all_of p (take (e - i) (drop i s)) → not v ≡ false → all_of p (drop i s) ≡ all_of p (drop e s)
-    block-good true q t = block ∙ rw (← q)
-    block-good false q t = let z : ◌≡◌ {A = ℕ} 0 1 = cc in absurd (omega arith)
+    pub block-bad : all_of p x ≡ false → all_of p s ≡ false
+    block-bad e = rw (q, all_append x rest, e)
 
-    pub block-bad : (v : Bool) → v ≡ all_of p (take (e - i) (drop i s)) → not v ≡ true → all_of p (drop i s) ≡ false
-    block-bad false q t = block ∙ rw (← q)
-    block-bad true q t = let z : ◌≡◌ {A = ℕ} 0 1 = cc in absurd (omega arith)
-
-  -- behind the last there is none
-  pub all-behind : (s : List ℕ) → all_of p (drop (length s) s) ≡ true
+  pub all-none : (s : List ℕ) → length s ≡ 0 → all_of p s ≡ true
   unfolding all_of
-  all-behind s = rw (drop-length s)
+  all-none [] e = refl
+  all-none (b ∷ s) e = absurd (omega arith)
 
   -- those up to a place, and those behind it
-  pub all-halves : (s : List ℕ) (k : ℕ) → all_of p s ≡ cond (all_of p (take k s)) (all_of p (drop k s)) false
+  all-halves : (s : List ℕ) (k : ℕ) → all_of p s ≡ cond (all_of p (take k s)) (all_of p (drop k s)) false
   all-halves s k = ap (all_of p) (sym (take-append-drop k s)) ∙ all_append (take k s) (drop k s)
+
+  -- those up to a place, those behind it up to another, and the rest
+  module _ (s : List ℕ) (k n : ℕ) (front rest back last : List ℕ) (f : front ≡ take k s) (r : rest ≡ drop k s) (b : back ≡ take n rest) (l : last ≡ drop n rest) where
+    parts : all_of p s ≡ cond (all_of p front) (cond (all_of p back) (all_of p last) false) false
+    parts = rw (all-halves s k, ← f, ← r, all-halves rest n, ← b, ← l)
+
+    pub both-good : cond (all_of p front) (all_of p back) false ≡ true → all_of p s ≡ all_of p last
+    both-good e = let (x, y) = and_then (all_of p front) (all_of p back) e in parts ∙ rw (x, y)
+
+    pub both-bad : cond (all_of p front) (all_of p back) false ≡ false → all_of p s ≡ false
+    both-bad e = parts ∙ go (all_of p front) (all_of p back) e
+      where
+        go : (x y : Bool) → cond x y false ≡ false → cond x (cond y (all_of p last) false) false ≡ false
+        go true y e = rw e
+        go false y e = refl
 
   -- each of them is
   pub all-at : (s : List ℕ) (k : ℕ) → k < length s → all_of p s ≡ true → is_of p (get_or s k 0) ≡ true
@@ -181,13 +184,18 @@ module _ (p : Bool) where
       rw (ne_eqb _ _ (kind-good p b g)) (all-good (suc at) s more)
 
   -- so their complements are written, either way
-  pub all-given : (s : List ℕ) → all_of p s ≡ true → complement_of s ≡ given (map partner s)
+  all-given : (s : List ℕ) → all_of p s ≡ true → complement_of s ≡ given (map partner s)
   unfolding complement_of first_or
   all-given s e = rw (all-good 0 s e)
 
-  pub all-given-reversed : (s : List ℕ) → all_of p s ≡ true → reverse_complement_of s ≡ given (reverse (map partner s))
+  all-given-reversed : (s : List ℕ) → all_of p s ≡ true → reverse_complement_of s ≡ given (reverse (map partner s))
   unfolding reverse_complement_of first_or
   all-given-reversed s e = rw (all-good 0 s e)
+
+  pub all-judged : (reversed : Bool) (s : List ℕ) → all_of p s ≡ true → judged_of reversed s ≡ given (in_order reversed (map partner s))
+  unfolding judged_of
+  all-judged true s e = all-given-reversed s e
+  all-judged false s e = all-given s e
 
 -- ---- bytes, some without a complement
 

@@ -10,65 +10,99 @@
 // next work follows. A read or a write that fails ends the program.
 #![tactic(auto)]
 
-ghost use Rattle.std.specs.Prelude.{◌≤◌, length, IfOk};
-
-use checker::Verdict;
 use feeder::Feeder;
 use fitting::Rule;
-use output::Written;
-use primer::Place;
+use reading::Name;
 use refusal::{Numbers, Refusal};
-use scoring::Scored;
+use scoring::Score;
 use std::env::{Env, FillError};
+use std::io;
 use std::io::Read;
 use std::rt::Files;
-use std::{fs, io, str};
-use table::Stop;
 
-// Writes a space and a number.
-fn say_number(rt: &impl Print, n: u64) -> io::Result<()> {
-    print!(rt; " {n}")
+const MOST_BYTES: usize = 65536;
+
+const MOST_RECORDS: usize = 1024;
+
+const LONGEST_PATH: usize = 4096;
+
+#[derive(Clone, Copy)]
+enum Work {
+    Index,
+    Fit,
+    Arrive,
+    Check,
+    Qualities,
+    Verify,
+    Reverse,
+    Primer,
+    Score,
+    Edition,
+    Drill,
+    Twice,
+}
+
+impl Work {
+    // The work whose name has this first letter.
+    fn of(letter: u8) -> Option<Work> {
+        match letter {
+            b'i' => Some(Work::Index),
+            b'f' => Some(Work::Fit),
+            b'a' => Some(Work::Arrive),
+            b'c' => Some(Work::Check),
+            b'q' => Some(Work::Qualities),
+            b'v' => Some(Work::Verify),
+            b'r' => Some(Work::Reverse),
+            b'p' => Some(Work::Primer),
+            b's' => Some(Work::Score),
+            b'e' => Some(Work::Edition),
+            b'd' => Some(Work::Drill),
+            b't' => Some(Work::Twice),
+            _ => None,
+        }
+    }
+
+    // The work that an argument asks for. Of one that is too long for the room, the first bytes are there.
+    fn asked(rt: &impl Env, i: usize) -> Option<Work> {
+        let mut room = [0u8; LONGEST_PATH];
+        let _ = rt.arg(i, &mut room);
+        Work::of(room[0])
+    }
 }
 
 // Writes the line of a work: its name, and its count.
-fn say(rt: &impl Print, work: &[u8], n: usize) -> io::Result<()> {
-    rt.write_all(work)?;
-    say_number(rt, n as u64)?;
-    println!(rt;)
+fn say(rt: &impl Print, work: &str, n: u64) -> io::Result<()> {
+    println!(rt; "{work} {n}")
 }
 
 // Writes the line of a refusal by its numbers.
 fn say_told(rt: &impl Print, told: Numbers) -> io::Result<()> {
-    print!(rt; "refused")?;
-    say_number(rt, told.refusal)?;
-    say_number(rt, told.first)?;
-    say_number(rt, told.second)?;
-    println!(rt;)
+    println!(rt; "refused {} {} {}", told.refusal, told.first, told.second)
 }
 
 // Writes the line of a refusal.
 fn say_refused(rt: &impl Print, why: Refusal) -> io::Result<()> {
-    say_told(rt, why.numbers())
+    say_told(rt, Numbers::from(why))
 }
 
 // Indexes a file by a rule.
-fn index(rt: &impl Print, work: &[u8], fasta: &[u8], rule: Rule) -> io::Result<()> {
-    let mut table = [0u8; 1024 * 8 * table::WORDS];
+fn index(rt: &impl Print, work: &str, fasta: &[u8], rule: Rule) -> io::Result<()> {
+    let mut table = [0u8; MOST_RECORDS * 8 * table::WORDS];
     let told = fitting::bytes::index_file(fasta, &mut table, rule);
     match told.stop {
-        Stop::Ended => say(rt, work, told.rows),
-        Stop::Refused(why) => say_refused(rt, why),
+        Ok(()) => say(rt, work, told.rows as u64),
+        Err(why) => say_refused(rt, why),
     }
 }
 
 // Indexes a file that arrives, by the complete rule.
 fn arrive(rt: &impl Print, fasta: &[u8]) -> io::Result<()> {
-    let mut table = [0u8; 1024 * 8 * table::WORDS];
+    let mut table = [0u8; MOST_RECORDS * 8 * table::WORDS];
     let fed = Feeder::start(Rule::Complete).piece(fasta, &mut table);
     let ended = fed.end(&mut table);
     let told = ended.refusal();
     if told.refusal == 0 {
-        say(rt, b"arrive", ended.rows)
+        say(rt, "arrive", ended.rows as u64)
     } else {
         say_told(rt, told)
     }
@@ -76,224 +110,162 @@ fn arrive(rt: &impl Print, fasta: &[u8]) -> io::Result<()> {
 
 // Indexes a FASTQ file.
 fn index_qualities(rt: &impl Print, fastq: &[u8]) -> io::Result<()> {
-    let mut table = [0u8; 1024 * 8 * fastq_table::WORDS];
+    let mut table = [0u8; MOST_RECORDS * 8 * fastq_table::WORDS];
     let told = fastq_index::index_file(fastq, &mut table);
     match told.stop {
-        Stop::Ended => say(rt, b"qualities", told.rows),
-        Stop::Refused(why) => say_refused(rt, why),
+        Ok(()) => say(rt, "qualities", told.rows as u64),
+        Err(why) => say_refused(rt, why),
     }
 }
 
 // Says what a checker has found.
-fn say_verdict(rt: &impl Print, work: &[u8], verdict: Verdict) -> io::Result<()> {
+fn say_verdict(rt: &impl Print, work: &str, verdict: Result<(), Refusal>) -> io::Result<()> {
     match verdict {
-        Verdict::Accepted => say(rt, work, 0),
-        Verdict::Refused(why) => say_refused(rt, why),
+        Ok(()) => say(rt, work, 0),
+        Err(why) => say_refused(rt, why),
     }
 }
 
-// Checks an index with its FASTA file.
-fn check(rt: &impl Print, fasta: &[u8], text: &[u8]) -> io::Result<()> {
-    say_verdict(rt, b"check", checker::check(fasta, text))
+// What is on standard input.
+fn input<'a>(rt: &impl Input, room: &'a mut [u8]) -> io::Result<&'a [u8]> {
+    let n = reading::fill(&mut rt.reader(), room)?;
+    Ok(&room[..n])
 }
 
-// Checks an index with its FASTQ file.
-fn verify(rt: &impl Print, fastq: &[u8], text: &[u8]) -> io::Result<()> {
-    say_verdict(rt, b"verify", fastq_checker::check(fastq, text))
+// Checks the index on standard input with its FASTA file.
+fn check(rt: &(impl Input + Print), fasta: &[u8]) -> io::Result<()> {
+    let mut room = [0u8; MOST_BYTES];
+    say_verdict(rt, "check", checker::check(fasta, input(rt, &mut room)?))
 }
 
-// Reads until a room is full or the input ends, and answers how many bytes of it were read.
-fn read_full<F: Read>(from: &mut F, room: &mut [u8]) -> io::Result<usize>
-    ensures { IfOk result (λ n. n ≤ length room.new) }
-{
-    let mut done = 0;
-    while done < room.len() {
-        let n = from.read(&mut room[done..])?;
-        if n == 0 {
-            break;
-        }
-        done += n;
-    }
-    Ok(done)
-}
-
-// Checks the index on standard input with its file, which is FASTQ or not.
-fn check_input(rt: &(impl Input + Print), file: &[u8], is_fastq: bool) -> io::Result<()> {
-    let mut text = [0u8; 65536];
-    let n = read_full(&mut rt.reader(), &mut text)?;
-    if is_fastq {
-        verify(rt, file, &text[..n])
-    } else {
-        check(rt, file, &text[..n])
-    }
-}
-
-// Complements some bases, from the last to the first, into a lent room.
-fn reverse_into(rt: &impl Print, bases: &[u8], out: &mut [u8]) -> io::Result<()> {
-    match complement::reverse_complement(bases, out) {
-        Written::Bytes(n) => {
-            say(rt, b"reverse", n)?;
-            if n <= out.len() {
-                rt.write_all(&out[..n])?;
-                return println!(rt;);
-            }
-            Ok(())
-        }
-        Written::Refused(why) => say_refused(rt, why),
-    }
+// Checks the index on standard input with its FASTQ file.
+fn verify(rt: &(impl Input + Print), fastq: &[u8]) -> io::Result<()> {
+    let mut room = [0u8; MOST_BYTES];
+    say_verdict(
+        rt,
+        "verify",
+        fastq_checker::check(fastq, input(rt, &mut room)?),
+    )
 }
 
 // Complements some bases, from the last to the first.
 fn reverse(rt: &impl Print, bases: &[u8]) -> io::Result<()> {
-    let mut out = [0u8; 65536];
-    reverse_into(rt, bases, &mut out)
-}
-
-// Finds a primer in a text.
-fn find(rt: &impl Print, primer: &[u8], text: &[u8]) -> io::Result<()> {
-    match primer::find_next(primer, text, 0) {
-        Place::At(k) => say(rt, b"primer", k),
-        Place::Nothing => say(rt, b"nothing", 0),
-        Place::Refused(why) => say_refused(rt, why),
+    let mut out = [0u8; MOST_BYTES];
+    match complement::reverse_complement(bases, &mut out) {
+        Ok(n) => {
+            say(rt, "reverse", n as u64)?;
+            rt.write_all(out.get(..n).unwrap_or(b""))?;
+            println!(rt;)
+        }
+        Err(why) => say_refused(rt, why),
     }
 }
 
-// Finds the primer on standard input.
-fn find_input(rt: &(impl Input + Print), text: &[u8]) -> io::Result<()> {
-    let mut primer = [0u8; 65536];
-    let n = read_full(&mut rt.reader(), &mut primer)?;
-    find(rt, &primer[..n], text)
+// Finds the primer on standard input in a text.
+fn find(rt: &(impl Input + Print), text: &[u8]) -> io::Result<()> {
+    let mut room = [0u8; MOST_BYTES];
+    match primer::find_next(input(rt, &mut room)?, text, 0) {
+        Ok(Some(k)) => say(rt, "primer", k as u64),
+        Ok(None) => say(rt, "nothing", 0),
+        Err(why) => say_refused(rt, why),
+    }
 }
 
 // Says a score.
-fn say_scored(rt: &impl Print, scored: Scored) -> io::Result<()> {
+fn say_scored(rt: &impl Print, scored: Result<Score, Refusal>) -> io::Result<()> {
     match scored {
-        Scored::Score(s) => say(rt, b"score", s.score as usize),
-        Scored::Refused(why) => say_refused(rt, why),
+        Ok(s) => say(rt, "score", s.score),
+        Err(why) => say_refused(rt, why),
     }
 }
 
 // Scores what was typed on standard input against a key.
-fn score_input(rt: &(impl Input + Print), key: &[u8], edition: u64) -> io::Result<()> {
-    let mut typed = [0u8; 65536];
-    let n = read_full(&mut rt.reader(), &mut typed)?;
-    say_scored(rt, scoring::score_typed(key, &typed[..n], edition))
-}
-
-// Scores what was typed for an exercise about the one record of a file.
-fn score_exercise(
-    rt: &impl Print,
-    exercise: &[u8],
-    typed: &[u8],
-    file: &[u8],
-    table: &[u8],
-    room: &mut [u8],
-) -> io::Result<()> {
+fn score(rt: &(impl Input + Print), key: &[u8], edition: u64) -> io::Result<()> {
+    let mut room = [0u8; MOST_BYTES];
     say_scored(
         rt,
-        scorer::score_exercise(exercise, typed, file, file, table, 1, room),
+        scoring::score_typed(key, input(rt, &mut room)?, edition),
     )
 }
 
-// Scores what was typed on standard input for bases 1 to 10,000 of record s.
-fn drill(rt: &(impl Input + Print), file: &[u8], twice: bool) -> io::Result<()> {
+// Scores so many times what was typed on standard input for an exercise about the one record of a file: bases 1 to 10,000 of record s.
+fn drill(rt: &(impl Input + Print), file: &[u8], times: usize) -> io::Result<()> {
     let mut table = [0u8; 8 * table::WORDS];
     fitting::bytes::index_file(file, &mut table, Rule::Strict);
     let mut exercise = [0u8; 30];
-    exercise::write_exercise(b"s", 1, 10000, 1, &mut exercise);
-    let mut typed = [0u8; 65536];
-    let n = read_full(&mut rt.reader(), &mut typed)?;
-    let mut room = [0u8; 65536];
-    score_exercise(rt, &exercise, &typed[..n], file, &table, &mut room)?;
-    if twice {
-        score_exercise(rt, &exercise, &typed[..n], file, &table, &mut room)?;
+    // it takes just these 30 bytes
+    let _ = exercise::write_exercise(b"s", 1, 10000, 1, &mut exercise);
+    let mut typed = [0u8; MOST_BYTES];
+    let typed = input(rt, &mut typed)?;
+    let mut room = [0u8; MOST_BYTES];
+    for _ in 0..times {
+        say_scored(
+            rt,
+            scorer::score_exercise(&exercise, typed, file, file, &table, 1, &mut room),
+        )?;
     }
     Ok(())
 }
 
-// Does the work whose name has this first letter.
-fn work(rt: &(impl Input + Print), letter: u8, file: &[u8]) -> io::Result<()> {
-    match letter {
-        b'i' => index(rt, b"index", file, Rule::Strict),
-        b'f' => index(rt, b"fit", file, Rule::Complete),
-        b'a' => arrive(rt, file),
-        b'c' => check_input(rt, file, false),
-        b'q' => index_qualities(rt, file),
-        b'v' => check_input(rt, file, true),
-        b'r' => reverse(rt, file),
-        b'p' => find_input(rt, file),
-        b's' => score_input(rt, file, 1),
-        b'e' => score_input(rt, file, 2),
-        b'd' => drill(rt, file, false),
-        b't' => drill(rt, file, true),
-        _ => Ok(()),
+// Does a work on a file.
+fn do_on(rt: &(impl Input + Print), work: Work, file: &[u8]) -> io::Result<()> {
+    match work {
+        Work::Index => index(rt, "index", file, Rule::Strict),
+        Work::Fit => index(rt, "fit", file, Rule::Complete),
+        Work::Arrive => arrive(rt, file),
+        Work::Check => check(rt, file),
+        Work::Qualities => index_qualities(rt, file),
+        Work::Verify => verify(rt, file),
+        Work::Reverse => reverse(rt, file),
+        Work::Primer => find(rt, file),
+        Work::Score => score(rt, file, 1),
+        Work::Edition => score(rt, file, 2),
+        Work::Drill => drill(rt, file, 1),
+        Work::Twice => drill(rt, file, 2),
     }
 }
 
-// Reads a file, and does the work on it.
-fn work_on<F: Read>(rt: &(impl Input + Print), letter: u8, from: &mut F) -> io::Result<()> {
-    let mut file = [0u8; 65536];
-    let n = read_full(from, &mut file)?;
-    work(rt, letter, &file[..n])
-}
-
-// Opens the file of a name, which has to be text.
-fn open<R: Files>(rt: &R, name: &[u8]) -> io::Result<R::File> {
-    match str::from_utf8(name) {
-        Ok(path) => fs::open(rt, path),
-        Err(_) => Err(io::Error::new(io::ErrorKind::InvalidFilename, "not UTF-8")),
+// Reads a file, and does a work on it, if there is such a work.
+fn read_and_do<R: Read>(
+    rt: &(impl Input + Print),
+    work: Option<Work>,
+    from: &mut R,
+) -> io::Result<()> {
+    let mut room = [0u8; MOST_BYTES];
+    let n = reading::fill(from, &mut room)?;
+    match work {
+        Some(work) => do_on(rt, work, &room[..n]),
+        None => Ok(()),
     }
 }
 
-// What the system has in words of an error, without its number.
-fn reason(words: &str) -> &str {
-    let end = words.find(" (os error ").unwrap_or(words.len());
-    words.get(..end).unwrap_or(words)
-}
-
-// Writes a line to standard error: what failed, and why.
-fn fail(rt: &(impl Eprint + Alloc), name: &[u8], why: io::Error) -> io::Result<()> {
-    let words = format!(in rt.alloc(); "{why}")?;
-    let reason = reason(words.as_str());
-    match str::from_utf8(name) {
-        Ok(path) => eprintln!(rt; "{path}: {reason}"),
-        Err(_) => eprintln!(rt; "{}: {reason}", name.escape_ascii()),
-    }
-}
-
-// Does a work on the file that an argument names.
-fn work_on_named<R: Files + Input + Print + Eprint + Alloc>(
-    rt: &R,
-    letter: u8,
+// Does a work on the file of a name.
+fn do_named(
+    rt: &(impl Files + Input + Print + Eprint + Alloc),
+    work: Option<Work>,
     name: &[u8],
 ) -> io::Result<()> {
-    match open(rt, name) {
-        Ok(mut file) => work_on(rt, letter, &mut file),
-        Err(why) => fail(rt, name, why),
+    let name = Name(name);
+    match name.open(rt) {
+        Ok(mut file) => read_and_do(rt, work, &mut file),
+        Err(why) => eprintln!(rt; "{}", name.failure(rt.alloc(), &why)?),
     }
 }
 
-// The first letter of an argument, or 0 where it is empty.
-fn letter(rt: &impl Env, i: usize) -> u8 {
-    let mut word = [0u8; 4096];
-    let _ = rt.arg(i, &mut word);
-    word[0]
-}
-
-// Does the works of the arguments from 1 on, each on the file behind it. A name that is too long for a path counts as empty.
-fn work_on_all<R: Env + Files + Input + Print + Eprint + Alloc>(rt: &R) -> io::Result<()> {
-    let mut name = [0u8; 4096];
-    for i in 1..usize::MAX {
-        match rt.arg(i, &mut name) {
-            Ok(n) if i % 2 == 0 => work_on_named(rt, letter(rt, i - 1), &name[..n])?,
-            Err(FillError::TooLong) if i % 2 == 0 => work_on_named(rt, letter(rt, i - 1), b"")?,
-            Ok(_) | Err(FillError::TooLong) => {}
-            Err(FillError::NotPresent) => return Ok(()),
+// Does the works of the arguments, each on the file behind it. A name that is too long for a path counts as empty.
+fn do_all(rt: &(impl Env + Files + Input + Print + Eprint + Alloc)) -> io::Result<()> {
+    let mut room = [0u8; LONGEST_PATH];
+    for pair in 1..usize::MAX / 2 {
+        let work = Work::asked(rt, 2 * pair - 1);
+        match rt.arg(2 * pair, &mut room) {
+            Ok(n) => do_named(rt, work, &room[..n])?,
+            Err(FillError::TooLong) => do_named(rt, work, b"")?,
+            Err(FillError::NotPresent) => break,
         }
     }
     Ok(())
 }
 
 fn main(rt: HostRuntime) -> io::Result<()> {
-    work_on_all(&rt)
+    do_all(&rt)
 }

@@ -1,5 +1,6 @@
 -- What a definition line says (docs/RULES.md, R10).
-use Rattle.std.specs.Prelude.{ℕ, zero, suc, ◌+◌, List, [], ◌∷◌, Bool, true, false, cond, not, ◌||◌, length, drop, eqb}
+use Rattle.std.specs.Prelude.{ℕ, zero, suc, ◌+◌, List, [], ◌∷◌, Bool, true, false, cond, not, ◌||◌, length, drop, eqb, Result, Ok, Err}
+use Rattle.definition.specs.declared.Definition.{Definition}
 use Rattle.refusal.specs.Numbers.{over_limit}
 use Rattle.refusal.specs.declared.Refusal.{Refusal}
 use Rattle.refusal.specs.declared.Refusal.TheVariants as refused
@@ -7,10 +8,6 @@ use Rattle.lines.specs.Lines.{content_of}
 use Rattle.lines.specs.declared.Span.{Span}
 use Rattle.definition.specs.declared.Fault.{Fault}
 use Rattle.definition.specs.declared.Fault.TheVariants.{Empty, NoPrefix, NoName}
-use Rattle.definition.specs.declared.Parsed.{Parsed}
-use Rattle.definition.specs.declared.Parsed.TheVariants.{Named, Bad}
-use Rattle.definition.specs.declared.DefinitionRead.{DefinitionRead}
-use Rattle.definition.specs.declared.DefinitionRead.TheVariants as read
 
 -- space, tab, LF, form feed, CR
 unfoldable pub is_space : ℕ → Bool
@@ -45,27 +42,27 @@ described at zero = record { start = 0; length = 0 }
 described at (suc n) = record { start = at; length = suc n }
 
 -- a text behind its '>' that has a name of some bytes: the description is the rest, trimmed of whitespace at both ends
-abbrev pub named_of : List ℕ → ℕ → Parsed
-named_of s zero = Bad NoName
+abbrev pub named_of : List ℕ → ℕ → Result Definition Fault
+named_of s zero = Err NoName
 named_of s (suc n) =
-    Named
+    Ok
     (record {
       name = record { start = 1; length = suc n };
       description = described (suc (suc n) + (trim (drop (suc n) s)).start) (trim (drop (suc n) s)).length;
     })
 
 -- what the content of a line says, which begins with a mark: the name is what follows the mark, up to the first whitespace
-unfoldable pub marked_says : ℕ → List ℕ → Parsed
-marked_says mark [] = Bad Empty
-marked_says mark (b ∷ s) = cond (eqb b mark) (named_of s (run (spaced false) s)) (Bad NoPrefix)
+unfoldable pub marked_says : ℕ → List ℕ → Result Definition Fault
+marked_says mark [] = Err Empty
+marked_says mark (b ∷ s) = cond (eqb b mark) (named_of s (run (spaced false) s)) (Err NoPrefix)
 
 -- and of a line whose mark is '>'
-unfoldable pub content_says : List ℕ → Parsed
-content_says [] = Bad Empty
-content_says (b ∷ s) = cond (eqb b 62) (named_of s (run (spaced false) s)) (Bad NoPrefix)
+unfoldable pub content_says : List ℕ → Result Definition Fault
+content_says [] = Err Empty
+content_says (b ∷ s) = cond (eqb b 62) (named_of s (run (spaced false) s)) (Err NoPrefix)
 
 -- what a line says
-unfoldable pub definition_says : List ℕ → Parsed
+unfoldable pub definition_says : List ℕ → Result Definition Fault
 definition_says l = content_says (content_of l)
 
 -- the place in the line where reading it failed: its first byte, or the one behind '>'
@@ -89,12 +86,12 @@ abbrev pub refusal_in : Fault → ℕ → ℕ → Refusal
 refusal_in f n start = refusal_of f n (start + fails_at f)
 
 -- the two calls: the size limit first
-unfoldable pub read_as : Parsed → DefinitionRead
-read_as (Named d) = read.Named d
-read_as (Bad f) = read.Refused (refusal_of f (fails_at f) 0)
+unfoldable pub read_as : Result Definition Fault → Result Definition Refusal
+read_as (Ok d) = Ok d
+read_as (Err f) = Err (refusal_of f (fails_at f) 0)
 
-unfoldable pub content_read : List ℕ → DefinitionRead
-content_read l = cond (over_limit (length l)) (read.Refused refused.TooLong) (read_as (content_says l))
+unfoldable pub content_read : List ℕ → Result Definition Refusal
+content_read l = cond (over_limit (length l)) (Err refused.TooLong) (read_as (content_says l))
 
-unfoldable pub line_read : List ℕ → DefinitionRead
-line_read l = cond (over_limit (length l)) (read.Refused refused.TooLong) (read_as (definition_says l))
+unfoldable pub line_read : List ℕ → Result Definition Refusal
+line_read l = cond (over_limit (length l)) (Err refused.TooLong) (read_as (definition_says l))

@@ -1,6 +1,6 @@
 -- Laws of a definition line's parts.
 use Prim.Native.Nat.{ℕ, zero, suc, ◌+◌, ◌≤◌, ◌<◌, ◌-◌}
-use Rattle.std.specs.Prelude.{◌≡◌, refl, Bool, true, false, cond, drop, eqb}
+use Rattle.std.specs.Prelude.{◌≡◌, refl, Bool, true, false, cond, not, drop, eqb, Ok, Err}
 use Rattle.std.proofs.Math.Path.{ap}
 use Rattle.std.proofs.Common.{sym, ◌∙◌, true≢false, length-drop, drop_of_length-le, drop-drop, drop-cons, take_all, eq-eqb, ne_eqb}
 use mathlib.Core.List.{List, [], ◌∷◌, ◌++◌}
@@ -15,7 +15,6 @@ use Rattle.definition.specs.Definition.{is_space, spaced, run, kept, keep, descr
 use Rattle.definition.specs.declared.Definition.{Definition}
 use Rattle.definition.specs.declared.Fault.{Fault}
 use Rattle.definition.specs.declared.Fault.TheVariants.{Empty, NoPrefix, NoName}
-use Rattle.definition.specs.declared.Parsed.TheVariants.{Named, Bad}
 
 -- ---- a run from the front
 
@@ -96,37 +95,37 @@ unfolding marked_says content_says
 marked-prefix [] = refl
 marked-prefix (b ∷ s) = refl
 
-pub says-empty : (mark : ℕ) (l : List ℕ) → length l ≡ 0 → Bad Empty ≡ marked_says mark l
+pub says-empty : (mark : ℕ) (l : List ℕ) → length l ≡ 0 → Err Empty ≡ marked_says mark l
 unfolding marked_says
 says-empty mark [] h = refl
 says-empty mark (b ∷ s) h = absurd (omega arith)
 
-pub says-prefix : (mark : ℕ) (l : List ℕ) → (length l ≡ 0 → ⊥) → (get_or l 0 0 ≡ mark → ⊥) → Bad NoPrefix ≡ marked_says mark l
+pub says-prefix : (mark : ℕ) (l : List ℕ) → (length l ≡ 0 → ⊥) → (get_or l 0 0 ≡ mark → ⊥) → Err NoPrefix ≡ marked_says mark l
 unfolding marked_says
 says-prefix mark [] z x = absurd (z refl)
 says-prefix mark (b ∷ s) z x = rw (ne_eqb b mark x)
 
 module _ (mark : ℕ) (l : List ℕ) (z : length l ≡ 0 → ⊥) (x : get_or l 0 0 ≡ mark) (n : ℕ) (m : n ≡ 1 + run (spaced false) (drop 1 l)) where
-  pub says-no-name : n ≡ 1 → Bad NoName ≡ marked_says mark l
+  pub says-no-name : n ≡ 1 → Err NoName ≡ marked_says mark l
   unfolding marked_says
   says-no-name y = go l z x m
     where
-      go : (T : List ℕ) → (length T ≡ 0 → ⊥) → get_or T 0 0 ≡ mark → n ≡ 1 + run (spaced false) (drop 1 T) → Bad NoName ≡ marked_says mark T
+      go : (T : List ℕ) → (length T ≡ 0 → ⊥) → get_or T 0 0 ≡ mark → n ≡ 1 + run (spaced false) (drop 1 T) → Err NoName ≡ marked_says mark T
       go [] w p q = absurd (w refl)
       go (b ∷ s) w p q = let r : run (spaced false) s ≡ 0 = omega arith in rw (eq-eqb b mark p, r)
 
   -- by the places that the code finds: the name's end, the description's start and end
   pub says-named : (d k : ℕ) → (n ≡ 1 → ⊥) → d ≡ n + run (spaced true) (drop n l) → k ≡ d + keep is_space (drop d l)
-      → Named (record { name = record { start = 1; length = n - 1 }; description = described d (k - d) }) ≡ marked_says mark l
+      → Ok (record { name = record { start = 1; length = n - 1 }; description = described d (k - d) }) ≡ marked_says mark l
   unfolding marked_says
   says-named d k y p q = go l z x m p q
     where
       go : (T : List ℕ) → (length T ≡ 0 → ⊥) → get_or T 0 0 ≡ mark → n ≡ 1 + run (spaced false) (drop 1 T) → d ≡ n + run (spaced true) (drop n T)
-          → k ≡ d + keep is_space (drop d T) → Named (record { name = record { start = 1; length = n - 1 }; description = described d (k - d) }) ≡ marked_says mark T
+          → k ≡ d + keep is_space (drop d T) → Ok (record { name = record { start = 1; length = n - 1 }; description = described d (k - d) }) ≡ marked_says mark T
       go [] w u v p q = absurd (w refl)
       go (b ∷ s) w u v p q = rw (eq-eqb b mark u) (some (run (spaced false) s) refl)
         where
-          some : (j : ℕ) → run (spaced false) s ≡ j → Named (record { name = record { start = 1; length = n - 1 }; description = described d (k - d) }) ≡ named_of s j
+          some : (j : ℕ) → run (spaced false) s ≡ j → Ok (record { name = record { start = 1; length = n - 1 }; description = described d (k - d) }) ≡ named_of s j
           some zero e = absurd (y (omega arith))
           some (suc j) e =
               let N : n ≡ suc (suc j) = omega arith in
@@ -139,34 +138,27 @@ module _ (mark : ℕ) (l : List ℕ) (z : length l ≡ 0 → ⊥) (x : get_or l 
 
 -- ---- whitespace
 
-pub space-yes : (b n : ℕ) → true ≡ is_space n → b ≡ n → true ≡ is_space b
-space-yes b n h e = rw e h
-
-pub space-last : (b : ℕ) → (b ≡ 32 → ⊥) → (b ≡ 9 → ⊥) → (b ≡ 10 → ⊥) → (b ≡ 12 → ⊥) → eqb b 13 ≡ is_space b
-unfolding is_space
-space-last b h i j k = rw (ne_eqb b 32 h, ne_eqb b 9 i, ne_eqb b 10 j, ne_eqb b 12 k)
-
-pub spaced-yes : (t r : Bool) (b : ℕ) → r ≡ is_space b → beq r t ≡ true → spaced t b ≡ true
+pub spaced-yes : (t r : Bool) (b : ℕ) → r ≡ is_space b → not (beq r t) ≡ false → spaced t b ≡ true
 spaced-yes true true b e h = sym e
-spaced-yes true false b e h = absurd (true≢false (sym h))
-spaced-yes false true b e h = absurd (true≢false (sym h))
+spaced-yes true false b e h = absurd (true≢false h)
+spaced-yes false true b e h = absurd (true≢false h)
 spaced-yes false false b e h = rw (← e)
 
-pub spaced-not : (t r : Bool) (b : ℕ) → r ≡ is_space b → beq r t ≡ false → spaced t b ≡ false
+pub spaced-not : (t r : Bool) (b : ℕ) → r ≡ is_space b → not (beq r t) ≡ true → spaced t b ≡ false
 spaced-not true false b e h = sym e
-spaced-not true true b e h = absurd (true≢false h)
-spaced-not false false b e h = absurd (true≢false h)
+spaced-not true true b e h = absurd (true≢false (sym h))
+spaced-not false false b e h = absurd (true≢false (sym h))
 spaced-not false true b e h = rw (← e)
 
 -- ---- where a name lies
 
 -- a name lies in its line, behind the mark
-pub marked-within : (mark : ℕ) (l : List ℕ) (d : Definition) → marked_says mark (content_of l) ≡ Named d
+pub marked-within : (mark : ℕ) (l : List ℕ) (d : Definition) → marked_says mark (content_of l) ≡ Ok d
     → (d.name.start ≡ 1) × (1 ≤ d.name.length) × (d.name.start + d.name.length ≤ length l)
 unfolding marked_says
 marked-within mark l d h = go (content_of l) (content-le l) h
   where
-    some : (s : List ℕ) (n : ℕ) → n ≤ length s → suc (length s) ≤ length l → named_of s n ≡ Named d
+    some : (s : List ℕ) (n : ℕ) → n ≤ length s → suc (length s) ≤ length l → named_of s n ≡ Ok d
         → (d.name.start ≡ 1) × (1 ≤ d.name.length) × (d.name.start + d.name.length ≤ length l)
     some s zero a b e = let z : ◌≡◌ {A = ℕ} 0 1 = cc in absurd (omega arith)
     some s (suc n) a b e =
@@ -176,16 +168,16 @@ marked-within mark l d h = go (content_of l) (content-le l) h
         let q : d.name.length ≡ suc n = ap (λ (x : Definition). x.name.length) v in
         (p, omega arith, omega arith)
 
-    go : (t : List ℕ) → length t ≤ length l → marked_says mark t ≡ Named d → (d.name.start ≡ 1) × (1 ≤ d.name.length) × (d.name.start + d.name.length ≤ length l)
+    go : (t : List ℕ) → length t ≤ length l → marked_says mark t ≡ Ok d → (d.name.start ≡ 1) × (1 ≤ d.name.length) × (d.name.start + d.name.length ≤ length l)
     go [] a e = let z : ◌≡◌ {A = ℕ} 0 1 = cc in absurd (omega arith)
     go (b ∷ s) a e = prefixed (eqb b mark) e
       where
-        prefixed : (t : Bool) → cond t (named_of s (run (spaced false) s)) (Bad NoPrefix) ≡ Named d
+        prefixed : (t : Bool) → cond t (named_of s (run (spaced false) s)) (Err NoPrefix) ≡ Ok d
             → (d.name.start ≡ 1) × (1 ≤ d.name.length) × (d.name.start + d.name.length ≤ length l)
         prefixed true e = some s (run (spaced false) s) (run-le (spaced false) s) a e
         prefixed false e = let z : ◌≡◌ {A = ℕ} 0 1 = cc in absurd (omega arith)
 
-pub name-within : (l : List ℕ) (d : Definition) → definition_says l ≡ Named d
+pub name-within : (l : List ℕ) (d : Definition) → definition_says l ≡ Ok d
     → (d.name.start ≡ 1) × (1 ≤ d.name.length) × (d.name.start + d.name.length ≤ length l)
 unfolding definition_says
 name-within l d h = marked-within 62 l d (marked-prefix (content_of l) ∙ h)
@@ -206,7 +198,7 @@ keep-drop p (suc i) (b ∷ s) = keep-drop p i s ∙ go (p b) (keep p s)
 abbrev pub Inside : List ℕ → Span → Type 0
 Inside l s = (s.start + s.length ≤ length l) × (s.length ≡ 0 → s.start ≡ 0)
 
-pub description-within : (l : List ℕ) (d : Definition) → definition_says l ≡ Named d → Inside l d.description
+pub description-within : (l : List ℕ) (d : Definition) → definition_says l ≡ Ok d → Inside l d.description
 unfolding definition_says content_says
 description-within l d h = go (content_of l) (content-le l) h
   where
@@ -214,7 +206,7 @@ description-within l d h = go (content_of l) (content-le l) h
     span at zero k = (omega arith, λ z. refl)
     span at (suc n) k = (k (omega arith), λ z. absurd (omega arith))
 
-    some : (s : List ℕ) (n : ℕ) → n ≤ length s → suc (length s) ≤ length l → named_of s n ≡ Named d → Inside l d.description
+    some : (s : List ℕ) (n : ℕ) → n ≤ length s → suc (length s) ≤ length l → named_of s n ≡ Ok d → Inside l d.description
     some s zero a b e = let z : ◌≡◌ {A = ℕ} 0 1 = cc in absurd (omega arith)
     some s (suc n) a b e =
         let k : ℕ = run (spaced true) (drop (suc n) s) in
@@ -223,11 +215,11 @@ description-within l d h = go (content_of l) (content-le l) h
         rw v (span (suc (suc n) + k) m
         (λ z. omega (arith, keep-le is_space (drop k (drop (suc n) s)), length-drop k (drop (suc n) s), length-drop (suc n) s, run-le (spaced true) (drop (suc n) s))))
 
-    go : (t : List ℕ) → length t ≤ length l → content_says t ≡ Named d → Inside l d.description
+    go : (t : List ℕ) → length t ≤ length l → content_says t ≡ Ok d → Inside l d.description
     go [] a e = let z : ◌≡◌ {A = ℕ} 0 1 = cc in absurd (omega arith)
     go (b ∷ s) a e = prefixed (eqb b 62) e
       where
-        prefixed : (t : Bool) → cond t (named_of s (run (spaced false) s)) (Bad NoPrefix) ≡ Named d → Inside l d.description
+        prefixed : (t : Bool) → cond t (named_of s (run (spaced false) s)) (Err NoPrefix) ≡ Ok d → Inside l d.description
         prefixed true e = some s (run (spaced false) s) (run-le (spaced false) s) a e
         prefixed false e = let z : ◌≡◌ {A = ℕ} 0 1 = cc in absurd (omega arith)
 

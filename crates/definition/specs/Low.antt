@@ -1,6 +1,6 @@
 -- Low bytes: a space, or less. All whitespace is low, so bytes of which none is low are in a run of bytes that are no whitespace.
-use Rattle.std.specs.Prelude.{ℕ, zero, suc, ◌+◌, ◌≤◌, ◌<◌, ◌≡◌, refl, List, [], ◌∷◌, ◌++◌, Bool, true, false, cond, ◌||◌, length, take, drop, get_or, ltb}
-use Rattle.std.proofs.Common.{ap, sym, true≢false, length-drop, drop-drop, get_or-drop, take-suc, ne_eqb, ltb-false, arith, add-one, zero-add}
+use Rattle.std.specs.Prelude.{ℕ, zero, suc, ◌+◌, ◌≤◌, ◌<◌, ◌≡◌, refl, List, [], ◌∷◌, ◌++◌, Bool, true, false, cond, not, ◌||◌, length, take, drop, get_or, ltb}
+use Rattle.std.proofs.Common.{ap, sym, true≢false, length-drop, drop-drop, take-suc, take_all, ne_eqb, ltb-false, arith, add-one, zero-add}
 use Rattle.definition.specs.Definition.{is_space, spaced, run}
 
 unfoldable pub low : ℕ → Bool
@@ -30,15 +30,19 @@ some-append (a ∷ l) b = go (low a) (some-append l b)
     go true h = refl
     go false h = h
 
-pub low-none : (l : List ℕ) → false ≡ any_low 0 l
+-- the first k bytes of some, and one more
+pub low-none : (s : List ℕ) → false ≡ any_low 0 s
 unfolding some_low
-low-none l = refl
+low-none s = refl
 
-pub low-more : (s : List ℕ) (i k : ℕ) (any : Bool) → i + k < length s → any ≡ any_low k (drop i s) → (any || ltb (get_or s (i + k) 0) 33) ≡ any_low (k + 1) (drop i s)
+pub low-more : (s : List ℕ) (k : ℕ) (any : Bool) → k < length s → any ≡ any_low k s → (any || ltb (get_or s k 0) 33) ≡ any_low (k + 1) s
 unfolding low
-low-more s i k any h e =
-    rw (e, add-one k, take-suc (drop i s) k 0 (omega (arith, length-drop i s)), get_or-drop i s k 0)
-    (sym (some-append (take k (drop i s)) (get_or s (i + k) 0)))
+low-more s k any h e = rw (e, add-one k, take-suc s k 0 h) (sym (some-append (take k s) (get_or s k 0)))
+
+-- all of the first n, if none of them is low
+pub none-low : (s : List ℕ) (n k : ℕ) (any : Bool) → length (take n s) ≤ k → any ≡ any_low k (take n s) → not any ≡ true → any_low n s ≡ false
+none-low s n k true h e t = absurd (true≢false (sym t))
+none-low s n k false h e t = rw (take_all k (take n s) h) at (sym e)
 
 -- ---- a run that goes on
 

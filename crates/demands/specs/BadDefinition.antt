@@ -5,9 +5,10 @@
 --
 -- `checked-bad`: if wakeluri_check answers 2, 3 or 4, `first` is the first record that is wrong, from 1: its definition line does not read, and
 -- `second` is that offset.
-use Rattle.std.specs.Prelude.{ℕ, suc, ◌+◌, ◌≤◌, ◌≡◌, List, length}
+use Rattle.std.specs.Prelude.{ℕ, suc, ◌+◌, ◌≤◌, ◌≡◌, List, length, Result, Ok, Err, ⊤}
 use Rattle.std.proofs.Math.Path.{refl, ap}
 use Rattle.std.proofs.Common.{arith}
+use Rattle.refusal.specs.declared.Refusal.{Refusal}
 use Rattle.refusal.specs.declared.Numbers.{Numbers}
 use Rattle.lines.specs.Lines.{lines}
 use Rattle.lines.specs.Groups.{groups}
@@ -15,12 +16,8 @@ use Rattle.definition.specs.Definition.{fails_at}
 use Rattle.definition.specs.Failing.{number_of}
 use Rattle.definition.specs.declared.Fault.{Fault}
 use Rattle.table.specs.Rows.{row_count}
-use Rattle.table.specs.declared.Stop.{Stop}
-use Rattle.table.specs.declared.Stop.TheVariants as stop
 use Rattle.fitting.specs.declared.Rule.{Rule}
 use Rattle.fitting.specs.Rules.{rows_in}
-use Rattle.checker.specs.declared.Verdict.{Verdict}
-use Rattle.checker.specs.declared.Verdict.TheVariants as verdict
 use Rattle.checker.specs.Check.{check_of}
 use Rattle.checker.specs.Accepts.{definition_at}
 use Rattle.checker.specs.BadDefinition.{FirstBad, TellsBad}
@@ -64,10 +61,10 @@ module _ (rule : Rule) (file table table' : List ℕ) (filled : Answer) (indexed
       e : filled ≡ filled_answer (length (rows_in rule file (row_count (numbers_in table))).rows) (rows_in rule file (row_count (numbers_in table))).stop
       e = ap (λ (t : Outcome Answer). t.answer) indexed
 
-      go : (s : Stop) → (rows_in rule file (row_count (numbers_in table))).stop ≡ s → OfDefinition (filled_answer (length (rows_in rule file (row_count (numbers_in table))).rows) s)
+      go : (s : Result ⊤ Refusal) → (rows_in rule file (row_count (numbers_in table))).stop ≡ s → OfDefinition (filled_answer (length (rows_in rule file (row_count (numbers_in table))).rows) s)
           → IndexedBad file (filled_answer (length (rows_in rule file (row_count (numbers_in table))).rows) s)
-      go stop.Ended q o = absurd (omega (arith, o.least))
-      go (stop.Refused x) q o =
+      go (Ok tt) q o = absurd (omega (arith, o.least))
+      go (Err x) q o =
           let t = mission.told-bad rule file (row_count (numbers_in table)) x q o.least o.most in
           record {
             fault = t.fault;
@@ -82,9 +79,9 @@ module _ (file index : List ℕ) (checked : Answer) (check : Check file index ch
   unfolding verdict_answer
   checked-bad of = rw check (go (check_of file index) refl (rw check at of))
     where
-      go : (v : Verdict) → check_of file index ≡ v → OfDefinition (verdict_answer v) → CheckedBad file index (verdict_answer v)
-      go verdict.Accepted q o = absurd (omega (arith, o.least))
-      go (verdict.Refused x) q o =
+      go : (v : Result ⊤ Refusal) → check_of file index ≡ v → OfDefinition (verdict_answer v) → CheckedBad file index (verdict_answer v)
+      go (Ok tt) q o = absurd (omega (arith, o.least))
+      go (Err x) q o =
           let t = checker.told-bad file index x q o.least o.most in
           record {
             at = t.at;

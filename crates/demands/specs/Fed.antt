@@ -5,9 +5,10 @@
 -- `fed-whole`: any pieces within the size limit, and the end, answer the count and the refusal of the call on the joined bytes, and leave its
 -- table, to the byte, for each rule. `fed-told`: before the end, those of all lines but the last. `split-same`: two ways of splitting the same
 -- bytes hand out the same. `refusal-repeated`, `ended-first`: what a later call answers.
-use Rattle.std.specs.Prelude.{ℕ, ◌≤◌, ◌≡◌, refl, List, ◌∷◌, length}
+use Rattle.std.specs.Prelude.{ℕ, ◌≤◌, ◌≡◌, refl, List, ◌∷◌, length, Result, Ok, Err, ⊤}
 use Rattle.std.proofs.Math.Path.{ap}
 use Rattle.std.proofs.Common.{◌∙◌}
+use Rattle.refusal.specs.declared.Refusal.{Refusal}
 use Rattle.refusal.specs.Numbers.{numbers_of}
 use Rattle.refusal.specs.declared.Numbers as refused
 use Rattle.refusal.specs.declared.Refusal.TheVariants.{AlreadyEnded}
@@ -15,8 +16,6 @@ use Rattle.lines.specs.Feeding.{joined}
 use Rattle.table.specs.Numbers.{numbers_in, with_numbers}
 use Rattle.table.specs.Rows.{row_count}
 use Rattle.table.specs.Fill.{Found}
-use Rattle.table.specs.declared.Stop.{Stop}
-use Rattle.table.specs.declared.Stop.TheVariants as stop
 use Rattle.fitting.specs.declared.Rule.{Rule}
 use Rattle.fitting.specs.Rules.{rows_in}
 use Rattle.output.specs.Outcome.{Outcome}
@@ -63,11 +62,11 @@ feed-tells f = go f.phase
     go (Halted n) = record { refusal = refl; first = refl; second = refl; rows = refl }
     go Ended = record { refusal = refl; first = refl; second = refl; rows = refl }
 
-filled-tells : (rows : ℕ) (s : Stop)
+filled-tells : (rows : ℕ) (s : Result ⊤ Refusal)
     → ((stop_numbers s).refusal ≡ (filled_answer rows s).refusal) × ((stop_numbers s).first ≡ (filled_answer rows s).first) × ((stop_numbers s).second ≡ (filled_answer rows s).second) × (rows ≡ (filled_answer rows s).count)
 unfolding stop_numbers filled_answer
-filled-tells rows stop.Ended = (refl, refl, refl, refl)
-filled-tells rows (stop.Refused f) = (refl, refl, refl, refl)
+filled-tells rows (Ok tt) = (refl, refl, refl, refl)
+filled-tells rows (Err f) = (refl, refl, refl, refl)
 
 -- ---- the calls, one after another
 

@@ -5,18 +5,17 @@
 -- `fetched-exact`: without a refusal, that call answers and leaves what wakeluri_read_exact would for the whole file.
 --
 -- `not-fetched`: with one, wakeluri_read_exact would answer the same three numbers, and leave the output as it was.
-use Rattle.std.specs.Prelude.{ℕ, ◌-◌, ◌≡◌, refl, List, length, take, drop}
+use Rattle.std.specs.Prelude.{ℕ, ◌-◌, ◌≡◌, refl, List, length, take, drop, Option, Result, Ok, Err}
 use Rattle.std.proofs.Math.Path.{ap}
 use Rattle.std.proofs.Common.{◌∙◌, arith}
+use Rattle.refusal.specs.declared.Refusal.{Refusal}
+use Rattle.record.specs.declared.Position.{Position}
+use Rattle.region.specs.declared.Part.{Part}
 use Rattle.refusal.specs.Numbers.{numbers_of}
 use Rattle.refusal.specs.Apart.{never-zero}
-use Rattle.output.specs.declared.Written.TheVariants as written
 use Rattle.output.specs.Outcome.{Outcome, leaves}
 use Rattle.table.specs.Rows.{held_at}
 use Rattle.table.specs.Numbers.{numbers_in}
-use Rattle.region.specs.declared.Bound.{Bound}
-use Rattle.region.specs.declared.Needed.{Needed}
-use Rattle.region.specs.declared.Needed.TheVariants as needed
 use Rattle.region.specs.Exact.{exact_read}
 use Rattle.region.specs.Window.{window_read, needed_read}
 use Rattle.region.specs.NeededPart.{needed-reads, needed-refuses}
@@ -34,20 +33,20 @@ pub record NotRead (p : PartAnswer) (a : Answer) (out out' : List ℕ) : Type 0 
   pub second : a.second ≡ p.second
   pub same : out' ≡ out
 
-module _ (file t : List ℕ) (u r : ℕ) (a e : Bound) (out : List ℕ) (p : PartAnswer) where
-  reads : (d : Needed) → needed_read (length file) (length out) t u r a e ≡ d → p ≡ part_answer d → p.refusal ≡ 0
+module _ (file t : List ℕ) (u r : ℕ) (a e : Option Position) (out : List ℕ) (p : PartAnswer) where
+  reads : (d : Result Part Refusal) → needed_read (length file) (length out) t u r a e ≡ d → p ≡ part_answer d → p.refusal ≡ 0
       → window_read (length file) (take (p.to - p.from) (drop p.from file)) p.from t u r a e out ≡ exact_read file t u r a e out
   unfolding needed_read window_read exact_read part_answer
-  reads (needed.Bytes part) n q z = rw q (needed-reads file (held_at t u r) a e out part n)
-  reads (needed.Refused f) n q z = let h : (numbers_of f).refusal ≡ 0 = rw q at z in absurd (omega (arith, never-zero f))
+  reads (Ok part) n q z = rw q (needed-reads file (held_at t u r) a e out part n)
+  reads (Err f) n q z = let h : (numbers_of f).refusal ≡ 0 = rw q at z in absurd (omega (arith, never-zero f))
 
-  refuses-as : (d : Needed) → needed_read (length file) (length out) t u r a e ≡ d → p ≡ part_answer d → (p.refusal ≡ 0 → ⊥)
+  refuses-as : (d : Result Part Refusal) → needed_read (length file) (length out) t u r a e ≡ d → p ≡ part_answer d → (p.refusal ≡ 0 → ⊥)
       → (told : Answer) (out' : List ℕ) → leaves told out' ≡ written_told (exact_read file t u r a e out) → NotRead p told out out'
   unfolding needed_read exact_read part_answer written_told written_answer
-  refuses-as (needed.Bytes part) n q z told out' h = absurd (z (rw q))
-  refuses-as (needed.Refused f) n q z told out' h =
+  refuses-as (Ok part) n q z told out' h = absurd (z (rw q))
+  refuses-as (Err f) n q z told out' h =
       let w = rw (needed-refuses file (held_at t u r) a e out f n) at h in
-      let b : told ≡ written_answer (written.Refused f) = ap (λ (o : Outcome Answer). o.answer) w in
+      let b : told ≡ written_answer (Err f) = ap (λ (o : Outcome Answer). o.answer) w in
       record { refusal = rw (b, q); first = rw (b, q); second = rw (b, q); same = ap (λ (o : Outcome Answer). o.output) w }
 
 module _ (file table : List ℕ) (in_use row has-start start has_end end : ℕ) (out : List ℕ) (p : PartAnswer)

@@ -1,6 +1,6 @@
 -- What a host sees: the bytes that it lends, the lines that it joins, and the answers.
-use Rattle.std.specs.Prelude.{ℕ, zero, suc, ◌*◌, ◌≤◌, ◌<◌, ◌≡◌, List, [], ◌++◌, length, get_or, take, drop}
-use Rattle.region.specs.declared.Bound.{Bound}
+use Rattle.std.specs.Prelude.{ℕ, zero, suc, ◌*◌, ◌≤◌, ◌<◌, ◌≡◌, List, [], ◌++◌, length, get_or, take, drop, Option}
+use Rattle.record.specs.declared.Position.{Position}
 use Rattle.checker.specs.Accepts.{Accepts}
 use Rattle.wakeluri.specs.declared.answer.Answer.{Answer}
 use Rattle.mission.specs.TableOf.{record_count}
@@ -28,7 +28,7 @@ pub record Filled (file : List ℕ) (a : Answer) : Type 0 where
 
 -- a read gives just the bases that are asked for: no refusal, their count, the bases at the front of the output, and the rest of it as it was
 -- lent
-pub record JustThose (file : List ℕ) (row : ℕ) (start end : Bound) (out : List ℕ) (a : Answer) (out' : List ℕ) : Type 0 where
+pub record JustThose (file : List ℕ) (row : ℕ) (start end : Option Position) (out : List ℕ) (a : Answer) (out' : List ℕ) : Type 0 where
   pub refusal : a.refusal ≡ 0
   pub count : a.count ≡ asked_count file row start end
   pub output : out' ≡ asked_bases file row start end ++ drop (asked_count file row start end) out

@@ -1,24 +1,21 @@
 -- Laws for AtTheEdge.antt: what an answer without a refusal means, the table that a call leaves, and the lines that are written from it.
-use Rattle.std.specs.Prelude.{ℕ, suc, ◌+◌, ◌≤◌, ◌<◌, ◌≡◌, List, [], ◌∷◌, drop, Bool}
+use Rattle.std.specs.Prelude.{ℕ, suc, ◌+◌, ◌≤◌, ◌<◌, ◌≡◌, List, [], ◌∷◌, drop, Bool, Option, Result, Ok, Err, ⊤}
 use Rattle.std.proofs.Math.Path.{refl, ap}
 use Rattle.std.proofs.Common.{take_at, lt-ltb, le-ltb, arith, add-zero}
 use Rattle.std.proofs.Math.ListN.{length, take}
 use Rattle.std.proofs.Math.Dec.{ltb}
 use Rattle.std.proofs.Math.Bool.{true, false}
+use Rattle.refusal.specs.declared.Refusal.{Refusal}
+use Rattle.record.specs.declared.Position.{Position}
 use Rattle.refusal.specs.Numbers.{numbers_of, over_limit}
 use Rattle.lines.specs.Lines.{lines}
 use Rattle.lines.specs.Groups.{groups}
 use Rattle.record.specs.declared.Record.{Record}
 use Rattle.table.specs.Rows.{row_count, with_rows}
-use Rattle.table.specs.declared.Stop.{Stop}
-use Rattle.table.specs.declared.Stop.TheVariants as stop
 use Rattle.table.specs.Fill.{Found}
 use Rattle.output.specs.Outcome.{Outcome, leaves, pours}
 use Rattle.index_line.specs.IndexLine.{columns_of, name_in, line_of, line_written, written_as}
 use Rattle.checker.specs.Accepts.{limit}
-use Rattle.checker.specs.declared.Verdict.{Verdict}
-use Rattle.checker.specs.declared.Verdict.TheVariants as verdict
-use Rattle.region.specs.declared.Bound.{Bound}
 use Rattle.region.specs.Exact.{exact_read}
 use Rattle.table.specs.Numbers.{numbers_in, with_numbers}
 use Rattle.wakeluri.specs.declared.answer.Answer.{Answer}
@@ -36,24 +33,24 @@ use Rattle.demands.specs.TableBytes.{rows_back}
 
 -- ---- an answer with no refusal
 
-pub accepted-zero : (v : Verdict) → v ≡ verdict.Accepted → (verdict_answer v).refusal ≡ 0
+pub accepted-zero : (v : Result ⊤ Refusal) → v ≡ Ok tt → (verdict_answer v).refusal ≡ 0
 unfolding verdict_answer
 accepted-zero v e = rw e
 
-pub zero-accepted : (v : Verdict) → (verdict_answer v).refusal ≡ 0 → v ≡ verdict.Accepted
+pub zero-accepted : (v : Result ⊤ Refusal) → (verdict_answer v).refusal ≡ 0 → v ≡ Ok tt
 unfolding verdict_answer
-zero-accepted verdict.Accepted h = refl
-zero-accepted (verdict.Refused x) h = absurd (omega (arith, never-zero x))
+zero-accepted (Ok tt) h = refl
+zero-accepted (Err x) h = absurd (omega (arith, never-zero x))
 
-pub zero_ended : (n : ℕ) (s : Stop) → (filled_answer n s).refusal ≡ 0 → s ≡ stop.Ended
+pub zero_ended : (n : ℕ) (s : Result ⊤ Refusal) → (filled_answer n s).refusal ≡ 0 → s ≡ Ok tt
 unfolding filled_answer
-zero_ended n stop.Ended h = refl
-zero_ended n (stop.Refused x) h = absurd (omega (arith, never-zero x))
+zero_ended n (Ok tt) h = refl
+zero_ended n (Err x) h = absurd (omega (arith, never-zero x))
 
-pub filled-count : (n : ℕ) (s : Stop) → (filled_answer n s).count ≡ n
+pub filled-count : (n : ℕ) (s : Result ⊤ Refusal) → (filled_answer n s).count ≡ n
 unfolding filled_answer
-filled-count n stop.Ended = refl
-filled-count n (stop.Refused x) = refl
+filled-count n (Ok tt) = refl
+filled-count n (Err x) = refl
 
 -- a call that fills a table answers what it found, and leaves it there
 pub found-told : (a : Answer) (t t' : List ℕ) (found : Found) → leaves a t' ≡ filled_told found t → (a ≡ filled_answer (length found.rows) found.stop) × (t' ≡ with_numbers t (with_rows (numbers_in t) 0 found.rows))
@@ -61,7 +58,7 @@ unfolding filled_told
 found-told a t t' found h = (ap (λ (x : Outcome Answer). x.answer) h, ap (λ (x : Outcome Answer). x.output) h)
 
 -- if it answers no refusal, it came to the end
-pub found-ended : (a : Answer) (t t' : List ℕ) (found : Found) → leaves a t' ≡ filled_told found t → a.refusal ≡ 0 → found.stop ≡ stop.Ended
+pub found-ended : (a : Answer) (t t' : List ℕ) (found : Found) → leaves a t' ≡ filled_told found t → a.refusal ≡ 0 → found.stop ≡ Ok tt
 found-ended a t t' found h z = zero_ended (length found.rows) found.stop (rw (found-told a t t' found h).0 at z)
 
 -- ---- the table that is left of rows about a file's records
@@ -80,7 +77,7 @@ module _ (f t t' : List ℕ) (found : Found) (a : Answer) (bytes : AreBytes t) (
       (filled-table f (numbers_in t) (numbers_in t') found (record { rows = length found.rows; stop = found.stop }) gives
       (record { rows = refl; stop = refl; table = left-numbers }))
 
-pub table-told : (f t : List ℕ) (n r : ℕ) (start end : Bound) (out : List ℕ) (a : Answer) (out' : List ℕ) → TableOf f t n → length f ≤ limit → Asked f r start end out
+pub table-told : (f t : List ℕ) (n r : ℕ) (start end : Option Position) (out : List ℕ) (a : Answer) (out' : List ℕ) → TableOf f t n → length f ≤ limit → Asked f r start end out
     → leaves a out' ≡ written_told (exact_read f t n r start end out) → JustThose f r start end out a out'
 unfolding written_told written_answer
 table-told f t n r start end out a out' table small asked told =
@@ -125,7 +122,7 @@ module _ (a : Answer) (text out out' : List ℕ) (told : leaves a out' ≡ writt
       short h = let q = rw (lt-ltb (length out) (length text) h) at told in (ap (λ (x : Outcome Answer). x.answer.refusal) q, ap (λ (x : Outcome Answer). x.answer.first) q)
 
 -- so the index line of row k of a table of rows that lead to their bases
-pub row-fronted : (f t : List ℕ) (xs : List Record) (s : Stop) (h : Along (LeadsTo f) 0 (groups (lines f)) xs s) → length f ≤ limit → length xs ≤ row_count t
+pub row-fronted : (f t : List ℕ) (xs : List Record) (s : Result ⊤ Refusal) (h : Along (LeadsTo f) 0 (groups (lines f)) xs s) → length f ≤ limit → length xs ≤ row_count t
     → (k : ℕ) → k < length xs → (out : List ℕ) → written_as f (with_rows t 0 xs) (length xs) k out ≡ pours (line_in f (row_in xs k)) out
 unfolding written_as line_written over_limit line_of
 row-fronted f t xs s h small room k m out =

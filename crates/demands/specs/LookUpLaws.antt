@@ -1,13 +1,9 @@
 -- Laws for LookUp.antt: the calls below, with their answers as numbers.
-use Rattle.std.specs.Prelude.{ℕ, ◌≡◌, refl, List}
+use Rattle.std.specs.Prelude.{ℕ, ◌≡◌, refl, List, Result, Ok, Err}
 use Rattle.std.proofs.Common.{ap, arith}
 use Rattle.refusal.specs.Numbers.{numbers_of}
 use Rattle.refusal.specs.Apart.{never-zero}
 use Rattle.refusal.specs.declared.Refusal.{Refusal}
-use Rattle.index.specs.declared.Found.{Found}
-use Rattle.index.specs.declared.Found.TheVariants as found
-use Rattle.output.specs.declared.Written.{Written}
-use Rattle.output.specs.declared.Written.TheVariants as written
 use Rattle.output.specs.Outcome.{Outcome, leaves}
 use Rattle.region.specs.Refusals.{OfLookUp, OfRead}
 use Rattle.region.specs.Refusals.OfLookUp.{bad-row, unknown}
@@ -32,21 +28,21 @@ second-refuses _ (past-length n) = told-17
 second-refuses _ (no_room n) = told-14
 second-refuses _ (not-in-file p) = told-18
 
-second-tells : (r : Written) → ((f : Refusal) → r ≡ written.Refused f → OfRead f) → SecondTells (written_answer r).refusal
+second-tells : (r : Result ℕ Refusal) → ((f : Refusal) → r ≡ Err f → OfRead f) → SecondTells (written_answer r).refusal
 unfolding written_answer
-second-tells (written.Bytes n) h = told-0
-second-tells (written.Refused f) h = second-refuses f (h f refl)
+second-tells (Ok n) h = told-0
+second-tells (Err f) h = second-refuses f (h f refl)
 
-pub split : (single : Outcome Written) (d : Found) (second : ℕ → Outcome Written) (out : List ℕ) (first : Answer) → first ≡ found_answer d → one.Split single d second out
+pub split : (single : Outcome (Result ℕ Refusal)) (d : Result ℕ Refusal) (second : ℕ → Outcome (Result ℕ Refusal)) (out : List ℕ) (first : Answer) → first ≡ found_answer d → one.Split single d second out
     → Split (written_told single) first (λ row a out'. leaves a out' ≡ written_told (second row)) out
 unfolding found_answer written_told written_answer
-split single (found.Refused f) second out first q s =
+split single (Err f) second out first q s =
     let k = s.refused f refl in
     record {
       refused = λ n. (rw q (first-tells f k.0), rw (k.1, q));
       read = λ z. let h : (numbers_of f).refusal ≡ 0 = rw q at z in absurd (omega (arith, never-zero f));
     }
-split single (found.Row r) second out first q s =
+split single (Ok r) second out first q s =
     let k = s.read r refl in
     record {
       refused = λ n. absurd (n (rw q));

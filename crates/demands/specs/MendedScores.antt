@@ -5,9 +5,11 @@
 -- `score-elsewhere`: over the scorer's definition, with any table of the file's records. `scored-elsewhere`: at the entry points, with the table that
 -- wakeluri_read_index leaves of an index that wakeluri_check accepts, and any names. `indexed-elsewhere`: with the table that wakeluri_index_file or
 -- wakeluri_index_complete leaves, and the file itself lent for the names, before and after.
-use Rattle.std.specs.Prelude.{ℕ, ◌*◌, ◌≤◌, ◌<◌, ◌≡◌, List, cond, length, set}
+use Rattle.std.specs.Prelude.{ℕ, ◌*◌, ◌≤◌, ◌<◌, ◌≡◌, List, cond, length, set, Result, Ok, Err}
 use Rattle.std.proofs.Math.Path.{refl, ap}
 use Rattle.std.proofs.Common.{sym, ◌∙◌, length-set}
+use Rattle.refusal.specs.declared.Refusal.{Refusal}
+use Rattle.scoring.specs.declared.Score.{Score}
 use Rattle.refusal.specs.declared.Refusal.TheVariants.{TooLong}
 use Rattle.output.specs.Outcome.{Outcome, leaves}
 use Rattle.table.specs.Fill as fill
@@ -15,15 +17,10 @@ use Rattle.table.specs.Numbers.{numbers_in}
 use Rattle.table.specs.Rows.{row_count, with_rows}
 use Rattle.fitting.specs.Rules.{rule_of, rows_by, rows_in}
 use Rattle.fitting.specs.declared.Rule.{Rule}
-use Rattle.index.specs.declared.Found.{Found}
-use Rattle.index.specs.declared.Found.TheVariants as found
 use Rattle.index.specs.Find.{row_read}
 use Rattle.region.specs.Exact.{exact_read}
 use Rattle.exercise.specs.declared.Exercise.{Exercise}
-use Rattle.exercise.specs.declared.ExerciseRead.{ExerciseRead}
-use Rattle.exercise.specs.declared.ExerciseRead.TheVariants as read
 use Rattle.exercise.specs.Reading.{read_as}
-use Rattle.scoring.specs.declared.Scored.{Scored}
 use Rattle.scorer.specs.Scorer.{any_over, name_asked, asked_row, asked_by, asked_of, refuses_score, key_counted, first, last, row_scored, asked_scored, scorer_of}
 use Rattle.checker.specs.Mend.{BaseAt, Plain}
 use Rattle.mission.specs.IndexedLaws.{Taken, taken}
@@ -46,9 +43,9 @@ use Rattle.demands.specs.AtTheEdge.{check-exactly}
 -- their start to their end
 pub record ExerciseCovers (f names t : List ℕ) (u : ℕ) (s : List ℕ) (k j : ℕ) : Type 0 where
   pub exercise : Exercise
-  pub reads : read_as 2 s ≡ read.Read exercise
+  pub reads : read_as 2 s ≡ Ok exercise
   pub row : ℕ
-  pub found : row_read names t u (name_asked s exercise) ≡ found.Row row
+  pub found : row_read names t u (name_asked s exercise) ≡ Ok row
   pub covers : Covers f k j row (first exercise) (last exercise)
 
 module _ (f : List ℕ) (k j o b : ℕ) (base : BaseAt f k j o) (plain : Plain b) where
@@ -59,17 +56,17 @@ module _ (f : List ℕ) (k j o b : ℕ) (base : BaseAt f k j o) (plain : Plain b
   kept s typed names names' t u room table not l same =
       rw (length-set f o b, l) (ap (cond (any_over s typed f names) (refuses_score TooLong room)) (go (read_as 2 s) refl))
     where
-      row : (x : Exercise) → read_as 2 s ≡ read.Read x → (r : Found) → row_read names t u (name_asked s x) ≡ r
+      row : (x : Exercise) → read_as 2 s ≡ Ok x → (r : Result ℕ Refusal) → row_read names t u (name_asked s x) ≡ r
           → asked_scored typed (set f o b) t u (asked_row x r) room ≡ asked_scored typed f t u (asked_row x r) room
-      row x e (found.Refused y) q = refl
-      row x e (found.Row r) q =
+      row x e (Err y) q = refl
+      row x e (Ok r) q =
           let alike : exact_read (set f o b) t u r (first x) (last x) room ≡ exact_read f t u r (first x) (last x) room =
           mended-elsewhere f k j o b base plain t u table r (first x) (last x) room (λ c. not (record { exercise = x; reads = e; row = r; found = q; covers = c })) in
           ap (key_counted x.edition typed) alike
 
-      go : (x : ExerciseRead) → read_as 2 s ≡ x → asked_scored typed (set f o b) t u (asked_by s names' t u x) room ≡ asked_scored typed f t u (asked_by s names t u x) room
-      go (read.Refused y) e = refl
-      go (read.Read x) e = rw (same (name_asked s x)) (row x e (row_read names t u (name_asked s x)) refl)
+      go : (x : Result Exercise Refusal) → read_as 2 s ≡ x → asked_scored typed (set f o b) t u (asked_by s names' t u x) room ≡ asked_scored typed f t u (asked_by s names t u x) room
+      go (Err y) e = refl
+      go (Ok x) e = rw (same (name_asked s x)) (row x e (row_read names t u (name_asked s x)) refl)
 
   pub score-elsewhere : (s typed names t : List ℕ) (u : ℕ) (room : List ℕ) → TableOf f t u → (ExerciseCovers f names t u s k j → ⊥)
       → scorer_of s typed (set f o b) names t u room ≡ scorer_of s typed f names t u room
@@ -77,7 +74,7 @@ module _ (f : List ℕ) (k j o b : ℕ) (base : BaseAt f k j o) (plain : Plain b
 
 -- ---- at the entry points
 
-told_same : (o q : Outcome Scored) (a c : ScoreAnswer) (room room' : List ℕ) → o ≡ q → leaves a room ≡ scored_told o → leaves c room' ≡ scored_told q → (a ≡ c) × (room ≡ room')
+told_same : (o q : Outcome (Result Score Refusal)) (a c : ScoreAnswer) (room room' : List ℕ) → o ≡ q → leaves a room ≡ scored_told o → leaves c room' ≡ scored_told q → (a ≡ c) × (room ≡ room')
 told_same o q a c room room' e h g =
     let same : leaves a room ≡ leaves c room' = h ∙ ap scored_told e ∙ sym g in
     (ap (λ (x : Outcome ScoreAnswer). x.answer) same, ap (λ (x : Outcome ScoreAnswer). x.output) same)

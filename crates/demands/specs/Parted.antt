@@ -6,7 +6,7 @@
 -- `parts-indexed`: if no call of wakeluri_index_part answers 1 or 8, what they tell, one part behind the other up to the first refusal, is what
 -- wakeluri_index_file or wakeluri_index_complete tells with a table that has room for it.
 use Prim.Native.Nat.{ℕ, ◌≤◌}
-use Rattle.std.specs.Prelude.{◌≡◌, List, [], ◌∷◌, Bool, true, false, cond, length, take, ltb}
+use Rattle.std.specs.Prelude.{◌≡◌, List, [], ◌∷◌, Bool, true, false, cond, length, take, ltb, Ok, Err}
 use Rattle.std.proofs.Math.Path.{refl, ap}
 use Rattle.std.proofs.Common.{sym, ◌∙◌}
 use Rattle.refusal.specs.Numbers.{over_limit, numbers_of}
@@ -15,7 +15,6 @@ use Rattle.table.specs.Kinds.{FoundOf}
 use Rattle.table.specs.Fill.{Found, nothing, held_in}
 use Rattle.table.specs.Numbers.{numbers_in}
 use Rattle.table.specs.Rows.{row_count}
-use Rattle.table.specs.declared.Stop.TheVariants as stop
 use Rattle.fitting.specs.Rules.{rows_by, rows_in}
 use Rattle.checker.specs.Check.{check_of}
 use Rattle.output.specs.Outcome.{Outcome, leaves}
@@ -61,11 +60,11 @@ told-answer : (f : Found) (table : List ℕ) (a : Answer) (table' : List ℕ) �
 unfolding filled_told
 told-answer f table a table' e = ap (λ (o : Outcome Answer). o.answer) e
 
-full-eight : (n k : ℕ) → (filled_answer k (stop.Refused (TableFull n))).refusal ≡ 8
+full-eight : (n k : ℕ) → (filled_answer k (Err (TableFull n))).refusal ≡ 8
 unfolding filled_answer numbers_of
 full-eight n k = refl
 
-long-one : (k : ℕ) → (filled_answer k (stop.Refused TooLong)).refusal ≡ 1
+long-one : (k : ℕ) → (filled_answer k (Err TooLong)).refusal ≡ 1
 unfolding filled_answer numbers_of
 long-one k = refl
 
@@ -74,8 +73,8 @@ pub held-room : {Row : Type 0} (n : ℕ) (f : FoundOf Row) → ((filled_answer (
 unfolding held_in
 held-room n f h = go (ltb n (length f.rows)) h
   where
-    go : (t : Bool) → ((filled_answer (length (cond t (record { rows = take n f.rows; stop = stop.Refused (TableFull n) }) f).rows) (cond t (record { rows = take n f.rows; stop = stop.Refused (TableFull n) }) f).stop).refusal ≡ 8 → ⊥)
-        → cond t (record { rows = take n f.rows; stop = stop.Refused (TableFull n) }) f ≡ f
+    go : (t : Bool) → ((filled_answer (length (cond t (record { rows = take n f.rows; stop = Err (TableFull n) }) f).rows) (cond t (record { rows = take n f.rows; stop = Err (TableFull n) }) f).stop).refusal ≡ 8 → ⊥)
+        → cond t (record { rows = take n f.rows; stop = Err (TableFull n) }) f ≡ f
     go true k = absurd (k (full-eight n (length (take n f.rows))))
     go false k = refl
 
@@ -92,14 +91,14 @@ module _ (file : List ℕ) (complete : ℕ) where
       f : Found
       f = part_by (rule_by complete) file from to
 
-      go : (t : Bool) → a ≡ filled_answer (length (cond t (nothing (stop.Refused TooLong)) (held_in n n f)).rows) (cond t (nothing (stop.Refused TooLong)) (held_in n n f)).stop
-          → cond t (nothing (stop.Refused TooLong)) (held_in n n f) ≡ f
+      go : (t : Bool) → a ≡ filled_answer (length (cond t (nothing (Err TooLong)) (held_in n n f)).rows) (cond t (nothing (Err TooLong)) (held_in n n f)).stop
+          → cond t (nothing (Err TooLong)) (held_in n n f) ≡ f
       go true q = absurd (one (rw q (long-one 0)))
       go false q = held-room n f (λ z. eight (rw q z))
 
   -- calls on parts from a number on to the end of the file, none of which answers 1 or 8, and what they tell together
   pub data Told : ℕ → Found → Type 0 where
-    over : (n : ℕ) → length file ≤ n → Told n (nothing stop.Ended)
+    over : (n : ℕ) → length file ≤ n → Told n (nothing (Ok tt))
     part : (n m : ℕ) (table : List ℕ) (a : Answer) (table' : List ℕ) (g : Found) → n ≤ m → IndexPart file n m complete table a table' → (a.refusal ≡ 1 → ⊥) → (a.refusal ≡ 8 → ⊥) → Told m g
         → Told n (joined (part_in (rule_by complete) file n m (row_count (numbers_in table))) g)
 

@@ -1,11 +1,10 @@
 -- Parts of a check of FASTQ where a host meets them (R92): at wakeluri_fastq_check_part, called on a file and an index within the limit from the start of both, and then
 -- from where the call before it stopped in both, up to any offsets. `reads-checked`: if the last call stops at the end of both, wakeluri_fastq_check
 -- accepts them.
-use Rattle.std.specs.Prelude.{ℕ, ◌≤◌, ◌≡◌, List, false, length}
+use Rattle.std.specs.Prelude.{ℕ, ◌≤◌, ◌≡◌, List, false, length, Ok}
 use Rattle.std.proofs.Math.Path.{ap}
 use Rattle.std.proofs.Common.{◌∙◌}
 use Rattle.refusal.specs.Numbers.{over_limit}
-use Rattle.checker.specs.declared.Verdict.TheVariants.{Accepted}
 use Rattle.fastq_checker.specs.Check.{check_of}
 use Rattle.fastq_checker.specs.Part.{walked, reached_at, part_checked}
 use Rattle.fastq_checker.specs.Joined as joined
@@ -45,7 +44,7 @@ module _ (f i : List ℕ) (small : over_limit (length f) ≡ false) (short : ove
       joined.Passed.on x to y (record { fastq = (walked f i to (joined.place_at x y 0)).fastq; index = (walked f i to (joined.place_at x y 0)).index }) (reached x to y)
       (rw (s.0, s.1) at (passed a.next a.count c))
 
-  accepted : check_of f i ≡ Accepted → (verdict_answer (check_of f i)).refusal ≡ 0
+  accepted : check_of f i ≡ Ok tt → (verdict_answer (check_of f i)).refusal ≡ 0
   unfolding verdict_answer
   accepted e = rw e
 

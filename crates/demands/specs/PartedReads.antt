@@ -2,15 +2,14 @@
 -- call before it stopped, up to any offsets and with any tables. `reads-indexed`: if the last call does not answer 8, and goes up to the length or more or
 -- is refused, what they tell, the rows of one call behind those of the other, and why there are no more, is what wakeluri_fastq_index tells with a
 -- table that has room for it.
-use Rattle.std.specs.Prelude.{ℕ, ◌+◌, ◌≤◌, ◌<◌, ◌≡◌, refl, List, ◌++◌, Bool, true, false, cond, length, take, ltb}
+use Rattle.std.specs.Prelude.{ℕ, ◌+◌, ◌≤◌, ◌<◌, ◌≡◌, refl, List, ◌++◌, Bool, true, false, cond, length, take, ltb, Result, Ok, Err, ⊤}
 use Rattle.std.proofs.Common.{ap, ◌∙◌, take_all, length-take-le, ltb-true, arith}
 use Rattle.std.proofs.Math.Path.{sym}
+use Rattle.refusal.specs.declared.Refusal.{Refusal}
 use Rattle.refusal.specs.Numbers.{over_limit}
 use Rattle.refusal.specs.declared.Refusal.TheVariants.{TableFull}
 use Rattle.table.specs.Laws.{held_all}
 use Rattle.table.specs.Numbers.{numbers_in}
-use Rattle.table.specs.declared.Stop.{Stop}
-use Rattle.table.specs.declared.Stop.TheVariants as stop
 use Rattle.output.specs.Outcome.{Outcome, leaves}
 use Rattle.fastq.specs.declared.QualityRow.{QualityRow}
 use Rattle.fastq_table.specs.Rows.{row_count}
@@ -39,7 +38,7 @@ unfolding held_in
 held-front n f = go (ltb n (length f.rows)) refl
   where
     held : Bool → Found
-    held t = cond t (record { rows = take n f.rows; stop = stop.Refused (TableFull n) }) f
+    held t = cond t (record { rows = take n f.rows; stop = Err (TableFull n) }) f
 
     go : (t : Bool) → ltb n (length f.rows) ≡ t → (length (held t).rows ≤ length f.rows) × ((held t).rows ≡ take (length (held t).rows) f.rows)
     go true h =
@@ -49,7 +48,7 @@ held-front n f = go (ltb n (length f.rows)) refl
     go false h = (omega arith, sym (take_all (length f.rows) f.rows (omega arith)))
 
 -- an answer that is no refusal ended
-ended-zero : (n : ℕ) → (filled_answer n stop.Ended).refusal ≡ 0
+ended-zero : (n : ℕ) → (filled_answer n (Ok tt)).refusal ≡ 0
 unfolding filled_answer
 ended-zero n = refl
 
@@ -91,9 +90,9 @@ module _ (file : List ℕ) (small : over_limit (length file) ≡ false) where
       ∙ sym (file-resumed file to k from v.0)
 
   -- a part that was refused is the file's
-  all-refused : (from to : ℕ) (x : Stop) → (rows_before file to from).stop ≡ x → ((filled_answer (length (rows_before file to from).rows) x).refusal ≡ 0 → ⊥) → rows_before file to from ≡ rows_at file from
-  all-refused from to stop.Ended e h = absurd (h (ended-zero _))
-  all-refused from to (stop.Refused y) e h = sym (stops-refused file to (to + length file) (omega arith) from y e).0 ∙ part-whole file (to + length file) from (omega arith)
+  all-refused : (from to : ℕ) (x : Result ⊤ Refusal) → (rows_before file to from).stop ≡ x → ((filled_answer (length (rows_before file to from).rows) x).refusal ≡ 0 → ⊥) → rows_before file to from ≡ rows_at file from
+  all-refused from to (Ok tt) e h = absurd (h (ended-zero _))
+  all-refused from to (Err y) e h = sym (stops-refused file to (to + length file) (omega arith) from y e).0 ∙ part-whole file (to + length file) from (omega arith)
 
   told-rows : (from : ℕ) (f : Found) → Told from f → f ≡ rows_at file from
   told-rows from _ (on _ to table a table' g e r) =

@@ -7,17 +7,15 @@
 -- `scored-key`: the key, so many bytes, stands at the front of the room, and what is behind it is as it was.
 -- `refused-room`: if it does not answer 0, all of the room is as it was.
 -- `half-typed`: a hundred asked, fifty typed, 49 right: 490.
-use Rattle.std.specs.Prelude.{ℕ, ◌+◌, ◌-◌, ◌*◌, ◌/◌, ◌^◌, ◌≤◌, ◌<◌, ◌≡◌, refl, List, ◌++◌, length, take, drop}
+use Rattle.std.specs.Prelude.{ℕ, ◌+◌, ◌-◌, ◌*◌, ◌/◌, ◌^◌, ◌≤◌, ◌<◌, ◌≡◌, refl, List, ◌++◌, length, take, drop, Result, Ok, Err}
 use Rattle.std.proofs.Common.{ap, ◌∙◌, arith}
+use Rattle.refusal.specs.declared.Refusal.{Refusal}
 use Rattle.refusal.specs.Apart.{never-zero}
 use Rattle.refusal.specs.Numbers.{numbers_of}
 use Rattle.output.specs.Outcome.{Outcome, leaves}
-use Rattle.exercise.specs.declared.ExerciseRead.TheVariants as read
 use Rattle.exercise.specs.Reading.{read_as}
 use Rattle.exercise.specs.Calls.{written, written-exercise-reads}
 use Rattle.scoring.specs.declared.Score.{Score}
-use Rattle.scoring.specs.declared.Scored.{Scored}
-use Rattle.scoring.specs.declared.Scored.TheVariants as scored
 use Rattle.scoring.specs.Laws.{surplus-is}
 use Rattle.scorer.specs.Scorer.{scorer_of}
 use Rattle.scorer.specs.Known.{rule_of, unchanged}
@@ -33,25 +31,25 @@ use Rattle.demands.specs.WritingLaws.{zero-wrote}
 -- ---- an answer of the scorer as numbers
 
 -- an answer without a refusal has what it found
-pub record Scores (o : Outcome Scored) (a : ScoreAnswer) (room' : List ℕ) : Type 0 where
+pub record Scores (o : Outcome (Result Score Refusal)) (a : ScoreAnswer) (room' : List ℕ) : Type 0 where
   pub score : Score
-  pub outcome : o ≡ leaves (scored.Score score) room'
+  pub outcome : o ≡ leaves (Ok score) room'
   pub told : a ≡ score_told fine score
 
-told-by : (o : Outcome Scored) (a : ScoreAnswer) (room' : List ℕ) → leaves a room' ≡ scored_told o → (a ≡ score_answer o.answer) × (room' ≡ o.output)
+told-by : (o : Outcome (Result Score Refusal)) (a : ScoreAnswer) (room' : List ℕ) → leaves a room' ≡ scored_told o → (a ≡ score_answer o.answer) × (room' ≡ o.output)
 unfolding scored_told
 told-by o a room' h = (ap (λ (x : Outcome ScoreAnswer). x.answer) h, ap (λ (x : Outcome ScoreAnswer). x.output) h)
 
-zero-scores : (o : Outcome Scored) (a : ScoreAnswer) (room' : List ℕ) → leaves a room' ≡ scored_told o → a.refusal ≡ 0 → Scores o a room'
+zero-scores : (o : Outcome (Result Score Refusal)) (a : ScoreAnswer) (room' : List ℕ) → leaves a room' ≡ scored_told o → a.refusal ≡ 0 → Scores o a room'
 unfolding score_answer
 zero-scores o a room' h zero = go o.answer refl
   where
     w : (a ≡ score_answer o.answer) × (room' ≡ o.output)
     w = told-by o a room' h
 
-    go : (s : Scored) → o.answer ≡ s → Scores o a room'
-    go (scored.Score c) e = record { score = c; outcome = rw (w.1, ← e); told = w.0 ∙ ap score_answer e }
-    go (scored.Refused f) e =
+    go : (s : Result Score Refusal) → o.answer ≡ s → Scores o a room'
+    go (Ok c) e = record { score = c; outcome = rw (w.1, ← e); told = w.0 ∙ ap score_answer e }
+    go (Err f) e =
         let q : a.refusal ≡ (numbers_of f).refusal = ap (λ (x : ScoreAnswer). x.refusal) (w.0 ∙ ap score_answer e) in
         absurd (omega (arith, never-zero f))
 
@@ -61,15 +59,15 @@ left-room : (s typed file names t : List ℕ) (u : ℕ) (room : List ℕ) (a : S
 unfolding score_answer
 left-room s typed file names t u room a room' h some = go (scorer_of s typed file names t u room).answer refl
   where
-    o : Outcome Scored
+    o : Outcome (Result Score Refusal)
     o = scorer_of s typed file names t u room
 
     w : (a ≡ score_answer o.answer) × (room' ≡ o.output)
     w = told-by o a room' h
 
-    go : (r : Scored) → o.answer ≡ r → room' ≡ room
-    go (scored.Score c) e = absurd (some (ap (λ (x : ScoreAnswer). x.refusal) (w.0 ∙ ap score_answer e)))
-    go (scored.Refused f) e = unchanged s typed file names t u room f room' (rw (w.1, ← e))
+    go : (r : Result Score Refusal) → o.answer ≡ r → room' ≡ room
+    go (Ok c) e = absurd (some (ap (λ (x : ScoreAnswer). x.refusal) (w.0 ∙ ap score_answer e)))
+    go (Err f) e = unchanged s typed file names t u room f room' (rw (w.1, ← e))
 
 -- ---- write an exercise, and score it
 
@@ -83,7 +81,7 @@ module _ (name : List ℕ) (start end edition : ℕ) (out out' : List ℕ) (wrot
     s : List ℕ
     s = take wrote.count out'
 
-    reads : read_as 2 (take wrote.count out') ≡ read.Read (written name start end edition)
+    reads : read_as 2 (take wrote.count out') ≡ Ok (written name start end edition)
     reads = (written-exercise-reads name start end edition out wrote.count out' (zero-wrote _ wrote out' write zero) start_fits end_fits).0
 
     w : Scores (scorer_of (take wrote.count out') typed file names (numbers_in table) in_use room) a room'

@@ -8,7 +8,7 @@
 -- `written_row`, `written-end`: if there are bases, wakeluri_index_record of offset 0 answers one row, that of their count and the width, and that
 -- the record ends where the bytes do; asked there, it answers the end.
 use Prim.Native.Nat.{ℕ, ◌≤◌, ◌<◌}
-use Rattle.std.specs.Prelude.{◌≡◌, take, drop}
+use Rattle.std.specs.Prelude.{◌≡◌, take, drop, Ok}
 use Rattle.std.proofs.Math.Path.{ap}
 use Rattle.std.proofs.Common.{◌∙◌, arith}
 use mathlib.Core.List.{List, ◌++◌}
@@ -16,7 +16,6 @@ use Rattle.std.proofs.Math.ListN.{length}
 use borrow.Author.Tests.{le-ltb, le-leb}
 use Rattle.refusal.specs.Numbers.{over_limit}
 use Rattle.output.specs.Outcome.{leaves}
-use Rattle.definition.specs.declared.DefinitionRead.TheVariants as definition
 use Rattle.sequence.specs.Read.{read_whole, poured, written as poured-all}
 use Rattle.checker.specs.Accepts.{limit}
 use Rattle.writer.specs.Text.{definition_text, record_text}
@@ -35,7 +34,7 @@ use Rattle.demands.specs.WritingLaws.{zero-wrote}
 module _ (name : List ℕ) (has-description : ℕ) (description bases : List ℕ) (width : ℕ) (out out' : List ℕ) (written : Answer)
     (write : WriteRecord name has-description description bases width out written out') (zero : written.refusal ≡ 0) (small : written.count ≤ limit) where
   pub written-defines : (a : DefinitionAnswer) → DefinitionLine (definition_text name (given_by has-description) description) a
-      → a ≡ definition_answer (definition.Named (definition_of name (given_by has-description) description))
+      → a ≡ definition_answer (Ok (definition_of name (given_by has-description) description))
   written-defines a told =
       told ∙ ap definition_answer (call-reads name (given_by has-description) description bases width out written.count out' (zero-wrote _ written out' write zero) small).0
 

@@ -1,12 +1,12 @@
 -- Exercises field by field, and what an independent model answers for them: one table, one proof.
-use Rattle.std.specs.Prelude.{ℕ, zero, suc, ◌/◌, ◌%◌, ◌^◌, ◌≡◌, refl, List, [], ◌∷◌, ◌++◌, map, length}
+use Rattle.std.specs.Prelude.{ℕ, zero, suc, ◌/◌, ◌%◌, ◌^◌, ◌≡◌, refl, List, [], ◌∷◌, ◌++◌, map, length, Result, Ok, Err}
+use Rattle.refusal.specs.declared.Refusal.{Refusal}
+use Rattle.exercise.specs.declared.Exercise.{Exercise}
 use Prim.Native.String.{String}
 use Rattle.ascii.specs.Text.{text}
 use Rattle.exercise.specs.Numbers.{big_from}
 use Rattle.exercise.specs.Reading.{known_to, bad, name_field, start_field, end_field, edition_field, valued, sized, judge, ended, walk, says_from}
 use Rattle.refusal.specs.declared.Refusal.TheVariants as refused
-use Rattle.exercise.specs.declared.ExerciseRead.{ExerciseRead}
-use Rattle.exercise.specs.declared.ExerciseRead.TheVariants as read
 
 -- a field of less than 256 bytes: its tag, its length in two bytes, its bytes
 abbrev field : ℕ → List ℕ → List ℕ
@@ -35,11 +35,11 @@ abbrev chr1 : ℕ → List ℕ
 chr1 n = name "chr1" ++ start 1 ++ end 9 ++ edition n
 
 -- what is read: the name's place, the bounds, the edition
-abbrev reads : ℕ → ℕ → ℕ → ℕ → ℕ → ExerciseRead
-reads at n a e edition = read.Read (record { name_start = at; name_length = n; start = a; end = e; edition = edition })
+abbrev reads : ℕ → ℕ → ℕ → ℕ → ℕ → Result Exercise Refusal
+reads at n a e edition = Ok (record { name_start = at; name_length = n; start = a; end = e; edition = edition })
 
-abbrev malformed : ℕ → ExerciseRead
-malformed at = read.Refused (refused.MalformedExercise at)
+abbrev malformed : ℕ → Result Exercise Refusal
+malformed at = Err (refused.MalformedExercise at)
 
 unfoldable asked : List (List ℕ)
 asked =
@@ -74,16 +74,16 @@ asked =
     ∷ (name "" ++ 128 ∷ [])
     ∷ []
 
-unfoldable answers : List ExerciseRead
+unfoldable answers : List (Result Exercise Refusal)
 answers =
     malformed 0
     ∷ reads 3 4 1 9 1
     ∷ reads 3 4 1 9 2
-    ∷ read.Refused (refused.UnknownEdition 29)
-    ∷ read.Refused (refused.UnknownEdition 29)
+    ∷ Err (refused.UnknownEdition 29)
+    ∷ Err (refused.UnknownEdition 29)
     ∷ reads 3 0 1 9 1
     ∷ reads 3 4 18446744073709551615 0 1
-    ∷ read.Refused (refused.UnknownNeededTag 0)
+    ∷ Err (refused.UnknownNeededTag 0)
     ∷ malformed 0
     ∷ malformed 0
     ∷ malformed 0
@@ -91,13 +91,13 @@ answers =
     ∷ malformed 33
     ∷ reads 8 4 1 9 2
     ∷ reads 3 4 1 9 1
-    ∷ read.Refused (refused.UnknownNeededTag 33)
+    ∷ Err (refused.UnknownNeededTag 33)
     ∷ malformed 0
     ∷ reads 3 4 1 9 1
     ∷ malformed 29
     ∷ malformed 3
     ∷ malformed 29
-    ∷ read.Refused (refused.UnknownNeededTag 3)
+    ∷ Err (refused.UnknownNeededTag 3)
     ∷ []
 
 examples : map (says_from 2) asked ≡ answers

@@ -1,7 +1,7 @@
 -- An exercise is refused exactly with its first fault, and reads exactly if it has none; then it says what its four fields hold. FirstFault.antt says
 -- what each is.
 use Prim.Native.Nat.{ℕ, zero, suc, ◌+◌, ◌≤◌, ◌<◌}
-use Rattle.std.specs.Prelude.{◌≡◌, refl, Bool, true, false, List, ◌⊎◌, eqb, ltb, drop}
+use Rattle.std.specs.Prelude.{◌≡◌, refl, Bool, true, false, List, ◌⊎◌, eqb, ltb, drop, Result, Ok, Err}
 use Rattle.std.proofs.Common.{sym, ap, ◌∙◌, inl, inr, arith, eq-eqb, ne_eqb, eqb-true, ltb-true, ltb-false, lt-ltb, le-ltb}
 use Rattle.std.proofs.Math.ListN.{length}
 use Rattle.std.proofs.lemmas.Bool.{eqb-false}
@@ -16,10 +16,7 @@ use Rattle.exercise.specs.Turns.{Known, stood, not_yet, split}
 use Rattle.exercise.specs.Judging.{FieldSaid, judged_at, field-said, good-passed, wrong-refused}
 use Rattle.exercise.specs.Judging.FieldSaid.{passes, stops}
 use Rattle.exercise.specs.declared.Exercise.{Exercise}
-use Rattle.exercise.specs.declared.ExerciseRead.TheVariants as read
 use Rattle.exercise.specs.declared.Kept.{Kept}
-use Rattle.exercise.specs.declared.Judged.{Judged}
-use Rattle.exercise.specs.declared.Judged.TheVariants.{Next}
 
 module _ (newest : ℕ) (s : List ℕ) where
   -- ---- over good fields
@@ -58,7 +55,7 @@ module _ (newest : ℕ) (s : List ℕ) where
           there : field_at s r < length s
           there = omega (arith, g.whole)
 
-          on : (h : Kept) × ((judged_at newest c.kept s r ≡ Next h (size_of s r)) × Known s (suc r) h) → Reached (suc r)
+          on : (h : Kept) × ((judged_at newest c.kept s r ≡ Ok (h, (size_of s r))) × Known s (suc r) h) → Reached (suc r)
           on (h, (e, k)) = record { kept = h; known = k; within = g.whole; same = c.same ∙ sym (step-pass newest c.kept (field_at s r) s there h (size_of s r) e) }
 
   within-limit : length s ≤ limit → read_as newest s ≡ says_from newest s
@@ -72,12 +69,12 @@ module _ (newest : ℕ) (s : List ℕ) where
       let m : length s ≤ field_at s r = omega (arith, e) in
       c.same ∙ (walk_end newest c.kept (field_at s r) s m ∙ ap (ended c.kept) e)
 
-  not-ended : (h : Kept) (at : ℕ) → (h.wanted ≡ 5 → ⊥) → ended h at ≡ read.Refused (MalformedExercise at)
+  not-ended : (h : Kept) (at : ℕ) → (h.wanted ≡ 5 → ⊥) → ended h at ≡ Err (MalformedExercise at)
   unfolding ended
   not-ended h at n = rw (ne_eqb h.wanted 5 n)
 
   -- if this is the first fault, the reader refuses with it
-  pub refused-if : (x : Refusal) → FirstFault newest s x → read_as newest s ≡ read.Refused x
+  pub refused-if : (x : Refusal) → FirstFault newest s x → read_as newest s ≡ Err x
   unfolding read_as over_limit
   refused-if _ (long m) = rw (lt-ltb limit (length s) m)
   refused-if x (wrong-field fit r good i f) =
@@ -92,7 +89,7 @@ module _ (newest : ℕ) (s : List ℕ) where
   exercise : Kept → Exercise
   exercise h = record { name_start = h.name_start; name_length = h.name_length; start = h.start; end = h.end; edition = h.edition }
 
-  is-ended : (h : Kept) (at : ℕ) → h.wanted ≡ 5 → ended h at ≡ read.Read (exercise h)
+  is-ended : (h : Kept) (at : ℕ) → h.wanted ≡ 5 → ended h at ≡ Ok (exercise h)
   unfolding ended exercise
   is-ended h at w = rw (eq-eqb h.wanted 5 w)
 
@@ -126,7 +123,7 @@ module _ (newest : ℕ) (s : List ℕ) where
       }
 
   -- without a fault it reads, and says what its fields hold
-  pub reads-if : Faultless newest s → (x : Exercise) × ((read_as newest s ≡ read.Read x) × Says s x)
+  pub reads-if : Faultless newest s → (x : Exercise) × ((read_as newest s ≡ Ok x) × Says s x)
   reads-if f =
       let c = reached f.fields f.good in
       let w = all-stood f.fields c.kept c.known (f.all 4 (record { least = omega arith; most = omega arith })) in
@@ -175,7 +172,7 @@ module _ (newest : ℕ) (s : List ℕ) where
           side (inl p) = good j p
           side (inr z) = rw z g
 
-      next : field_at s r < length s → (J : Judged) → FieldSaid newest s r J → Step r
+      next : field_at s r < length s → (J : Result (Kept × ℕ) Refusal) → FieldSaid newest s r J → Step r
       next i J (stops f) = over (fault _ (wrong-field fit r good i f))
       next i J (passes h g k) = onward (join g)
 
@@ -201,23 +198,23 @@ module _ (newest : ℕ) (s : List ℕ) where
       go false e = search (ltb-false limit (length s) e) (length s) 0 (λ k q. absurd (omega (arith, q))) (omega arith)
 
   -- the reader refuses with the first fault
-  pub refused-only-if : (x : Refusal) → read_as newest s ≡ read.Refused x → FirstFault newest s x
+  pub refused-only-if : (x : Refusal) → read_as newest s ≡ Err x → FirstFault newest s x
   refused-only-if x e = go either
     where
       go : Either → FirstFault newest s x
       go (fault y f) = let q = refused-if y f in let z : x ≡ y = cc in rw z f
       go (none f) = reads (reads-if f)
         where
-          reads : (y : Exercise) × ((read_as newest s ≡ read.Read y) × Says s y) → FirstFault newest s x
+          reads : (y : Exercise) × ((read_as newest s ≡ Ok y) × Says s y) → FirstFault newest s x
           reads (y, (p, q)) = let z : ◌≡◌ {A = ℕ} 0 1 = cc in absurd (omega arith)
 
   -- what reads has no fault, and says what its fields hold
-  pub reads-only-if : (x : Exercise) → read_as newest s ≡ read.Read x → Faultless newest s × Says s x
+  pub reads-only-if : (x : Exercise) → read_as newest s ≡ Ok x → Faultless newest s × Says s x
   reads-only-if x e = go either
     where
       go : Either → Faultless newest s × Says s x
       go (fault y f) = let q = refused-if y f in let z : ◌≡◌ {A = ℕ} 0 1 = cc in absurd (omega arith)
       go (none f) = (f, same (reads-if f))
         where
-          same : (y : Exercise) × ((read_as newest s ≡ read.Read y) × Says s y) → Says s x
+          same : (y : Exercise) × ((read_as newest s ≡ Ok y) × Says s y) → Says s x
           same (y, (p, q)) = let z : x ≡ y = cc in rw z q

@@ -1,5 +1,5 @@
 -- Fields one after another: what is written reads back, and a field that is passed over changes nothing.
-use Rattle.std.specs.Prelude.{ℕ, zero, suc, ◌+◌, ◌*◌, ◌/◌, ◌%◌, ◌^◌, ◌≤◌, ◌<◌, ◌≡◌, Bool, true, false, cond, List, [], ◌∷◌, ◌++◌, eqb, ltb, get_or, take, drop}
+use Rattle.std.specs.Prelude.{ℕ, zero, suc, ◌+◌, ◌*◌, ◌/◌, ◌%◌, ◌^◌, ◌≤◌, ◌<◌, ◌≡◌, Bool, true, false, cond, List, [], ◌∷◌, ◌++◌, eqb, ltb, get_or, take, drop, Result, Ok, Err}
 use Rattle.std.proofs.Math.Path.{refl}
 use Rattle.std.proofs.Common.{sym, ap, ◌∙◌, append_assoc, arith, add-zero, suc-add}
 use Rattle.std.proofs.Math.ListN.{length, length-append}
@@ -12,11 +12,7 @@ use Rattle.exercise.specs.Laws.{walk-pass, walk-stop, valued-length}
 use Rattle.refusal.specs.declared.Refusal.{Refusal}
 use Rattle.refusal.specs.declared.Refusal.TheVariants as refused
 use Rattle.exercise.specs.declared.Exercise.{Exercise}
-use Rattle.exercise.specs.declared.ExerciseRead.{ExerciseRead}
-use Rattle.exercise.specs.declared.ExerciseRead.TheVariants as read
 use Rattle.exercise.specs.declared.Kept.{Kept}
-use Rattle.exercise.specs.declared.Judged.{Judged}
-use Rattle.exercise.specs.declared.Judged.TheVariants.{Next, Refused}
 
 -- ---- one whole field at the front
 
@@ -28,7 +24,7 @@ module _ (newest : ℕ) (h : Kept) (at tag a b : ℕ) (body rest : List ℕ) (sm
       let l : length body ≤ length (body ++ rest) = omega (arith, length-append body rest) in
       rw (lt-ltb tag 128 small, size, le-ltb (length (body ++ rest)) (length body) l, take-append_seam body rest)
 
-  pub field-passes : (g : Kept) → valued newest h at tag (length body) body ≡ Next g (length body)
+  pub field-passes : (g : Kept) → valued newest h at tag (length body) body ≡ Ok (g, (length body))
       → walk newest h at 0 (tag ∷ a ∷ b ∷ (body ++ rest)) ≡ walk newest g (at + (3 + length body)) 0 rest
   field-passes g e =
       let q : 2 + length body ≡ suc (suc (length body)) = omega arith in
@@ -36,32 +32,32 @@ module _ (newest : ℕ) (h : Kept) (at tag a b : ℕ) (body rest : List ℕ) (sm
 
 -- ---- what is written reads back
 
-name-read : (newest n : ℕ) (body : List ℕ) → valued newest begun 0 1 n body ≡ Next (record { wanted = 2; name_start = 3; name_length = n; start = 0; end = 0; edition = 0 }) n
+name-read : (newest n : ℕ) (body : List ℕ) → valued newest begun 0 1 n body ≡ Ok ((record { wanted = 2; name_start = 3; name_length = n; start = 0; end = 0; edition = 0 }), n)
 unfolding valued name_field
 name-read newest n body = refl
 
 start-read : (newest at n m v : ℕ) (b : List ℕ) → m ≡ 8 → big_from 0 b ≡ v
-    → valued newest (record { wanted = 2; name_start = 3; name_length = n; start = 0; end = 0; edition = 0 }) at 2 m b ≡ Next (record { wanted = 3; name_start = 3; name_length = n; start = v; end = 0; edition = 0 }) m
+    → valued newest (record { wanted = 2; name_start = 3; name_length = n; start = 0; end = 0; edition = 0 }) at 2 m b ≡ Ok ((record { wanted = 3; name_start = 3; name_length = n; start = v; end = 0; edition = 0 }), m)
 unfolding valued start_field
 start-read newest at n m v b e f = rw (e, f)
 
 end_read : (newest at n m w v : ℕ) (b : List ℕ) → m ≡ 8 → big_from 0 b ≡ v
-    → valued newest (record { wanted = 3; name_start = 3; name_length = n; start = w; end = 0; edition = 0 }) at 3 m b ≡ Next (record { wanted = 4; name_start = 3; name_length = n; start = w; end = v; edition = 0 }) m
+    → valued newest (record { wanted = 3; name_start = 3; name_length = n; start = w; end = 0; edition = 0 }) at 3 m b ≡ Ok ((record { wanted = 4; name_start = 3; name_length = n; start = w; end = v; edition = 0 }), m)
 unfolding valued end_field
 end_read newest at n m w v b e f = rw (e, f)
 
 edition-read : (newest at n w v e : ℕ) → known_to newest e ≡ true
-    → valued newest (record { wanted = 4; name_start = 3; name_length = n; start = w; end = v; edition = 0 }) at 4 1 (e ∷ []) ≡ Next (record { wanted = 5; name_start = 3; name_length = n; start = w; end = v; edition = e }) 1
+    → valued newest (record { wanted = 4; name_start = 3; name_length = n; start = w; end = v; edition = 0 }) at 4 1 (e ∷ []) ≡ Ok ((record { wanted = 5; name_start = 3; name_length = n; start = w; end = v; edition = e }), 1)
 unfolding valued edition_field
 edition-read newest at n w v e k = rw k
 
 edition-unread : (at n w v : ℕ)
-    → valued 1 (record { wanted = 4; name_start = 3; name_length = n; start = w; end = v; edition = 0 }) at 4 1 (2 ∷ []) ≡ Refused (refused.UnknownEdition at)
+    → valued 1 (record { wanted = 4; name_start = 3; name_length = n; start = w; end = v; edition = 0 }) at 4 1 (2 ∷ []) ≡ Err (refused.UnknownEdition at)
 unfolding valued edition_field known_to
 edition-unread at n w v = refl
 
 all_read : (newest at n w v e : ℕ)
-    → walk newest (record { wanted = 5; name_start = 3; name_length = n; start = w; end = v; edition = e }) at 0 [] ≡ read.Read (record { name_start = 3; name_length = n; start = w; end = v; edition = e })
+    → walk newest (record { wanted = 5; name_start = 3; name_length = n; start = w; end = v; edition = e }) at 0 [] ≡ Ok (record { name_start = 3; name_length = n; start = w; end = v; edition = e })
 unfolding walk ended
 all_read newest at n w v e = refl
 
@@ -100,7 +96,7 @@ to-edition newest name start end edition n s e = name-part ∙ (start-part ∙ (
     end-part = field-passes newest h₂ (0 + (3 + length name) + (3 + length S)) 3 0 8 E (edition_bytes edition) (omega arith) (sym (length-big_bytes 8 end)) h₃ (end_read newest (0 + (3 + length name) + (3 + length S)) (length name) (length E) start end E (length-big_bytes 8 end) (big-back 8 end (omega arith)))
 
 pub written-reads : (newest : ℕ) (name : List ℕ) (start end edition : ℕ) → length name ≤ 65535 → start < 2 ^ 64 → end < 2 ^ 64 → known_to newest edition ≡ true
-    → says_from newest (text_of name start end edition) ≡ read.Read (record { name_start = 3; name_length = length name; start = start; end = end; edition = edition })
+    → says_from newest (text_of name start end edition) ≡ Ok (record { name_start = 3; name_length = length name; start = start; end = end; edition = edition })
 written-reads newest name start end edition n s e k =
     to-edition newest name start end edition n s e
     ∙ (field-passes newest _ (length name + 25) 4 0 1 (edition ∷ []) [] (omega arith) refl _ (edition-read newest (length name + 25) (length name) start end edition k)
@@ -113,7 +109,7 @@ written-name name start end edition = take-append_seam name (number_field 2 star
 
 -- a reader of edition 1 refuses what is written in edition 2, with the offset of its field
 pub older-refuses : (name : List ℕ) (start end : ℕ) → length name ≤ 65535 → start < 2 ^ 64 → end < 2 ^ 64
-    → says_from 1 (text_of name start end 2) ≡ read.Refused (refused.UnknownEdition (length name + 25))
+    → says_from 1 (text_of name start end 2) ≡ Err (refused.UnknownEdition (length name + 25))
 older-refuses name start end n s e =
     to-edition 1 name start end 2 n s e
     ∙ walk-stop 1 _ (length name + 25) 4 (0 ∷ 1 ∷ 2 ∷ []) _ (judge-field 1 _ (length name + 25) 4 0 1 (2 ∷ []) [] (omega arith) refl ∙ edition-unread (length name + 25) (length name) start end)
@@ -132,7 +128,7 @@ pub record Unneeded (tag : ℕ) : Type 0 where
 abbrev pub field_of : ℕ → List ℕ → List ℕ
 field_of tag body = tag ∷ length body / 256 ∷ length body % 256 ∷ body
 
-passed_over : (newest : ℕ) (h : Kept) (at tag n : ℕ) (body : List ℕ) → Unneeded tag → valued newest h at tag n body ≡ Next h n
+passed_over : (newest : ℕ) (h : Kept) (at tag n : ℕ) (body : List ℕ) → Unneeded tag → valued newest h at tag n body ≡ Ok (h, n)
 unfolding valued
 passed_over newest h at tag n body u = rw (ne_eqb tag 1 u.no_name, ne_eqb tag 2 u.no_start, ne_eqb tag 3 u.no_end, ne_eqb tag 4 u.no-edition)
 
@@ -191,18 +187,18 @@ later_refusal d (refused.NoIndexFits x y) = refused.NoIndexFits x y
 abbrev later : ℕ → Kept → Kept
 later c h = record { wanted = h.wanted; name_start = h.name_start + c; name_length = h.name_length; start = h.start; end = h.end; edition = h.edition }
 
-abbrev later_judged : ℕ → ℕ → Judged → Judged
-later_judged c d (Next h n) = Next (later c h) n
-later_judged c d (Refused r) = Refused (later_refusal d r)
+abbrev later_judged : ℕ → ℕ → Result (Kept × ℕ) Refusal → Result (Kept × ℕ) Refusal
+later_judged c d (Ok (h, n)) = Ok ((later c h), n)
+later_judged c d (Err r) = Err (later_refusal d r)
 
 -- what is read, with the name c bytes later, and a refusal d
-abbrev pub later_read : ℕ → ℕ → ExerciseRead → ExerciseRead
-later_read c d (read.Read e) = read.Read (record { name_start = e.name_start + c; name_length = e.name_length; start = e.start; end = e.end; edition = e.edition })
-later_read c d (read.Refused r) = read.Refused (later_refusal d r)
+abbrev pub later_read : ℕ → ℕ → Result Exercise Refusal → Result Exercise Refusal
+later_read c d (Ok e) = Ok (record { name_start = e.name_start + c; name_length = e.name_length; start = e.start; end = e.end; edition = e.edition })
+later_read c d (Err r) = Err (later_refusal d r)
 
 -- behind the name's field
 
-later-either : (t : Bool) (c d : ℕ) (x' x y' y : Judged) → x' ≡ later_judged c d x → y' ≡ later_judged c d y → cond t x' y' ≡ later_judged c d (cond t x y)
+later-either : (t : Bool) (c d : ℕ) (x' x y' y : Result (Kept × ℕ) Refusal) → x' ≡ later_judged c d x → y' ≡ later_judged c d y → cond t x' y' ≡ later_judged c d (cond t x y)
 later-either true c d x' x y' y p q = p
 later-either false c d x' x y' y p q = q
 
@@ -241,11 +237,11 @@ judge-later newest h at tag s c d w = later-either (ltb tag 128) c d _ _ _ _ (tw
     two (a ∷ b ∷ l) = later-either (ltb (length l) (a * 256 + b)) c d _ _ _ _ refl (valued-later newest h at (a * 256 + b) (take (a * 256 + b) l) c d tag w)
 
 -- no field makes the name wanted again
-abbrev Late : Judged → Type 0
-Late (Next g n) = eqb g.wanted 1 ≡ false
-Late (Refused r) = eqb 0 1 ≡ false
+abbrev Late : Result (Kept × ℕ) Refusal → Type 0
+Late (Ok (g, n)) = eqb g.wanted 1 ≡ false
+Late (Err r) = eqb 0 1 ≡ false
 
-late-either : (t : Bool) (x y : Judged) → Late x → Late y → Late (cond t x y)
+late-either : (t : Bool) (x y : Result (Kept × ℕ) Refusal) → Late x → Late y → Late (cond t x y)
 late-either true x y p q = p
 late-either false x y p q = q
 
@@ -272,28 +268,28 @@ unfolding walk ended
 walk-later newest h at k [] c d w = go (eqb h.wanted 5)
   where
     go : (t : Bool)
-        → cond t (read.Read (record { name_start = h.name_start + c; name_length = h.name_length; start = h.start; end = h.end; edition = h.edition })) (read.Refused (refused.MalformedExercise (at + d)))
-        ≡ later_read c d (cond t (read.Read (record { name_start = h.name_start; name_length = h.name_length; start = h.start; end = h.end; edition = h.edition })) (read.Refused (refused.MalformedExercise at)))
+        → cond t (Ok (record { name_start = h.name_start + c; name_length = h.name_length; start = h.start; end = h.end; edition = h.edition })) (Err (refused.MalformedExercise (at + d)))
+        ≡ later_read c d (cond t (Ok (record { name_start = h.name_start; name_length = h.name_length; start = h.start; end = h.end; edition = h.edition })) (Err (refused.MalformedExercise at)))
     go true = refl
     go false = refl
 walk-later newest h at zero (tag ∷ s) c d w =
     rw (judge-later newest h at tag s c d w) (go (judge newest h at tag s) (judge-late newest h at tag s w) (λ g n v. walk-later newest g (suc at) (2 + n) s c d v))
   where
-    go : (J : Judged) → Late J → ((g : Kept) (n : ℕ) → eqb g.wanted 1 ≡ false → walk newest (later c g) (suc at + d) (2 + n) s ≡ later_read c d (walk newest g (suc at) (2 + n) s))
+    go : (J : Result (Kept × ℕ) Refusal) → Late J → ((g : Kept) (n : ℕ) → eqb g.wanted 1 ≡ false → walk newest (later c g) (suc at + d) (2 + n) s ≡ later_read c d (walk newest g (suc at) (2 + n) s))
         → unless (later_judged c d J) (walk newest (kept_by (later_judged c d J)) (suc (at + d)) (2 + length_by (later_judged c d J)) s)
         ≡ later_read c d (unless J (walk newest (kept_by J) (suc at) (2 + length_by J) s))
-    go (Next g n) v more = rw (← suc-add at d) (more g n v)
-    go (Refused r) v more = refl
+    go (Ok (g, n)) v more = rw (← suc-add at d) (more g n v)
+    go (Err r) v more = refl
 walk-later newest h at (suc k) (b ∷ s) c d w = rw (← suc-add at d) (walk-later newest h (suc at) k s c d w)
 
 -- up to the name's field
 
-data Begins (d : ℕ) (J' J : Judged) : Type 0 where
-  again : (n : ℕ) → J' ≡ Next begun n → J ≡ Next begun n → Begins d J' J
-  named : (g : Kept) (n : ℕ) → eqb g.wanted 1 ≡ false → J' ≡ Next (later d g) n → J ≡ Next g n → Begins d J' J
-  stops : (r : Refusal) → J' ≡ Refused (later_refusal d r) → J ≡ Refused r → Begins d J' J
+data Begins (d : ℕ) (J' J : Result (Kept × ℕ) Refusal) : Type 0 where
+  again : (n : ℕ) → J' ≡ Ok (begun, n) → J ≡ Ok (begun, n) → Begins d J' J
+  named : (g : Kept) (n : ℕ) → eqb g.wanted 1 ≡ false → J' ≡ Ok (later d g, n) → J ≡ Ok (g, n) → Begins d J' J
+  stops : (r : Refusal) → J' ≡ Err (later_refusal d r) → J ≡ Err r → Begins d J' J
 
-begins-either : (t : Bool) (d : ℕ) (x' x y' y : Judged) → Begins d x' x → Begins d y' y → Begins d (cond t x' y') (cond t x y)
+begins-either : (t : Bool) (d : ℕ) (x' x y' y : Result (Kept × ℕ) Refusal) → Begins d x' x → Begins d y' y → Begins d (cond t x' y') (cond t x y)
 begins-either true d x' x y' y p q = p
 begins-either false d x' x y' y p q = q
 
@@ -310,7 +306,7 @@ begins newest at tag s d = begins-either (ltb tag 128) d _ _ _ _ (two s) (stops 
     field : (n : ℕ) (l : List ℕ) → Begins d (valued newest begun (at + d) tag n l) (valued newest begun at tag n l)
     field n l =
         begins-either (eqb tag 1) d _ _ _ _
-        (named (record { wanted = 2; name_start = at + 3; name_length = n; start = 0; end = 0; edition = 0 }) n refl (ap (λ (i : ℕ). Next (record { wanted = 2; name_start = i; name_length = n; start = 0; end = 0; edition = 0 }) n) place) refl)
+        (named (record { wanted = 2; name_start = at + 3; name_length = n; start = 0; end = 0; edition = 0 }) n refl (ap (λ (i : ℕ). Ok ((record { wanted = 2; name_start = i; name_length = n; start = 0; end = 0; edition = 0 }), n)) place) refl)
         (begins-either (eqb tag 2) d _ _ _ _ stop
         (begins-either (eqb tag 3) d _ _ _ _ stop
         (begins-either (eqb tag 4) d _ _ _ _ stop (again n refl refl))))
@@ -326,7 +322,7 @@ walk-begun newest at k [] d = refl
 walk-begun newest at zero (tag ∷ s) d =
     go (judge newest begun (at + d) tag s) (judge newest begun at tag s) (begins newest at tag s d) (λ n. walk-begun newest (suc at) (2 + n) s d)
   where
-    go : (J' J : Judged) → Begins d J' J → ((n : ℕ) → walk newest begun (suc at + d) (2 + n) s ≡ later_read d d (walk newest begun (suc at) (2 + n) s))
+    go : (J' J : Result (Kept × ℕ) Refusal) → Begins d J' J → ((n : ℕ) → walk newest begun (suc at + d) (2 + n) s ≡ later_read d d (walk newest begun (suc at) (2 + n) s))
         → unless J' (walk newest (kept_by J') (suc (at + d)) (2 + length_by J') s) ≡ later_read d d (unless J (walk newest (kept_by J) (suc at) (2 + length_by J) s))
     go J' J (again n p q) more = rw (p, q, ← suc-add at d) (more n)
     go J' J (named g n v p q) more = rw (p, q, ← suc-add at d) (walk-later newest g (suc at) (2 + n) s d d v)
@@ -347,7 +343,7 @@ pub data Fields : List ℕ → Type 0 where
   field : (tag a b : ℕ) (body rest : List ℕ) → tag < 128 → a * 256 + b ≡ length body → Fields rest → Fields (tag ∷ a ∷ b ∷ (body ++ rest))
 
 -- an answer is another one; or the same with a refusal d bytes later, and a name d bytes later, or where it was
-pub data Alike (d : ℕ) (r' r : ExerciseRead) : Type 0 where
+pub data Alike (d : ℕ) (r' r : Result Exercise Refusal) : Type 0 where
   same : r' ≡ r → Alike d r' r
   behind : r' ≡ later_read d d r → Alike d r' r
   before : r' ≡ later_read 0 d r → Alike d r' r
@@ -363,12 +359,16 @@ later-none h = rw (add-zero h.name_start)
 unmoved : (e : Exercise) → e ≡ record { name_start = e.name_start + 0; name_length = e.name_length; start = e.start; end = e.end; edition = e.edition }
 unmoved e = rw (add-zero e.name_start)
 
-still-begun : (newest : ℕ) (h : Kept) (at tag : ℕ) (s : List ℕ) → Begun h → (g : Kept) (n : ℕ) → judge newest h at tag s ≡ Next g n → Begun g
+still-begun : (newest : ℕ) (h : Kept) (at tag : ℕ) (s : List ℕ) → Begun h → (g : Kept) (n : ℕ) → judge newest h at tag s ≡ Ok (g, n) → Begun g
 still-begun newest h at tag s (unnamed b) g n e = go (begins newest at tag s 0) (rw b at e)
   where
-    go : Begins 0 (judge newest begun (at + 0) tag s) (judge newest begun at tag s) → judge newest begun at tag s ≡ Next g n → Begun g
-    go (again m p q) e = let v : g ≡ begun = cc in unnamed v
-    go (named f m v p q) e = let w : g ≡ f = cc in name-kept (rw w v)
+    go : Begins 0 (judge newest begun (at + 0) tag s) (judge newest begun at tag s) → judge newest begun at tag s ≡ Ok (g, n) → Begun g
+    go (again m p q) e =
+        let u : ◌≡◌ {A = Kept × ℕ} (g, n) (begun, m) = cc in
+        unnamed (ap (λ (y : Kept × ℕ). y.0) u)
+    go (named f m v p q) e =
+        let u : ◌≡◌ {A = Kept × ℕ} (g, n) (f, m) = cc in
+        name-kept (rw (ap (λ (y : Kept × ℕ). y.0) u) v)
     go (stops r p q) e = let z : ◌≡◌ {A = ℕ} 0 1 = cc in absurd (omega arith)
 still-begun newest h at tag s (name-kept w) g n e = name-kept (rw e at (judge-late newest h at tag s w))
 
@@ -385,15 +385,15 @@ module _ (newest utag : ℕ) (ubody s : List ℕ) (u : Unneeded utag) (long : le
       rw (append_assoc body rest (field_of utag ubody ++ s), append_assoc body rest s)
       (go (valued newest h at tag (length body) body) refl (λ g v. between more g (at + (3 + length body)) v))
     where
-      go : (J : Judged) → valued newest h at tag (length body) body ≡ J
+      go : (J : Result (Kept × ℕ) Refusal) → valued newest h at tag (length body) body ≡ J
           → ((g : Kept) → Begun g → Alike (3 + length ubody) (walk newest g (at + (3 + length body)) 0 (rest ++ (field_of utag ubody ++ s))) (walk newest g (at + (3 + length body)) 0 (rest ++ s)))
           → Alike (3 + length ubody) (walk newest h at 0 (tag ∷ a ∷ b ∷ (body ++ (rest ++ (field_of utag ubody ++ s))))) (walk newest h at 0 (tag ∷ a ∷ b ∷ (body ++ (rest ++ s))))
-      go (Next g n) e onward =
+      go (Ok (g, n)) e onward =
           let m : n ≡ length body = valued-length newest h at tag (length body) body g n e in
-          let f : valued newest h at tag (length body) body ≡ Next g (length body) = rw m at e in
+          let f : valued newest h at tag (length body) body ≡ Ok (g, (length body)) = rw m at e in
           let v = still-begun newest h at tag (a ∷ b ∷ (body ++ (rest ++ s))) w g (length body) (judge-field newest h at tag a b body (rest ++ s) small size ∙ f) in
           rw (field-passes newest h at tag a b body (rest ++ (field_of utag ubody ++ s)) small size g f, field-passes newest h at tag a b body (rest ++ s) small size g f) (onward g v)
-      go (Refused r) e onward =
+      go (Err r) e onward =
           same
           (walk-stop newest h at tag (a ∷ b ∷ (body ++ (rest ++ (field_of utag ubody ++ s)))) r (judge-field newest h at tag a b body (rest ++ (field_of utag ubody ++ s)) small size ∙ e)
           ∙ sym (walk-stop newest h at tag (a ∷ b ∷ (body ++ (rest ++ s))) r (judge-field newest h at tag a b body (rest ++ s) small size ∙ e)))
@@ -404,12 +404,12 @@ module _ (newest utag : ℕ) (ubody s : List ℕ) (u : Unneeded utag) (long : le
   passed-between f = between f begun 0 (unnamed refl)
 
   -- so what reads still reads, with the same bounds, edition and length of name
-  pub passed_reads : {pre : List ℕ} → Fields pre → (e : Exercise) → says_from newest (pre ++ s) ≡ read.Read e
-      → (c : ℕ) × (says_from newest (pre ++ (field_of utag ubody ++ s)) ≡ read.Read (record { name_start = e.name_start + c; name_length = e.name_length; start = e.start; end = e.end; edition = e.edition }))
+  pub passed_reads : {pre : List ℕ} → Fields pre → (e : Exercise) → says_from newest (pre ++ s) ≡ Ok e
+      → (c : ℕ) × (says_from newest (pre ++ (field_of utag ubody ++ s)) ≡ Ok (record { name_start = e.name_start + c; name_length = e.name_length; start = e.start; end = e.end; edition = e.edition }))
   passed_reads {pre} f e q = go (passed-between f)
     where
       go : Alike (3 + length ubody) (says_from newest (pre ++ (field_of utag ubody ++ s))) (says_from newest (pre ++ s))
-          → (c : ℕ) × (says_from newest (pre ++ (field_of utag ubody ++ s)) ≡ read.Read (record { name_start = e.name_start + c; name_length = e.name_length; start = e.start; end = e.end; edition = e.edition }))
-      go (same p) = (0, p ∙ (q ∙ ap read.Read (unmoved e)))
+          → (c : ℕ) × (says_from newest (pre ++ (field_of utag ubody ++ s)) ≡ Ok (record { name_start = e.name_start + c; name_length = e.name_length; start = e.start; end = e.end; edition = e.edition }))
+      go (same p) = (0, p ∙ (q ∙ ap Ok (unmoved e)))
       go (behind p) = (3 + length ubody, p ∙ rw q)
       go (before p) = (0, p ∙ rw q)

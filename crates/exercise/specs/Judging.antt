@@ -1,6 +1,6 @@
 -- The reader judges a field as FirstFault.antt does: it passes a good one, and refuses a wrong one with its fault.
 use Prim.Native.Nat.{ℕ, zero, suc, ◌+◌, ◌-◌, ◌≤◌, ◌<◌}
-use Rattle.std.specs.Prelude.{◌≡◌, Bool, cond, List, eqb, length, drop, get_or}
+use Rattle.std.specs.Prelude.{◌≡◌, Bool, cond, List, eqb, length, drop, get_or, Result, Ok, Err}
 use Rattle.std.proofs.Math.Path.{refl, sym}
 use Rattle.std.proofs.Common.{◌∙◌, true≢false}
 use Rattle.std.proofs.Math.Bool.{true, false}
@@ -15,20 +15,18 @@ use Rattle.exercise.specs.FirstFault.{field_at, tag_of, size_of, value_of, Four,
 use Rattle.exercise.specs.FirstFault.FieldFault.{needed, cut_off, out-of-turn, wrong_size, other-edition}
 use Rattle.exercise.specs.Turns.{Known, in-turn, turn-wanted, passed-known, name-known, start-known, end_known, edition-known}
 use Rattle.exercise.specs.declared.Kept.{Kept}
-use Rattle.exercise.specs.declared.Judged.{Judged}
-use Rattle.exercise.specs.declared.Judged.TheVariants.{Next, Refused}
 
 -- a field is good, and is passed; or it is wrong, and is refused so
-pub data FieldSaid (newest : ℕ) (s : List ℕ) (r : ℕ) : Judged → Type 0 where
-  passes : (g : Kept) → Good newest s r → Known s (suc r) g → FieldSaid newest s r (Next g (size_of s r))
-  stops : {x : Refusal} → FieldFault newest s r x → FieldSaid newest s r (Refused x)
+pub data FieldSaid (newest : ℕ) (s : List ℕ) (r : ℕ) : Result (Kept × ℕ) Refusal → Type 0 where
+  passes : (g : Kept) → Good newest s r → Known s (suc r) g → FieldSaid newest s r (Ok (g, (size_of s r)))
+  stops : {x : Refusal} → FieldFault newest s r x → FieldSaid newest s r (Err x)
 
-said-either : (newest : ℕ) (s : List ℕ) (r : ℕ) (t : Bool) (x y : Judged) → (t ≡ true → FieldSaid newest s r x) → (t ≡ false → FieldSaid newest s r y) → FieldSaid newest s r (cond t x y)
+said-either : (newest : ℕ) (s : List ℕ) (r : ℕ) (t : Bool) (x y : Result (Kept × ℕ) Refusal) → (t ≡ true → FieldSaid newest s r x) → (t ≡ false → FieldSaid newest s r y) → FieldSaid newest s r (cond t x y)
 said-either newest s r true x y p q = p refl
 said-either newest s r false x y p q = q refl
 
 -- how field r is judged, behind what is kept
-abbrev pub judged_at : ℕ → Kept → List ℕ → ℕ → Judged
+abbrev pub judged_at : ℕ → Kept → List ℕ → ℕ → Result (Kept × ℕ) Refusal
 judged_at newest h s r = judge newest h (field_at s r) (tag_of s r) (drop (field_at s r + 1) s)
 
 module _ (newest : ℕ) (s : List ℕ) (r : ℕ) (h : Kept) where
@@ -37,11 +35,11 @@ module _ (newest : ℕ) (s : List ℕ) (r : ℕ) (h : Kept) where
   unfolding field_at
   whole-judged t w = sym (judge-whole newest h (field_at s r) (tag_of s r) s t (omega (arith, w)) (omega (arith, w)) (size_of s r) refl (omega (arith, w)))
 
-  cut-judged : tag_of s r < 128 → field_at s r < length s → length s < field_at s (suc r) → judged_at newest h s r ≡ Refused (MalformedExercise (field_at s r))
+  cut-judged : tag_of s r < 128 → field_at s r < length s → length s < field_at s (suc r) → judged_at newest h s r ≡ Err (MalformedExercise (field_at s r))
   unfolding field_at bad
   cut-judged t i c = go (ltb (length s - field_at s r) 3) refl
     where
-      go : (b : Bool) → ltb (length s - field_at s r) 3 ≡ b → judged_at newest h s r ≡ Refused (MalformedExercise (field_at s r))
+      go : (b : Bool) → ltb (length s - field_at s r) 3 ≡ b → judged_at newest h s r ≡ Err (MalformedExercise (field_at s r))
       go true e = sym (judge-short newest h (field_at s r) (tag_of s r) s t i (ltb-true _ 3 e))
       go false e = sym (judge-cut newest h (field_at s r) (tag_of s r) s t i (ltb-false _ 3 e) (size_of s r) refl (omega (arith, c, ltb-false (length s - field_at s r) 3 e)))
 
@@ -136,7 +134,7 @@ module _ (newest : ℕ) (s : List ℕ) (r : ℕ) (h : Kept) where
           (unwanted 4 e (omega arith) (omega arith))
 
       -- a tag that is not of the four
-      passed-said : eqb (tag_of s r) 1 ≡ false → eqb (tag_of s r) 2 ≡ false → eqb (tag_of s r) 3 ≡ false → eqb (tag_of s r) 4 ≡ false → FieldSaid newest s r (Next h (size_of s r))
+      passed-said : eqb (tag_of s r) 1 ≡ false → eqb (tag_of s r) 2 ≡ false → eqb (tag_of s r) 3 ≡ false → eqb (tag_of s r) 4 ≡ false → FieldSaid newest s r (Ok (h, (size_of s r)))
       passed-said a b c d =
           let n : Four (tag_of s r) → ⊥ = not-four (tag_of s r) (eqb-false _ 1 a) (eqb-false _ 2 b) (eqb-false _ 3 c) (eqb-false _ 4 d) in
           passes h
@@ -185,7 +183,7 @@ module _ (newest : ℕ) (s : List ℕ) (r : ℕ) (h : Kept) where
 
     -- ---- a good field is passed
 
-    pub good-passed : field_at s r < length s → Good newest s r → (g : Kept) × ((judged_at newest h s r ≡ Next g (size_of s r)) × Known s (suc r) g)
+    pub good-passed : field_at s r < length s → Good newest s r → (g : Kept) × ((judged_at newest h s r ≡ Ok (g, (size_of s r))) × Known s (suc r) g)
     good-passed i good = go (judged_at newest h s r) refl (field-said i)
       where
         wrong : {x : Refusal} → FieldFault newest s r x → ⊥
@@ -195,13 +193,13 @@ module _ (newest : ℕ) (s : List ℕ) (r : ℕ) (h : Kept) where
         wrong (wrong_size m w u n) = n good.size
         wrong (other-edition w e u z n) = true≢false (sym (good.known e) ∙ n)
 
-        go : (J : Judged) → judged_at newest h s r ≡ J → FieldSaid newest s r J → (g : Kept) × ((judged_at newest h s r ≡ Next g (size_of s r)) × Known s (suc r) g)
+        go : (J : Result (Kept × ℕ) Refusal) → judged_at newest h s r ≡ J → FieldSaid newest s r J → (g : Kept) × ((judged_at newest h s r ≡ Ok (g, (size_of s r))) × Known s (suc r) g)
         go J e (passes g _ v) = (g, (e, v))
         go J e (stops f) = absurd (wrong f)
 
     -- ---- a wrong field is refused with its fault
 
-    unturned : (tag n : ℕ) (v : List ℕ) → Four tag → (tag ≡ h.wanted → ⊥) → valued newest h (field_at s r) tag n v ≡ Refused (MalformedExercise (field_at s r))
+    unturned : (tag n : ℕ) (v : List ℕ) → Four tag → (tag ≡ h.wanted → ⊥) → valued newest h (field_at s r) tag n v ≡ Err (MalformedExercise (field_at s r))
     unfolding valued name_field start_field end_field edition_field bad
     unturned zero n v f never = absurd (omega (arith, f.least))
     unturned (suc zero) n v f never = rw (ne_eqb h.wanted 1 (λ e. never (sym e)))
@@ -213,7 +211,7 @@ module _ (newest : ℕ) (s : List ℕ) (r : ℕ) (h : Kept) where
     another : {A : Type 0} (a b : ℕ) → eqb a b ≡ false → a ≡ b → A
     another a b e q = absurd (eqb-false a b e q)
 
-    missized : (tag n : ℕ) (v : List ℕ) → (Four tag → tag ≡ h.wanted) → (RightSize tag n → ⊥) → valued newest h (field_at s r) tag n v ≡ Refused (MalformedExercise (field_at s r))
+    missized : (tag n : ℕ) (v : List ℕ) → (Four tag → tag ≡ h.wanted) → (RightSize tag n → ⊥) → valued newest h (field_at s r) tag n v ≡ Err (MalformedExercise (field_at s r))
     unfolding valued name_field start_field end_field edition_field bad
     missized zero n v u never = absurd (never (record { start = λ e. another 0 2 refl e; end = λ e. another 0 3 refl e; edition = λ e. another 0 4 refl e }))
     missized (suc zero) n v u never = absurd (never (record { start = λ e. another 1 2 refl e; end = λ e. another 1 3 refl e; edition = λ e. another 1 4 refl e }))
@@ -229,11 +227,11 @@ module _ (newest : ℕ) (s : List ℕ) (r : ℕ) (h : Kept) where
     missized (suc (suc (suc (suc (suc tag))))) n v u never =
         absurd (never (record { start = λ e. absurd (omega (arith, e)); end = λ e. absurd (omega (arith, e)); edition = λ e. absurd (omega (arith, e)) }))
 
-    unknown : (tag n : ℕ) (v : List ℕ) → tag ≡ 4 → h.wanted ≡ 4 → n ≡ 1 → known_to newest (get_or v 0 0) ≡ false → valued newest h (field_at s r) tag n v ≡ Refused (UnknownEdition (field_at s r))
+    unknown : (tag n : ℕ) (v : List ℕ) → tag ≡ 4 → h.wanted ≡ 4 → n ≡ 1 → known_to newest (get_or v 0 0) ≡ false → valued newest h (field_at s r) tag n v ≡ Err (UnknownEdition (field_at s r))
     unfolding valued edition_field
     unknown tag n v e w z c = rw (e, w, z, c)
 
-    pub wrong-refused : field_at s r < length s → {x : Refusal} → FieldFault newest s r x → judged_at newest h s r ≡ Refused x
+    pub wrong-refused : field_at s r < length s → {x : Refusal} → FieldFault newest s r x → judged_at newest h s r ≡ Err x
     wrong-refused i (needed m) = sym (judge-needed newest h (field_at s r) (tag_of s r) (drop (field_at s r + 1) s) m)
     wrong-refused i (cut_off m c) = cut-judged m i c
     wrong-refused i (out-of-turn m w f n) = whole-judged m w ∙ unturned (tag_of s r) (size_of s r) (value_of s r) f (λ e. n (in-turn s r h k e))

@@ -1,8 +1,8 @@
 -- Laws of the walk over the fields.
 use Prim.Native.Nat.{ℕ, zero, suc, ◌+◌, ◌-◌, ◌*◌, ◌≤◌, ◌<◌}
-use Rattle.std.specs.Prelude.{◌≡◌, Bool, true, false, cond, not, ◌&&◌, eqb, ltb, leb, get_or, take, drop}
+use Rattle.std.specs.Prelude.{◌≡◌, Bool, true, false, cond, not, ◌&&◌, eqb, ltb, leb, get_or, take, drop, Result, Ok, Err}
 use Rattle.std.proofs.Math.Path.{refl}
-use Rattle.std.proofs.Common.{sym, ◌∙◌, true≢false, add-one, add-zero, add-suc, drop_of_length-le, drop-drop, lt-ltb, le-ltb, ltb-false, leb-true}
+use Rattle.std.proofs.Common.{take_all, sym, ◌∙◌, true≢false, add-one, add-zero, add-suc, drop_of_length-le, drop-drop, lt-ltb, le-ltb, ltb-false, leb-true}
 use mathlib.Core.List.{List, [], ◌∷◌}
 use native.Mathlib.Omega.{arith}
 use Rattle.std.proofs.Math.Nat.{suc-add}
@@ -11,19 +11,20 @@ use Rattle.std.proofs.Math.Seq.{drop-cons}
 use Rattle.refusal.specs.declared.Refusal.{Refusal}
 use Rattle.refusal.specs.declared.Refusal.TheVariants.{UnknownNeededTag}
 use Rattle.exercise.specs.Reading.{known_to, bad, name_field, start_field, end_field, edition_field, valued, sized, judge, ended, walk}
-use Rattle.exercise.specs.declared.ExerciseRead.TheVariants as read
 use Rattle.exercise.specs.declared.Kept.{Kept}
-use Rattle.exercise.specs.declared.Judged.{Judged}
-use Rattle.exercise.specs.declared.Judged.TheVariants.{Next, Refused}
+
+-- what is behind the first k of some bytes
+pub tail-all : (k : ℕ) (l : List ℕ) → take (length l - k) (drop k l) ≡ drop k l
+tail-all k l = take_all (length l - k) (drop k l) (omega (arith, length-drop k l))
 
 -- ---- how far a field reaches
 
 -- a field that is passed has n bytes
-abbrev Long : ℕ → Judged → Type 0
-Long n (Next h m) = m ≡ n
-Long n (Refused r) = n ≡ n
+abbrev Long : ℕ → Result (Kept × ℕ) Refusal → Type 0
+Long n (Ok (h, m)) = m ≡ n
+Long n (Err r) = n ≡ n
 
-long-either : (t : Bool) (n : ℕ) (x y : Judged) → Long n x → Long n y → Long n (cond t x y)
+long-either : (t : Bool) (n : ℕ) (x y : Result (Kept × ℕ) Refusal) → Long n x → Long n y → Long n (cond t x y)
 long-either true n x y p q = p
 long-either false n x y p q = q
 
@@ -36,31 +37,31 @@ valued-long newest h at tag n s =
     (long-either (eqb tag 4) n _ _ (long-either (eqb h.wanted 4) n _ _ (long-either (eqb n 1) n _ _ (long-either (known_to newest (get_or s 0 0)) n _ _ refl refl) refl) refl)
     refl)))
 
-pub valued-length : (newest : ℕ) (h : Kept) (at tag n : ℕ) (s : List ℕ) (g : Kept) (m : ℕ) → valued newest h at tag n s ≡ Next g m → m ≡ n
+pub valued-length : (newest : ℕ) (h : Kept) (at tag n : ℕ) (s : List ℕ) (g : Kept) (m : ℕ) → valued newest h at tag n s ≡ Ok (g, m) → m ≡ n
 valued-length newest h at tag n s g m e = rw e at (valued-long newest h at tag n s)
 
 -- what is judged lies in the bytes
-judge-within : (newest : ℕ) (h : Kept) (at tag : ℕ) (s : List ℕ) (g : Kept) (m : ℕ) → judge newest h at tag s ≡ Next g m → 2 + m ≤ length s
+pub judge-within : (newest : ℕ) (h : Kept) (at tag : ℕ) (s : List ℕ) (g : Kept) (m : ℕ) → judge newest h at tag s ≡ Ok (g, m) → 2 + m ≤ length s
 unfolding judge sized bad
 judge-within newest h at tag s g m = tagged (ltb tag 128)
   where
-    two : (l : List ℕ) → sized newest h at tag l ≡ Next g m → 2 + m ≤ length l
+    two : (l : List ℕ) → sized newest h at tag l ≡ Ok (g, m) → 2 + m ≤ length l
     two [] e = let z : ◌≡◌ {A = ℕ} 0 1 = cc in absurd (omega arith)
     two (a ∷ []) e = let z : ◌≡◌ {A = ℕ} 0 1 = cc in absurd (omega arith)
     two (a ∷ b ∷ l) e = go (ltb (length l) (a * 256 + b)) refl e
       where
-        go : (t : Bool) → ltb (length l) (a * 256 + b) ≡ t → cond t (bad at) (valued newest h at tag (a * 256 + b) (take (a * 256 + b) l)) ≡ Next g m → 2 + m ≤ suc (suc (length l))
+        go : (t : Bool) → ltb (length l) (a * 256 + b) ≡ t → cond t (bad at) (valued newest h at tag (a * 256 + b) (take (a * 256 + b) l)) ≡ Ok (g, m) → 2 + m ≤ suc (suc (length l))
         go true q e = let z : ◌≡◌ {A = ℕ} 0 1 = cc in absurd (omega arith)
         go false q e = omega (arith, valued-length newest h at tag (a * 256 + b) (take (a * 256 + b) l) g m e, ltb-false (length l) (a * 256 + b) q)
 
-    tagged : (t : Bool) → cond t (sized newest h at tag s) (Refused (UnknownNeededTag at)) ≡ Next g m → 2 + m ≤ length s
+    tagged : (t : Bool) → cond t (sized newest h at tag s) (Err (UnknownNeededTag at)) ≡ Ok (g, m) → 2 + m ≤ length s
     tagged true e = two s e
     tagged false e = let z : ◌≡◌ {A = ℕ} 0 1 = cc in absurd (omega arith)
 
 -- ---- a field at an offset of some bytes
 
 module _ (newest : ℕ) (h : Kept) (at tag : ℕ) where
-  pub judge-needed : (s : List ℕ) → 128 ≤ tag → Refused (UnknownNeededTag at) ≡ judge newest h at tag s
+  pub judge-needed : (s : List ℕ) → 128 ≤ tag → Err (UnknownNeededTag at) ≡ judge newest h at tag s
   unfolding judge sized bad
   judge-needed s k = rw (le-ltb tag 128 k)
 
@@ -102,11 +103,11 @@ module _ (newest : ℕ) where
   walk_end h at s z = rw (drop_of_length-le s z)
 
   -- one field refused, and one passed
-  pub walk-stop : (h : Kept) (at tag : ℕ) (s : List ℕ) (r : Refusal) → judge newest h at tag s ≡ Refused r → walk newest h at 0 (tag ∷ s) ≡ read.Refused r
+  pub walk-stop : (h : Kept) (at tag : ℕ) (s : List ℕ) (r : Refusal) → judge newest h at tag s ≡ Err r → walk newest h at 0 (tag ∷ s) ≡ Err r
   unfolding walk
   walk-stop h at tag s r e = rw e
 
-  pub walk-pass : (h : Kept) (at tag : ℕ) (s : List ℕ) (g : Kept) (n : ℕ) → judge newest h at tag s ≡ Next g n → walk newest h at 0 (tag ∷ s) ≡ walk newest g (at + (3 + n)) 0 (drop (2 + n) s)
+  pub walk-pass : (h : Kept) (at tag : ℕ) (s : List ℕ) (g : Kept) (n : ℕ) → judge newest h at tag s ≡ Ok (g, n) → walk newest h at 0 (tag ∷ s) ≡ walk newest g (at + (3 + n)) 0 (drop (2 + n) s)
   unfolding walk
   walk-pass h at tag s g n e =
       let q : suc at + (2 + n) ≡ at + (3 + n) = omega arith in
@@ -114,13 +115,13 @@ module _ (newest : ℕ) where
 
   -- at an offset of some bytes
   module _ (h : Kept) (at : ℕ) (s : List ℕ) (i : at < length s) where
-    pub step-stop : (r : Refusal) → judge newest h at (get_or s at 0) (drop (at + 1) s) ≡ Refused r → walk newest h at 0 (drop at s) ≡ read.Refused r
+    pub step-stop : (r : Refusal) → judge newest h at (get_or s at 0) (drop (at + 1) s) ≡ Err r → walk newest h at 0 (drop at s) ≡ Err r
     step-stop r e = rw (drop-cons s at 0 i, ← add-one at) (walk-stop h at (get_or s at 0) (drop (at + 1) s) r e)
 
-    pub step-within : (g : Kept) (n : ℕ) → judge newest h at (get_or s at 0) (drop (at + 1) s) ≡ Next g n → at + 3 + n ≤ length s
+    pub step-within : (g : Kept) (n : ℕ) → judge newest h at (get_or s at 0) (drop (at + 1) s) ≡ Ok (g, n) → at + 3 + n ≤ length s
     step-within g n e = omega (arith, judge-within newest h at (get_or s at 0) (drop (at + 1) s) g n e, length-drop (at + 1) s)
 
-    pub step-pass : (g : Kept) (n : ℕ) → judge newest h at (get_or s at 0) (drop (at + 1) s) ≡ Next g n → walk newest g (at + 3 + n) 0 (drop (at + 3 + n) s) ≡ walk newest h at 0 (drop at s)
+    pub step-pass : (g : Kept) (n : ℕ) → judge newest h at (get_or s at 0) (drop (at + 1) s) ≡ Ok (g, n) → walk newest g (at + 3 + n) 0 (drop (at + 3 + n) s) ≡ walk newest h at 0 (drop at s)
     step-pass g n e =
         let q : at + 1 + (2 + n) ≡ at + 3 + n = omega arith in
         let p : at + (3 + n) ≡ at + 3 + n = omega arith in

@@ -1,32 +1,29 @@
 -- What an exercise that reads says of itself: its name lies in its bytes, and its edition is known.
-use Rattle.std.specs.Prelude.{ℕ, zero, suc, ◌+◌, ◌*◌, ◌≤◌, ◌≡◌, Bool, cond, ◌⊎◌, eqb, get_or, take}
+use Rattle.std.specs.Prelude.{ℕ, zero, suc, ◌+◌, ◌*◌, ◌≤◌, ◌≡◌, Bool, cond, ◌⊎◌, eqb, get_or, take, Result, Ok, Err}
 use Rattle.std.proofs.Math.Path.{refl}
 use Rattle.std.proofs.Common.{sym, true≢false, inl, inr, arith}
 use Rattle.std.proofs.Math.Bool.{true, false}
 use mathlib.Core.List.{List, [], ◌∷◌}
 use Rattle.std.proofs.Math.Dec.{ltb}
 use Rattle.std.proofs.Math.ListN.{length}
+use Rattle.refusal.specs.declared.Refusal.{Refusal}
 use borrow.Author.Tests.{ltb-false}
 use Rattle.refusal.specs.declared.Refusal.TheVariants.{MalformedExercise}
 use Rattle.exercise.specs.Reading.{known_to, bad, name_field, start_field, end_field, edition_field, valued, sized, judge, ended, begun, kept_by, length_by, unless, walk, says_from}
 use Rattle.exercise.specs.Laws.{known-most}
 use Rattle.exercise.specs.declared.Exercise.{Exercise}
-use Rattle.exercise.specs.declared.ExerciseRead.{ExerciseRead}
-use Rattle.exercise.specs.declared.ExerciseRead.TheVariants as read
 use Rattle.exercise.specs.declared.Kept.{Kept}
-use Rattle.exercise.specs.declared.Judged.{Judged}
-use Rattle.exercise.specs.declared.Judged.TheVariants.{Next, Refused}
 
 -- what is kept has its name in so many bytes, and a known edition once there is one
 record Sound (newest all : ℕ) (h : Kept) : Type 0 where
   name : h.name_start + h.name_length ≤ all
   edition : eqb h.wanted 5 ≡ true → known_to newest h.edition ≡ true
 
-abbrev SoundAfter : ℕ → ℕ → Judged → Type 0
-SoundAfter newest all (Next h n) = Sound newest all h
-SoundAfter newest all (Refused r) = ◌≡◌ {A = ℕ} 0 0
+abbrev SoundAfter : ℕ → ℕ → Result (Kept × ℕ) Refusal → Type 0
+SoundAfter newest all (Ok (h, n)) = Sound newest all h
+SoundAfter newest all (Err r) = ◌≡◌ {A = ℕ} 0 0
 
-sound-either : (t : Bool) (newest all : ℕ) (x y : Judged) → (t ≡ true → SoundAfter newest all x) → SoundAfter newest all y → SoundAfter newest all (cond t x y)
+sound-either : (t : Bool) (newest all : ℕ) (x y : Result (Kept × ℕ) Refusal) → (t ≡ true → SoundAfter newest all x) → SoundAfter newest all y → SoundAfter newest all (cond t x y)
 sound-either true newest all x y p q = p refl
 sound-either false newest all x y p q = q
 
@@ -65,16 +62,16 @@ pub record ReadSound (newest all : ℕ) (x : Exercise) : Type 0 where
   pub name : x.name_start + x.name_length ≤ all
   pub edition : known_to newest x.edition ≡ true
 
-abbrev SoundRead : ℕ → ℕ → ExerciseRead → Type 0
-SoundRead newest all (read.Read x) = ReadSound newest all x
-SoundRead newest all (read.Refused r) = ◌≡◌ {A = ℕ} 0 0
+abbrev SoundRead : ℕ → ℕ → Result Exercise Refusal → Type 0
+SoundRead newest all (Ok x) = ReadSound newest all x
+SoundRead newest all (Err r) = ◌≡◌ {A = ℕ} 0 0
 
 ended-sound : (newest all : ℕ) (h : Kept) (at : ℕ) → Sound newest all h → SoundRead newest all (ended h at)
 unfolding ended
 ended-sound newest all h at s = go (eqb h.wanted 5) refl
   where
     go : (t : Bool) → eqb h.wanted 5 ≡ t
-        → SoundRead newest all (cond t (read.Read (record { name_start = h.name_start; name_length = h.name_length; start = h.start; end = h.end; edition = h.edition })) (read.Refused (MalformedExercise at)))
+        → SoundRead newest all (cond t (Ok (record { name_start = h.name_start; name_length = h.name_length; start = h.start; end = h.end; edition = h.edition })) (Err (MalformedExercise at)))
     go true e = record { name = s.name; edition = s.edition e }
     go false e = refl
 
@@ -84,13 +81,13 @@ walk-sound newest all h at k [] s m = ended-sound newest all h at s
 walk-sound newest all h at zero (tag ∷ l) s m =
     go (judge newest h at tag l) (judge-sound newest all h at s tag l (omega arith)) (λ g n w. walk-sound newest all g (suc at) (2 + n) l w (omega arith))
   where
-    go : (J : Judged) → SoundAfter newest all J → ((g : Kept) (n : ℕ) → Sound newest all g → SoundRead newest all (walk newest g (suc at) (2 + n) l))
+    go : (J : Result (Kept × ℕ) Refusal) → SoundAfter newest all J → ((g : Kept) (n : ℕ) → Sound newest all g → SoundRead newest all (walk newest g (suc at) (2 + n) l))
         → SoundRead newest all (unless J (walk newest (kept_by J) (suc at) (2 + length_by J) l))
-    go (Next g n) w more = more g n w
-    go (Refused r) w more = refl
+    go (Ok (g, n)) w more = more g n w
+    go (Err r) w more = refl
 walk-sound newest all h at (suc k) (b ∷ l) s m = walk-sound newest all h (suc at) k l s (omega arith)
 
-pub read-sound : (newest : ℕ) (s : List ℕ) (x : Exercise) → says_from newest s ≡ read.Read x → ReadSound newest (length s) x
+pub read-sound : (newest : ℕ) (s : List ℕ) (x : Exercise) → says_from newest s ≡ Ok x → ReadSound newest (length s) x
 unfolding says_from
 read-sound newest s x e = rw e at (walk-sound newest (length s) begun 0 0 s (record { name = omega arith; edition = no-edition newest 0 }) (omega arith))
 

@@ -1,15 +1,14 @@
 -- How an exercise is written.
-use Rattle.std.specs.Prelude.{ℕ, ◌+◌, ◌/◌, ◌%◌, ◌≤◌, ◌<◌, ◌≡◌, refl, cond, List, [], ◌∷◌, ◌++◌, ltb, length, drop, get_or}
+use Rattle.std.specs.Prelude.{ℕ, ◌+◌, ◌/◌, ◌%◌, ◌≤◌, ◌<◌, ◌≡◌, refl, cond, List, [], ◌∷◌, ◌++◌, ltb, length, drop, get_or, Result, Ok}
 use Rattle.std.proofs.Common.{sym, ap, ◌∙◌, arith, append_assoc, length-append, length-drop, take_all, drop-drop}
 use Rattle.std.proofs.Math.Seq.{take-append_seam, drop-append-add}
+use Rattle.refusal.specs.declared.Refusal.{Refusal}
 use Rattle.copying.specs.Copied.{after_copy}
 use Rattle.copying.specs.Laws.{copy-whole}
 use Rattle.refusal.specs.Numbers.{over_limit}
 use Rattle.refusal.specs.declared.Refusal.TheVariants.{TooLong, MalformedExercise, UnknownEdition, NoRoom}
 use Rattle.exercise.specs.Numbers.{big_bytes, length-big_bytes, eight}
 use Rattle.exercise.specs.Reading.{known_to}
-use Rattle.output.specs.declared.Written.{Written}
-use Rattle.output.specs.declared.Written.TheVariants.{Bytes}
 use Rattle.output.specs.Outcome.{Outcome, leaves, refuses, pours}
 use Rattle.output.specs.Laws.{pours-short, pours-fits}
 
@@ -31,7 +30,7 @@ unfoldable pub front : List ℕ → List ℕ → List ℕ
 front s out = s ++ drop (length s) out
 
 -- writing: 1, 31, 33, 14
-unfoldable pub written_as : ℕ → List ℕ → ℕ → ℕ → ℕ → List ℕ → Outcome Written
+unfoldable pub written_as : ℕ → List ℕ → ℕ → ℕ → ℕ → List ℕ → Outcome (Result ℕ Refusal)
 written_as newest name start end edition out =
     cond (over_limit (length name)) (refuses TooLong out)
     (cond (ltb 65535 (length name)) (refuses (MalformedExercise 0) out)
@@ -47,7 +46,7 @@ module _ (name : List ℕ) (start end edition : ℕ) (out : List ℕ) where
   text-no-room h = rw (← text-length) (pours-short _ out (rw (← text-length) at h))
 
   pub text-poured : length name + 29 ≤ length out → (after : List ℕ) → after ≡ front (text_of name start end edition) out
-      → leaves (Bytes (length name + 29)) after ≡ pours (text_of name start end edition) out
+      → leaves (Ok (length name + 29)) after ≡ pours (text_of name start end edition) out
   unfolding front
   text-poured h after e = rw (e, ← text-length) (pours-fits _ out (rw (← text-length) at h))
 

@@ -1,5 +1,5 @@
 -- Laws of a FASTQ record's lines: what the code finds at an offset is what the lines from there say. Callers go by these.
-use Rattle.std.specs.Prelude.{ℕ, zero, suc, ◌+◌, ◌-◌, ◌≤◌, ◌<◌, ◌≡◌, List, [], ◌∷◌, map, Bool, not, length, drop, get_or, eqb, ltb}
+use Rattle.std.specs.Prelude.{ℕ, zero, suc, ◌+◌, ◌-◌, ◌≤◌, ◌<◌, ◌≡◌, List, [], ◌∷◌, map, Bool, not, length, drop, get_or, eqb, ltb, Result, Ok, Err, ⊤}
 use Rattle.std.proofs.Math.Path.{refl, ap}
 use Rattle.std.proofs.Common.{sym, ◌∙◌, true≢false, drop_of_length-le, drop-drop, arith}
 use Rattle.std.proofs.Math.Bool.{true, false, cond}
@@ -14,10 +14,6 @@ use Rattle.lines.specs.GroupLaws.{lines-behind}
 use Rattle.indexer.specs.Index.{line_of, fits_last}
 use Rattle.fastq.specs.Fastq.{lines_at, plus, body_of, from_plus, body_at, line_says, and_then, rest_of, fits_partner, qualities_of}
 use Rattle.fastq.specs.Steps.{last_line, body_with, rest_as, rest_says, partners_of, partner_of, qualities_as, qualities_say}
-use Rattle.fastq.specs.declared.Verdict.{Verdict}
-use Rattle.fastq.specs.declared.Verdict.TheVariants as judged
-use Rattle.fastq.specs.declared.Sequence.TheVariants as sequence
-use Rattle.fastq.specs.declared.Qualities.TheVariants as qualities
 
 -- ---- the line at an offset
 
@@ -107,26 +103,26 @@ body_more first k n x at l ls =
     rw (a, b, c)
 
 module _ (first : Line) (k n : ℕ) (x : Line) (at : ℕ) where
-  pub rest_some : (l : List ℕ) (ls : List (List ℕ)) → line_says first (none ls) (line_of l) ≡ judged.Good
+  pub rest_some : (l : List ℕ) (ls : List (List ℕ)) → line_says first (none ls) (line_of l) ≡ Ok tt
       → rest_says first k n x at (l ∷ ls) ≡ rest_says first (k + 1) (n + (line_of l).bases) (line_of l) (at + (line_of l).width) ls
   unfolding rest_says rest_of
   rest_some l ls e = rw e (go (rest_of first ls))
     where
-      go : (v : Verdict) → rest_as first k n x at (l ∷ ls) v ≡ rest_as first (k + 1) (n + (line_of l).bases) (line_of l) (at + (line_of l).width) ls v
-      go judged.Good = ap sequence.Lines (body_more first k n x at l ls)
-      go (judged.Bad y) = refl
+      go : (v : Result ⊤ Refusal) → rest_as first k n x at (l ∷ ls) v ≡ rest_as first (k + 1) (n + (line_of l).bases) (line_of l) (at + (line_of l).width) ls v
+      go (Ok tt) = ap Ok (body_more first k n x at l ls)
+      go (Err y) = refl
 
-  rest-refused : (l : List ℕ) (ls : List (List ℕ)) (y : Refusal) → line_says first (none ls) (line_of l) ≡ judged.Bad y → rest_says first k n x at (l ∷ ls) ≡ sequence.Refused y
+  rest-refused : (l : List ℕ) (ls : List (List ℕ)) (y : Refusal) → line_says first (none ls) (line_of l) ≡ Err y → rest_says first k n x at (l ∷ ls) ≡ Err y
   unfolding rest_says rest_of
   rest-refused l ls y e = rw e
 
-  rest-none : rest_says first k n x at [] ≡ sequence.Lines (record { first = first; last = x; count = k; bases = n; next = at })
+  rest-none : rest_says first k n x at [] ≡ Ok (record { first = first; last = x; count = k; bases = n; next = at })
   unfolding rest_says rest_of last_line sum_bases sum_widths
   rest-none = rw (add-zero k, add-zero n, add-zero at)
 
 -- by what the code finds at an offset
 module _ (s : List ℕ) (first : Line) (k n : ℕ) (x : Line) (i : ℕ) where
-  pub rest-ends : none (body_at s i) ≡ true → sequence.Lines (record { first = first; last = x; count = k; bases = n; next = i }) ≡ rest_says first k n x i (body_at s i)
+  pub rest-ends : none (body_at s i) ≡ true → Ok (record { first = first; last = x; count = k; bases = n; next = i }) ≡ rest_says first k n x i (body_at s i)
   rest-ends e = rw (no-line s i e) (sym (rest-none first k n x i))
 
   module _ (l : Line) (h : none (body_at s i) ≡ false) (e : l ≡ first_line (lines_at s i)) where
@@ -136,46 +132,46 @@ module _ (s : List ℕ) (first : Line) (k n : ℕ) (x : Line) (i : ℕ) where
     is-here : l ≡ line_of here
     is-here = e ∙ sym (body-line s i h).1
 
-    said : (v : Verdict) → line_says first (none (body_at s (i + l.width))) l ≡ v → line_says first (none (body_at s (i + (line_of here).width))) (line_of here) ≡ v
+    said : (v : Result ⊤ Refusal) → line_says first (none (body_at s (i + l.width))) l ≡ v → line_says first (none (body_at s (i + (line_of here).width))) (line_of here) ≡ v
     said v w = ap (λ (m : Line). line_says first (none (body_at s (i + m.width))) m) (sym is-here) ∙ w
 
-    pub rest-on : line_says first (none (body_at s (i + l.width))) l ≡ judged.Good
+    pub rest-on : line_says first (none (body_at s (i + l.width))) l ≡ Ok tt
         → rest_says first (k + 1) (n + l.bases) l (i + l.width) (body_at s (i + l.width)) ≡ rest_says first k n x i (body_at s i)
     rest-on v =
         ap (λ (m : Line). rest_says first (k + 1) (n + m.bases) m (i + m.width) (body_at s (i + m.width))) is-here
-        ∙ sym (rest_some first k n x i here (body_at s (i + (line_of here).width)) (said judged.Good v))
+        ∙ sym (rest_some first k n x i here (body_at s (i + (line_of here).width)) (said (Ok tt) v))
         ∙ ap (rest_says first k n x i) (sym (body-line s i h).0)
 
-    pub rest-stops : (y : Refusal) → line_says first (none (body_at s (i + l.width))) l ≡ judged.Bad y → sequence.Refused y ≡ rest_says first k n x i (body_at s i)
+    pub rest-stops : (y : Refusal) → line_says first (none (body_at s (i + l.width))) l ≡ Err y → Err y ≡ rest_says first k n x i (body_at s i)
     rest-stops y v =
-        sym (rest-refused first k n x i here (body_at s (i + (line_of here).width)) y (said (judged.Bad y) v))
+        sym (rest-refused first k n x i here (body_at s (i + (line_of here).width)) y (said (Err y) v))
         ∙ ap (rest_says first k n x i) (sym (body-line s i h).0)
 
 -- one line, by the tests of the code
 module _ (first : Line) (last : Bool) (l : Line) where
-  pub says-blank : l.bases ≡ 0 → judged.Bad (LineBases 0 first.bases) ≡ line_says first last l
+  pub says-blank : l.bases ≡ 0 → Err (LineBases 0 first.bases) ≡ line_says first last l
   unfolding line_says
   says-blank h = rw (eq-eqb l.bases 0 h)
 
   module _ (h : l.bases ≡ 0 → ⊥) where
-    pub says-fits : fits_last last l first ≡ true → judged.Good ≡ line_says first last l
+    pub says-fits : fits_last last l first ≡ true → Ok tt ≡ line_says first last l
     unfolding line_says
     says-fits f = rw (ne_eqb l.bases 0 h, f)
 
     module _ (f : fits_last last l first ≡ false) where
-      pub says-bases : (l.bases ≡ first.bases → ⊥) → judged.Bad (LineBases l.bases first.bases) ≡ line_says first last l
+      pub says-bases : (l.bases ≡ first.bases → ⊥) → Err (LineBases l.bases first.bases) ≡ line_says first last l
       unfolding line_says
       says-bases b = rw (ne_eqb l.bases 0 h, f, ne_eqb l.bases first.bases b)
 
-      pub says-width : l.bases ≡ first.bases → (l.width ≡ first.width → ⊥) → judged.Bad (LineWidth l.width first.width) ≡ line_says first last l
+      pub says-width : l.bases ≡ first.bases → (l.width ≡ first.width → ⊥) → Err (LineWidth l.width first.width) ≡ line_says first last l
       unfolding line_says
       says-width b w = rw (ne_eqb l.bases 0 h, f, eq-eqb l.bases first.bases b, ne_eqb l.width first.width w)
 
-    pub says-like : l.bases ≡ first.bases → l.width ≡ first.width → judged.Good ≡ line_says first last l
+    pub says-like : l.bases ≡ first.bases → l.width ≡ first.width → Ok tt ≡ line_says first last l
     unfolding line_says
     says-like b w = rw (ne_eqb l.bases 0 h, eq-eqb l.bases first.bases b, eq-eqb l.width first.width w) (go (fits_last last l first))
       where
-        go : (t : Bool) → judged.Good ≡ cond t judged.Good judged.Good
+        go : (t : Bool) → ◌≡◌ {A = Result ⊤ Refusal} (Ok tt) (cond t (Ok tt) (Ok tt))
         go true = refl
         go false = refl
 
@@ -234,17 +230,17 @@ partners-front (suc zero) first last h = refl
 partners-front (suc (suc n)) first last h = let q : suc (suc n) - 1 ≡ suc n = omega arith in rw q
 
 module _ (s : List ℕ) (i n : ℕ) (first last : Line) where
-  pub qualities-done : n ≡ 0 → qualities.Behind i ≡ qualities_say i (partners_of n first last) (lines_at s i)
+  pub qualities-done : n ≡ 0 → Ok i ≡ qualities_say i (partners_of n first last) (lines_at s i)
   unfolding qualities_say qualities_of partners_of sum_widths
   qualities-done h = rw (h, add-zero i)
 
   module _ (some : 0 < n) where
-    pub qualities-none : length s ≤ i → qualities.Refused (QualityLine 0 (partner_of n first last).bases) ≡ qualities_say i (partners_of n first last) (lines_at s i)
+    pub qualities-none : length s ≤ i → Err (QualityLine 0 (partner_of n first last).bases) ≡ qualities_say i (partners_of n first last) (lines_at s i)
     unfolding qualities_say qualities_of
     qualities-none h = rw (partners-front n first last some, lines_end s i h)
 
     pub qualities-bad : i < length s → fits_partner (partner_of n first last) (part s i (line_end s i)) ≡ false
-        → qualities.Refused (QualityLine (length (bases_of (part s i (line_end s i)))) (partner_of n first last).bases) ≡ qualities_say i (partners_of n first last) (lines_at s i)
+        → Err (QualityLine (length (bases_of (part s i (line_end s i)))) (partner_of n first last).bases) ≡ qualities_say i (partners_of n first last) (lines_at s i)
     unfolding qualities_say qualities_of
     qualities-bad h e = rw (partners-front n first last some, lines_at-cut s i h, e)
 
@@ -253,10 +249,10 @@ module _ (s : List ℕ) (i n : ℕ) (first last : Line) where
     unfolding qualities_say qualities_of sum_widths
     qualities-on h e = rw (partners-front n first last some, lines_at-cut s i h, e) (go (qualities_of (partners_of (n - 1) first last) (lines_at s (line_end s i))))
       where
-        go : (v : Verdict) → qualities_as (line_end s i) (partners_of (n - 1) first last) (lines_at s (line_end s i)) v
+        go : (v : Result ⊤ Refusal) → qualities_as (line_end s i) (partners_of (n - 1) first last) (lines_at s (line_end s i)) v
             ≡ qualities_as i (partner_of n first last ∷ partners_of (n - 1) first last) (part s i (line_end s i) ∷ lines_at s (line_end s i)) v
-        go judged.Good = ap qualities.Behind (omega (arith, part_length s i (line_end s i) (line_end-le s i (omega arith)), line_end-gt s i h))
-        go (judged.Bad y) = refl
+        go (Ok tt) = ap Ok (omega (arith, part_length s i (line_end s i) (line_end-le s i (omega arith)), line_end-gt s i h))
+        go (Err y) = refl
 
 -- ---- the lines of good sequences are the partners
 
@@ -265,31 +261,31 @@ line_same l m b w =
     ap (λ (n : ℕ). record { width = n; bases = l.bases }) w ∙ ap (λ (n : ℕ). record { width = m.width; bases = n }) b
 
 -- a good line that is not the last is like the first
-pub good-same : (first l : Line) → line_says first false l ≡ judged.Good → l ≡ first
+pub good-same : (first l : Line) → line_says first false l ≡ Ok tt → l ≡ first
 unfolding line_says fits_last
 good-same first l e = blank (eqb l.bases 0) e
   where
     width : (t : Bool) → eqb l.width first.width ≡ t → l.bases ≡ first.bases
-        → cond t judged.Good (judged.Bad (LineWidth l.width first.width)) ≡ judged.Good → l ≡ first
+        → ◌≡◌ {A = Result ⊤ Refusal} (cond t (Ok tt) (Err (LineWidth l.width first.width))) (Ok tt) → l ≡ first
     width true w b q = line_same l first b (eqb-true _ _ w)
-    width false w b q = let z : ◌≡◌ {A = ℕ} 0 1 = cc in absurd (omega arith)
+    width false w b q = absurd cc
 
     bases : (t : Bool) → eqb l.bases first.bases ≡ t
-        → cond t (cond (eqb l.width first.width) judged.Good (judged.Bad (LineWidth l.width first.width))) (judged.Bad (LineBases l.bases first.bases)) ≡ judged.Good → l ≡ first
+        → ◌≡◌ {A = Result ⊤ Refusal} (cond t (cond (eqb l.width first.width) (Ok tt) (Err (LineWidth l.width first.width))) (Err (LineBases l.bases first.bases))) (Ok tt) → l ≡ first
     bases true b q = width (eqb l.width first.width) refl (eqb-true _ _ b) q
-    bases false b q = let z : ◌≡◌ {A = ℕ} 0 1 = cc in absurd (omega arith)
+    bases false b q = absurd cc
 
-    blank : (t : Bool) → cond t (judged.Bad (LineBases 0 first.bases))
-        (cond (eqb l.bases first.bases) (cond (eqb l.width first.width) judged.Good (judged.Bad (LineWidth l.width first.width))) (judged.Bad (LineBases l.bases first.bases))) ≡ judged.Good → l ≡ first
-    blank true q = let z : ◌≡◌ {A = ℕ} 0 1 = cc in absurd (omega arith)
+    blank : (t : Bool) → ◌≡◌ {A = Result ⊤ Refusal} (cond t (Err (LineBases 0 first.bases))
+        (cond (eqb l.bases first.bases) (cond (eqb l.width first.width) (Ok tt) (Err (LineWidth l.width first.width))) (Err (LineBases l.bases first.bases)))) (Ok tt) → l ≡ first
+    blank true q = absurd cc
     blank false q = bases (eqb l.bases first.bases) refl q
 
-pub then-good : (v w : Verdict) → and_then v w ≡ judged.Good → (v ≡ judged.Good) × (w ≡ judged.Good)
-then-good judged.Good w e = (refl, e)
-then-good (judged.Bad x) w e = let z : ◌≡◌ {A = ℕ} 0 1 = cc in absurd (omega arith)
+pub then-good : (v w : Result ⊤ Refusal) → and_then v w ≡ Ok tt → (v ≡ Ok tt) × (w ≡ Ok tt)
+then-good (Ok tt) w e = (refl, e)
+then-good (Err x) w e = absurd cc
 
 -- the lines behind one that is like the first
-pub partners-are : (first : Line) (ls : List (List ℕ)) → rest_of first ls ≡ judged.Good → (x : Line) → (none ls ≡ false → x ≡ first)
+pub partners-are : (first : Line) (ls : List (List ℕ)) → rest_of first ls ≡ Ok tt → (x : Line) → (none ls ≡ false → x ≡ first)
     → x ∷ map line_of ls ≡ partners_of (suc (length ls)) first (last_line x ls)
 unfolding rest_of partners_of last_line
 partners-are first [] e x h = refl

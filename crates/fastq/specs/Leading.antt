@@ -1,6 +1,7 @@
 -- The numbers of a FASTQ record's row lead to every base and to every quality: both have even lines, and even lines are where the addressing
 -- rule says (`even-places` of the crate `record`, which FASTA's rows go by too).
-use Rattle.std.specs.Prelude.{ℕ, ◌≤◌, ◌<◌, ◌≡◌, refl, List, [], ◌∷◌, map, Bool, true, false, cond, not, ◌&&◌, ◌||◌, length, take, drop, eqb, leb}
+use Rattle.std.specs.Prelude.{ℕ, ◌≤◌, ◌<◌, ◌≡◌, refl, List, [], ◌∷◌, map, Bool, true, false, cond, not, ◌&&◌, ◌||◌, length, take, drop, eqb, leb, Result, Ok, Err, ⊤}
+use Rattle.refusal.specs.declared.Refusal.{Refusal}
 use Rattle.std.proofs.Common.{ap, sym, ◌∙◌, true≢false, drop_of_length-le, eqb-true, leb-true, arith}
 use Rattle.refusal.specs.declared.Refusal.TheVariants.{LineBases, LineWidth, QualityLine}
 use Rattle.lines.specs.declared.Line.{Line}
@@ -15,7 +16,6 @@ use Rattle.record.specs.EvenLines.EvenLines.{none, last, more}
 use Rattle.indexer.specs.Index.{line_of, fits_last}
 use Rattle.fastq.specs.Fastq.{line_says, rest_of, fits_partner, qualities_of}
 use Rattle.fastq.specs.Laws.{good-same, then-good}
-use Rattle.fastq.specs.declared.Verdict.TheVariants as judged
 
 -- ---- the sequence lines
 
@@ -28,30 +28,30 @@ and_right true b e = e
 and_right false b e = absurd (true≢false (sym e))
 
 -- a good last line has no more bases than the first
-good-last : (first l : Line) → line_says first true l ≡ judged.Good → l.bases ≤ first.bases
+good-last : (first l : Line) → line_says first true l ≡ Ok tt → l.bases ≤ first.bases
 unfolding line_says fits_last
 good-last first l e = blank (eqb l.bases 0) e
   where
     bases : (t : Bool) → eqb l.bases first.bases ≡ t
-        → cond t (cond (eqb l.width first.width) judged.Good (judged.Bad (LineWidth l.width first.width))) (judged.Bad (LineBases l.bases first.bases)) ≡ judged.Good
+        → ◌≡◌ {A = Result ⊤ Refusal} (cond t (cond (eqb l.width first.width) (Ok tt) (Err (LineWidth l.width first.width))) (Err (LineBases l.bases first.bases))) (Ok tt)
         → l.bases ≤ first.bases
     bases true b q = omega (arith, eqb-true l.bases first.bases b)
-    bases false b q = let z : ◌≡◌ {A = ℕ} 0 1 = cc in absurd (omega arith)
+    bases false b q = absurd cc
 
     fits : (t : Bool) → (leb l.width first.width && leb l.bases first.bases) ≡ t
-        → cond t judged.Good (cond (eqb l.bases first.bases) (cond (eqb l.width first.width) judged.Good (judged.Bad (LineWidth l.width first.width))) (judged.Bad (LineBases l.bases first.bases))) ≡ judged.Good
+        → ◌≡◌ {A = Result ⊤ Refusal} (cond t (Ok tt) (cond (eqb l.bases first.bases) (cond (eqb l.width first.width) (Ok tt) (Err (LineWidth l.width first.width))) (Err (LineBases l.bases first.bases)))) (Ok tt)
         → l.bases ≤ first.bases
     fits true f q = leb-true l.bases first.bases (and_right (leb l.width first.width) _ f)
     fits false f q = bases (eqb l.bases first.bases) refl q
 
-    blank : (t : Bool) → cond t (judged.Bad (LineBases 0 first.bases))
-        (cond (leb l.width first.width && leb l.bases first.bases) judged.Good (cond (eqb l.bases first.bases) (cond (eqb l.width first.width) judged.Good (judged.Bad (LineWidth l.width first.width))) (judged.Bad (LineBases l.bases first.bases)))) ≡ judged.Good
+    blank : (t : Bool) → ◌≡◌ {A = Result ⊤ Refusal} (cond t (Err (LineBases 0 first.bases))
+        (cond (leb l.width first.width && leb l.bases first.bases) (Ok tt) (cond (eqb l.bases first.bases) (cond (eqb l.width first.width) (Ok tt) (Err (LineWidth l.width first.width))) (Err (LineBases l.bases first.bases))))) (Ok tt)
         → l.bases ≤ first.bases
-    blank true q = let z : ◌≡◌ {A = ℕ} 0 1 = cc in absurd (omega arith)
+    blank true q = absurd cc
     blank false q = fits (leb l.width first.width && leb l.bases first.bases) refl q
 
 -- good lines behind one are even with it: it is like the first where lines follow, and has no more bases where none does
-even-from : (first : Line) (l : List ℕ) (ls : List (List ℕ)) → (text.none ls ≡ false → line_of l ≡ first) → (line_of l).bases ≤ first.bases → rest_of first ls ≡ judged.Good
+even-from : (first : Line) (l : List ℕ) (ls : List (List ℕ)) → (text.none ls ≡ false → line_of l ≡ first) → (line_of l).bases ≤ first.bases → rest_of first ls ≡ Ok tt
     → EvenLines first.bases first.width (l ∷ ls)
 unfolding rest_of sum_bases
 even-from first l [] same few e = last few refl
@@ -60,16 +60,16 @@ even-from first l (m ∷ ms) same few e =
     let like : text.none ms ≡ false → line_of m ≡ first = λ n. good-same first (line_of m) (rw n at t.0) in
     more (ap (λ (x : Line). x.bases) (same refl)) (ap (λ (x : Line). x.width) (same refl)) (even-from first m ms like (fewer (text.none ms) refl t.0 like) t.1)
   where
-    fewer : (b : Bool) → text.none ms ≡ b → line_says first (text.none ms) (line_of m) ≡ judged.Good → (text.none ms ≡ false → line_of m ≡ first) → (line_of m).bases ≤ first.bases
+    fewer : (b : Bool) → text.none ms ≡ b → line_says first (text.none ms) (line_of m) ≡ Ok tt → (text.none ms ≡ false → line_of m ≡ first) → (line_of m).bases ≤ first.bases
     fewer true n q like = good-last first (line_of m) (rw n at q)
     fewer false n q like = omega (arith, ap (λ (x : Line). x.bases) (like n))
 
 -- the sequence lines of a record are even
-pub even_body : (l : List ℕ) (ls : List (List ℕ)) → rest_of (line_of l) ls ≡ judged.Good → EvenLines (line_of l).bases (line_of l).width (l ∷ ls)
+pub even_body : (l : List ℕ) (ls : List (List ℕ)) → rest_of (line_of l) ls ≡ Ok tt → EvenLines (line_of l).bases (line_of l).width (l ∷ ls)
 even_body l ls e = even-from (line_of l) l ls (λ n. refl) (omega arith) e
 
 -- so the row's numbers lead to every base
-pub bases-lead : (p : ℕ) (l : List ℕ) (ls : List (List ℕ)) → rest_of (line_of l) ls ≡ judged.Good → 0 < (line_of l).bases
+pub bases-lead : (p : ℕ) (l : List ℕ) (ls : List (List ℕ)) → rest_of (line_of l) ls ≡ Ok tt → 0 < (line_of l).bases
     → bases_at p (l ∷ ls) ≡ places_from p (line_of l).bases (line_of l).width 0 (sum_bases (l ∷ ls))
 bases-lead p l ls e z = even-places (line_of l).bases (line_of l).width z p (l ∷ ls) (even_body l ls e)
 
@@ -81,7 +81,7 @@ parted x y xs ys e = (cc, cc)
 -- a line of a file that others follow has its end
 line-ended : (s q m : List ℕ) (ls : List (List ℕ)) → lines s ≡ q ∷ m ∷ ls → ends 10 q ≡ true
 unfolding lines
-line-ended [] q m ls h = let z : ◌≡◌ {A = ℕ} 0 1 = cc in absurd (omega arith)
+line-ended [] q m ls h = absurd cc
 line-ended (b ∷ s) q m ls h = go (ends 10 q) refl
   where
     cut : take (line_len (b ∷ s)) (b ∷ s) ∷ lines (drop (line_len (b ∷ s)) (b ∷ s)) ≡ q ∷ m ∷ ls
@@ -114,19 +114,19 @@ pub record GoodQualities (p : Line) (ps : List Line) (qs : List (List ℕ)) : Ty
   pub rest : List (List ℕ)
   pub is : qs ≡ line ∷ rest
   pub fits : fits_partner p line ≡ true
-  pub good : qualities_of ps rest ≡ judged.Good
+  pub good : qualities_of ps rest ≡ Ok tt
 
-good-qualities : (p : Line) (ps : List Line) (qs : List (List ℕ)) → qualities_of (p ∷ ps) qs ≡ judged.Good → GoodQualities p ps qs
+good-qualities : (p : Line) (ps : List Line) (qs : List (List ℕ)) → qualities_of (p ∷ ps) qs ≡ Ok tt → GoodQualities p ps qs
 unfolding qualities_of
-good-qualities p ps [] e = let z : ◌≡◌ {A = ℕ} 0 1 = cc in absurd (omega arith)
+good-qualities p ps [] e = absurd cc
 good-qualities p ps (q ∷ qs) e = go (fits_partner p q) refl e
   where
-    go : (t : Bool) → fits_partner p q ≡ t → cond t (qualities_of ps qs) (judged.Bad (QualityLine (length (bases_of q)) p.bases)) ≡ judged.Good → GoodQualities p ps (q ∷ qs)
+    go : (t : Bool) → fits_partner p q ≡ t → cond t (qualities_of ps qs) (Err (QualityLine (length (bases_of q)) p.bases)) ≡ Ok tt → GoodQualities p ps (q ∷ qs)
     go true f k = record { line = q; rest = qs; is = refl; fits = f; good = k }
-    go false f k = let z : ◌≡◌ {A = ℕ} 0 1 = cc in absurd (omega arith)
+    go false f k = absurd cc
 
 -- good quality lines have as many bases as their partners
-pub same-bases : (ls qs : List (List ℕ)) → qualities_of (map line_of ls) qs ≡ judged.Good → sum_bases (take (length ls) qs) ≡ sum_bases ls
+pub same-bases : (ls qs : List (List ℕ)) → qualities_of (map line_of ls) qs ≡ Ok tt → sum_bases (take (length ls) qs) ≡ sum_bases ls
 unfolding sum_bases
 same-bases [] qs g = refl
 same-bases (l ∷ ls) qs g =
@@ -134,7 +134,7 @@ same-bases (l ∷ ls) qs g =
     rw (k.is, fits-bases (line_of l) k.line k.fits, same-bases ls k.rest k.good)
 
 -- and where their partners are even, they are even too
-pub even-qualities : (b w : ℕ) (ls : List (List ℕ)) → EvenLines b w ls → (s : List ℕ) → qualities_of (map line_of ls) (lines s) ≡ judged.Good
+pub even-qualities : (b w : ℕ) (ls : List (List ℕ)) → EvenLines b w ls → (s : List ℕ) → qualities_of (map line_of ls) (lines s) ≡ Ok tt
     → EvenLines b w (take (length ls) (lines s))
 unfolding sum_bases
 even-qualities b w ls (none k) s g = none (same-bases ls (lines s) g ∙ k)
@@ -153,8 +153,8 @@ even-qualities b w (l ∷ m ∷ ms) (more k v r) s g =
     rw q.is (more (fits-bases (line_of l) q.line q.fits ∙ k) (fits_width (line_of l) q.line q.fits ended ∙ v) rest)
 
 -- so the same numbers, at the quality position, lead to every quality
-pub qualities-lead : (p : ℕ) (l : List ℕ) (ls : List (List ℕ)) → rest_of (line_of l) ls ≡ judged.Good → 0 < (line_of l).bases
-    → (s : List ℕ) → qualities_of (map line_of (l ∷ ls)) (lines s) ≡ judged.Good
+pub qualities-lead : (p : ℕ) (l : List ℕ) (ls : List (List ℕ)) → rest_of (line_of l) ls ≡ Ok tt → 0 < (line_of l).bases
+    → (s : List ℕ) → qualities_of (map line_of (l ∷ ls)) (lines s) ≡ Ok tt
     → bases_at p (take (length (l ∷ ls)) (lines s)) ≡ places_from p (line_of l).bases (line_of l).width 0 (sum_bases (l ∷ ls))
 qualities-lead p l ls e z s g =
     even-places (line_of l).bases (line_of l).width z p (take (length (l ∷ ls)) (lines s)) (even-qualities (line_of l).bases (line_of l).width (l ∷ ls) (even_body l ls e) s g)

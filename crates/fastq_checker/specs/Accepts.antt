@@ -1,16 +1,14 @@
 -- What it means that an index of six columns is accepted for a FASTQ file, over the file's records and the index's lines, and without the checker's walk.
-use Rattle.std.specs.Prelude.{ℕ, suc, ◌<◌, ◌≡◌, List, [], length, get_or}
+use Rattle.std.specs.Prelude.{ℕ, suc, ◌<◌, ◌≡◌, List, [], length, get_or, Ok}
 use Rattle.lines.specs.Lines.{lines}
 use Rattle.record.specs.Place.{place_in}
 use Rattle.index_line.specs.IndexLine.{name_in}
-use Rattle.table.specs.declared.Stop.TheVariants.{Ended}
 use Rattle.checker.specs.Accepts.{Fit}
 use Rattle.fastq.specs.Parts.{part_of}
 use Rattle.fastq.specs.declared.Part.{Part}
 use Rattle.fastq.specs.declared.QualityRow.{QualityRow}
 use Rattle.fastq_line.specs.SixColumns.{six_line_says, name_of}
 use Rattle.fastq_line.specs.declared.Entry.{Entry}
-use Rattle.fastq_line.specs.declared.LineRead.TheVariants.{Row}
 use Rattle.fastq_index.specs.File.{rows_at}
 use Rattle.fastq_checker.specs.Check.{offsets_of}
 
@@ -28,7 +26,7 @@ record_at xs k = get_or xs k (record {
 -- line number n describes record x of a file, down to the place of every base and of every quality
 pub record Matches (n : ℕ) (f : List ℕ) (x : QualityRow) (l : List ℕ) : Type 0 where
   pub entry : Entry
-  pub reads : six_line_says n l ≡ Row entry
+  pub reads : six_line_says n l ≡ Ok entry
   pub name : name_in f x.«record» ≡ name_of l
   pub count : x.«record».length ≡ entry.row.«record».length
   pub places : (p : Part) (j : ℕ) → j < length (offsets_of f x p) → get_or (offsets_of f x p) j 0 ≡ place_in (part_of p entry.row) j
@@ -41,6 +39,6 @@ MatchesAt f i k = Matches (suc k) f (record_at (records_of f) k) (get_or (lines 
 -- matches its record
 pub record Accepts (f i : List ℕ) : Type 0 where
   pub limits : Fit f i
-  pub taken : (rows_at f 0).stop ≡ Ended
+  pub taken : (rows_at f 0).stop ≡ Ok tt
   pub count : length (lines i) ≡ length (records_of f)
   pub each : (k : ℕ) → k < length (records_of f) → MatchesAt f i k

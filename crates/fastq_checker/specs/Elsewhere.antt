@@ -1,5 +1,5 @@
 -- Where two sets of numbers lead apart, and the laws of its closed form: two rows of bases go together as far as the shorter goes.
-use Rattle.std.specs.Prelude.{ℕ, suc, ◌+◌, ◌-◌, ◌^◌, ◌≤◌, ◌<◌, ◌≡◌, List, Bool, ◌&&◌, ◌||◌, get_or}
+use Rattle.std.specs.Prelude.{ℕ, suc, ◌+◌, ◌-◌, ◌^◌, ◌≤◌, ◌<◌, min, ◌≡◌, List, Bool, ◌&&◌, ◌||◌, get_or, Option, Some, None}
 use Rattle.std.proofs.Math.Path.{refl, sym}
 use Rattle.std.proofs.Common.{ap, ◌∙◌, add-zero, zero-add}
 use Rattle.std.proofs.Math.Bool.{true, false, cond, true≢false}
@@ -7,15 +7,13 @@ use Rattle.std.proofs.Math.Dec.{eqb, ltb}
 use borrow.Author.Tests.{eq-eqb, ne_eqb, eqb-true, eqb-false, ltb-true, ltb-false, lt-ltb, le-ltb}
 use native.Mathlib.Omega.{arith}
 use Rattle.std.proofs.Math.Nat.{zero-mul, div-zero, mod-zero}
+use Rattle.record.specs.declared.Offset.{Offset}
+use Rattle.record.specs.declared.Position.{Position}
 use Rattle.record.specs.Place.{place_of, places_from, place_in}
 use Rattle.record.specs.Laws.{place-first, place-line, place-row, length-places, get_or-places}
 use Rattle.record.specs.declared.Record.{Record}
 use Rattle.walking.specs.Places.{first_elsewhere}
 use Rattle.walking.specs.PlaceLaws.{all_there, first-elsewhere}
-use Rattle.walking.specs.declared.Placed.{Placed}
-use Rattle.walking.specs.declared.Placed.TheVariants.{There, Elsewhere}
-use Rattle.fastq_checker.specs.declared.elsewhere.Apart.{Apart}
-use Rattle.fastq_checker.specs.declared.elsewhere.Apart.TheVariants.{Never, First}
 
 -- ---- definitions
 
@@ -24,12 +22,12 @@ abbrev pub places_of : Record → List ℕ
 places_of x = places_from x.position.0 x.line_bases x.line_width 0 x.length
 
 -- the base that lies elsewhere, without its offset
-abbrev pub base_of : Placed → Apart
-base_of There = Never
-base_of (Elsewhere p o) = First p
+abbrev pub base_of : Option (Position × Offset) → Option Position
+base_of None = None
+base_of (Some (p, o)) = Some p
 
 -- of the bases that lie where the numbers of x say, the first that does not lie where those of y say
-unfoldable pub apart_of : Record → Record → Apart
+unfoldable pub apart_of : Record → Record → Option Position
 apart_of x y = base_of (first_elsewhere (place_in y) 0 (places_of x))
 
 -- ---- rows
@@ -48,6 +46,14 @@ lesser-left a b h = rw (lt-ltb a b h)
 pub lesser-right : (a b : ℕ) → b ≤ a → b ≡ lesser_of a b
 unfolding lesser_of
 lesser-right a b h = rw (le-ltb a b h)
+
+pub lesser-min : (a b : ℕ) → min a b ≡ lesser_of a b
+unfolding lesser_of
+lesser-min a b = go (ltb a b) refl
+  where
+    go : (t : Bool) → ltb a b ≡ t → min a b ≡ cond t a b
+    go true e = omega (arith, ltb-true a b e)
+    go false e = omega (arith, ltb-false a b e)
 
 module _ (b w : ℕ) where
   pub row-none : b ≡ 0 → 2 ^ 64 - 1 ≡ row_bases b w
@@ -113,36 +119,36 @@ module _ (p b w n q c v : ℕ) where
   place-at : (j : ℕ) → j < n → get_or places j 0 ≡ place_of p b w (0 + j)
   place-at j h = get_or-places p b w 0 n j h
 
-  never : ((j : ℕ) → j < n → place_of p b w j ≡ place_of q c v j) → Never ≡ base_of (first_elsewhere (place_of q c v) 0 places)
+  never : ((j : ℕ) → j < n → place_of p b w j ≡ place_of q c v j) → None ≡ base_of (first_elsewhere (place_of q c v) 0 places)
   never h =
       ap base_of
       (all_there (place_of q c v) 0 places
       (λ j m. let k : j < n = rw length-places at m in place-at j k ∙ rw (zero-add j) (h j k)))
 
   first : (k : ℕ) → k < n → ((j : ℕ) → j < k → place_of p b w j ≡ place_of q c v j) → (place_of p b w k ≡ place_of q c v k → ⊥)
-      → First (record { 0 = k + 1 }) ≡ base_of (first_elsewhere (place_of q c v) 0 places)
+      → Some (record { 0 = k + 1 }) ≡ base_of (first_elsewhere (place_of q c v) 0 places)
   first k m h d =
       let e : k + 1 ≡ suc (0 + k) = omega arith in
-      ap (λ (i : ℕ). First (record { 0 = i })) e
+      ap (λ (i : ℕ). Some (record { 0 = i })) e
       ∙ ap base_of
       (first-elsewhere (place_of q c v) 0 k places (rw length-places m)
       (λ j i. place-at j (omega arith) ∙ rw (zero-add j) (h j i))
       (λ g. d (rw (zero-add k) at (sym (place-at k m) ∙ g))))
 
-  pub apart-empty : n ≡ 0 → Never ≡ base_of (first_elsewhere (place_of q c v) 0 places)
+  pub apart-empty : n ≡ 0 → None ≡ base_of (first_elsewhere (place_of q c v) 0 places)
   apart-empty e = never (λ j h. absurd (omega arith))
 
   module _ (some : n ≡ 0 → ⊥) where
-    pub apart-start : (p ≡ q → ⊥) → First (record { 0 = 1 }) ≡ base_of (first_elsewhere (place_of q c v) 0 places)
+    pub apart-start : (p ≡ q → ⊥) → Some (record { 0 = 1 }) ≡ base_of (first_elsewhere (place_of q c v) 0 places)
     apart-start d =
         let e : 0 + 1 ≡ 1 = omega arith in
         rw e at (first 0 (omega arith) (λ j h. absurd (omega arith)) (λ g. d (omega (arith, sym (straight b w p 0 (row_first b w)) ∙ g ∙ straight c v q 0 (row_first c v)))))
 
     module _ (same : p ≡ q) where
-      pub apart-same : (eqb b c && eqb w v) ≡ true → Never ≡ base_of (first_elsewhere (place_of q c v) 0 places)
+      pub apart-same : (eqb b c && eqb w v) ≡ true → None ≡ base_of (first_elsewhere (place_of q c v) 0 places)
       apart-same t = go (eqb b c) refl (eqb w v) refl t
         where
-          go : (s : Bool) → eqb b c ≡ s → (u : Bool) → eqb w v ≡ u → (s && u) ≡ true → Never ≡ base_of (first_elsewhere (place_of q c v) 0 places)
+          go : (s : Bool) → eqb b c ≡ s → (u : Bool) → eqb w v ≡ u → (s && u) ≡ true → None ≡ base_of (first_elsewhere (place_of q c v) 0 places)
           go true e true g k = never (λ j h. rw (same, eqb-true b c e, eqb-true w v g))
           go true e false g k = absurd (true≢false (sym k))
           go false e u g k = absurd (true≢false (sym k))
@@ -159,7 +165,7 @@ module _ (p b w n q c v : ℕ) where
           go true e h = (h, omega (arith, ltb-true (row_bases b w) (row_bases c v) e))
           go false e h = (omega (arith, ltb-false (row_bases b w) (row_bases c v) e), h)
 
-      pub apart-short : n ≤ lesser_of (row_bases b w) (row_bases c v) → Never ≡ base_of (first_elsewhere (place_of q c v) 0 places)
+      pub apart-short : n ≤ lesser_of (row_bases b w) (row_bases c v) → None ≡ base_of (first_elsewhere (place_of q c v) 0 places)
       apart-short h = never (λ j m. let k = lesser-both j (omega arith) in together j k.0 k.1)
 
       module _ (other : (eqb b c && eqb w v) ≡ false) where
@@ -186,5 +192,5 @@ module _ (p b w n q c v : ℕ) where
                 r.2 (omega (arith, sym r.0 ∙ g ∙ straight c v q k (omega (arith, ltb-true (row_bases b w) (row_bases c v) s)), r.1))
             go false s j = behind j (ltb (row_bases c v) (row_bases b w)) refl (ltb-false _ _ s)
 
-        pub apart-row : (k : ℕ) → k ≡ lesser_of (row_bases b w) (row_bases c v) → k < n → n < 2 ^ 64 → First (record { 0 = k + 1 }) ≡ base_of (first_elsewhere (place_of q c v) 0 places)
+        pub apart-row : (k : ℕ) → k ≡ lesser_of (row_bases b w) (row_bases c v) → k < n → n < 2 ^ 64 → Some (record { 0 = k + 1 }) ≡ base_of (first_elsewhere (place_of q c v) 0 places)
         apart-row k e m l = first k m (λ j i. let t = lesser-both j (omega arith) in together j t.0 t.1) (parts k e (omega arith))

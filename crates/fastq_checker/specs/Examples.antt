@@ -1,5 +1,5 @@
 -- Small files and indexes by hand, and what the checker answers. Each is computed.
-use Rattle.std.specs.Prelude.{ℕ, ◌≡◌, refl, List, [], ◌∷◌}
+use Rattle.std.specs.Prelude.{ℕ, ◌≡◌, refl, List, [], ◌∷◌, Ok, Err}
 use Rattle.refusal.specs.declared.Refusal.TheVariants.{LineBases, LineAbsent, BytesLeft, NameDiffers, LengthDiffers, BaseElsewhere, ZeroField}
 use Rattle.refusal.specs.Numbers.{over_limit}
 use Rattle.lines.specs.Lines.{lines, chop, ends, content_of, sum_bases, sum_widths, bases_at, up_from}
@@ -15,7 +15,6 @@ use Rattle.fastq.specs.Fastq.{body_of, from_plus, body_at, line_says, rest_of, s
 use Rattle.fastq.specs.Parts.{part_of}
 use Rattle.fastq_line.specs.SixColumns.{fields_of, content_says, six_line_says, name_of}
 use Rattle.fastq_index.specs.File.{rows_of, rows_at}
-use Rattle.checker.specs.declared.Verdict.TheVariants.{Accepted, Refused}
 use Rattle.fastq_checker.specs.Check.{part_lines, offsets_of, entry_says, record_says, records_say, check_of}
 
 -- @s\nAC\nG\n+\nII\nI\n: three bases from offset 3 on, in lines of 2 bases and 3 bytes; qualities from offset 10 on
@@ -41,16 +40,16 @@ line s n p b w q = s ∷ 9 ∷ n ∷ 9 ∷ p ∷ 9 ∷ b ∷ 9 ∷ w ∷ 9 ∷ 4
 --   nothing           no line
 --   the first twice   a line is left
 -- and of a file that the indexer refuses, what it refuses, whatever the index is
-pub examples : (check_of file (line 115 51 51 50 51 48) ≡ Accepted)
-    × (check_of file (line 115 51 51 50 51 49) ≡ Refused (BaseElsewhere 1 1))
-    × (check_of file (line 115 51 51 50 52 49) ≡ Refused (BaseElsewhere 1 3))
-    × (check_of file (line 115 51 51 57 57 48) ≡ Refused (BaseElsewhere 1 3))
-    × (check_of file (line 116 51 51 50 51 49) ≡ Refused (NameDiffers 1))
-    × (check_of file (line 115 50 51 50 51 49) ≡ Refused (LengthDiffers 1))
-    × (check_of file (line 115 51 51 48 51 48) ≡ Refused (ZeroField 1 4))
-    × (check_of file [] ≡ Refused (LineAbsent 1))
-    × (check_of file (115 ∷ 9 ∷ 51 ∷ 9 ∷ 51 ∷ 9 ∷ 50 ∷ 9 ∷ 51 ∷ 9 ∷ 49 ∷ 48 ∷ 10 ∷ line 115 51 51 50 51 48) ≡ Refused (BytesLeft 1))
-    × (check_of longer [] ≡ Refused (LineBases 3 2))
-    × (check_of [] [] ≡ Accepted)
+pub examples : (check_of file (line 115 51 51 50 51 48) ≡ Ok tt)
+    × (check_of file (line 115 51 51 50 51 49) ≡ Err (BaseElsewhere 1 1))
+    × (check_of file (line 115 51 51 50 52 49) ≡ Err (BaseElsewhere 1 3))
+    × (check_of file (line 115 51 51 57 57 48) ≡ Err (BaseElsewhere 1 3))
+    × (check_of file (line 116 51 51 50 51 49) ≡ Err (NameDiffers 1))
+    × (check_of file (line 115 50 51 50 51 49) ≡ Err (LengthDiffers 1))
+    × (check_of file (line 115 51 51 48 51 48) ≡ Err (ZeroField 1 4))
+    × (check_of file [] ≡ Err (LineAbsent 1))
+    × (check_of file (115 ∷ 9 ∷ 51 ∷ 9 ∷ 51 ∷ 9 ∷ 50 ∷ 9 ∷ 51 ∷ 9 ∷ 49 ∷ 48 ∷ 10 ∷ line 115 51 51 50 51 48) ≡ Err (BytesLeft 1))
+    × (check_of longer [] ≡ Err (LineBases 3 2))
+    × (check_of [] [] ≡ Ok tt)
 unfolding check_of over_limit rows_at rows_of record_at sequence_says sequence_of rest_of line_says fits_last body_at body_of from_plus qualities_of fits_partner lines chop ends content_of sum_bases sum_widths bases_at up_from same_bytes marked_says is_space run keep fails_at refusal_of place_of cut_at numbers_from field_says all_digits value_from number_from digits_of number_of plain_number plain_end name_in first_elsewhere part_of fields_of content_says six_line_says name_of part_lines offsets_of entry_says record_says records_say
 examples = (refl, refl, refl, refl, refl, refl, refl, refl, refl, refl, refl)

@@ -1,5 +1,5 @@
 -- Laws of one record against its line: each way of the code through them ends with what they say.
-use Rattle.std.specs.Prelude.{ℕ, ◌+◌, ◌-◌, ◌≤◌, ◌<◌, Bool, drop}
+use Rattle.std.specs.Prelude.{ℕ, ◌+◌, ◌-◌, ◌≤◌, ◌<◌, Bool, drop, Option, Some, None, Result, Ok, Err, ⊤}
 use Rattle.std.proofs.Math.Path.{◌≡◌, refl}
 use Rattle.std.proofs.Common.{◌∙◌, drop_of_length-le, arith}
 use mathlib.Core.List.{List, [], ◌∷◌}
@@ -7,6 +7,7 @@ use Rattle.std.proofs.Math.Bool.{true, false}
 use Rattle.std.proofs.Math.ListN.{length}
 use Rattle.std.proofs.Math.Dec.{ltb}
 use Rattle.std.proofs.Math.Seq.{take-nil}
+use Rattle.record.specs.declared.Offset.{Offset}
 use borrow.Author.Tests.{eq-eqb, ne_eqb, ltb-true, ltb-false}
 use Rattle.refusal.specs.declared.Refusal.{Refusal}
 use Rattle.refusal.specs.declared.Refusal.TheVariants.{LineAbsent, LengthDiffers, NameDiffers, BaseElsewhere}
@@ -17,65 +18,59 @@ use Rattle.record.specs.Place.{place_in}
 use Rattle.record.specs.declared.Position.{Position}
 use Rattle.index_line.specs.IndexLine.{name_in}
 use Rattle.walking.specs.Places.{first_elsewhere}
-use Rattle.walking.specs.declared.Placed.{Placed}
-use Rattle.walking.specs.declared.Placed.TheVariants.{There, Elsewhere}
 use Rattle.fastq.specs.Parts.{part_of}
 use Rattle.fastq.specs.declared.Part.{Part}
 use Rattle.fastq.specs.declared.Part.TheVariants.{Bases, Qualities}
 use Rattle.fastq.specs.declared.QualityRow.{QualityRow}
 use Rattle.fastq_line.specs.SixColumns.{six_line_says}
 use Rattle.fastq_line.specs.declared.Entry.{Entry}
-use Rattle.fastq_line.specs.declared.LineRead.TheVariants as read
 use Rattle.checker.specs.Check.{and_then}
 use Rattle.checker.specs.Steps.{only_line}
-use Rattle.checker.specs.declared.Verdict.{Verdict}
-use Rattle.checker.specs.declared.Verdict.TheVariants.{Accepted, Refused}
 use Rattle.fastq_checker.specs.Check.{places_say, entry_says, line_judged, record_says}
 use Rattle.fastq_checker.specs.Elsewhere.{places_of, base_of, apart_of}
 use Rattle.fastq_checker.specs.Taken.{Taken}
 use Rattle.fastq_checker.specs.Named.{line-named}
 use Rattle.fastq_checker.specs.Steps.{part_says_of, parts_say, judged_as}
-use Rattle.fastq_checker.specs.declared.elsewhere.Apart.TheVariants.{Never, First}
 use Rattle.fastq_checker.specs.declared.Place.{Place}
 use Rattle.fastq_checker.specs.declared.Step.TheVariants as step
 
 -- ---- the parts of a record
 
 module _ (n : ℕ) (x y : QualityRow) (p : Part) where
-  pub part-never : apart_of (part_of p x) (part_of p y) ≡ Never → Accepted ≡ part_says_of n x y p
+  pub part-never : apart_of (part_of p x) (part_of p y) ≡ None → Ok tt ≡ part_says_of n x y p
   unfolding apart_of part_says_of
   part-never e = go (first_elsewhere (place_in (part_of p y)) 0 (places_of (part_of p x))) e
     where
-      go : (v : Placed) → base_of v ≡ Never → Accepted ≡ places_say n v Accepted
-      go There q = refl
-      go (Elsewhere a o) q = let z : ◌≡◌ {A = ℕ} 0 1 = cc in absurd (omega arith)
+      go : (v : Option (Position × Offset)) → base_of v ≡ None → Ok tt ≡ places_say n v (Ok tt)
+      go None q = refl
+      go (Some (a, o)) q = let z : ◌≡◌ {A = ℕ} 0 1 = cc in absurd (omega arith)
 
-  pub part-first : (a : Position) → apart_of (part_of p x) (part_of p y) ≡ First a → Refused (BaseElsewhere n a.0) ≡ part_says_of n x y p
+  pub part-first : (a : Position) → apart_of (part_of p x) (part_of p y) ≡ Some a → Err (BaseElsewhere n a.0) ≡ part_says_of n x y p
   unfolding apart_of part_says_of
   part-first a e = go (first_elsewhere (place_in (part_of p y)) 0 (places_of (part_of p x))) e
     where
-      go : (v : Placed) → base_of v ≡ First a → Refused (BaseElsewhere n a.0) ≡ places_say n v Accepted
-      go There q = let z : ◌≡◌ {A = ℕ} 0 1 = cc in absurd (omega arith)
-      go (Elsewhere b o) q = let s : a ≡ b = cc in rw s
+      go : (v : Option (Position × Offset)) → base_of v ≡ Some a → Err (BaseElsewhere n a.0) ≡ places_say n v (Ok tt)
+      go None q = let z : ◌≡◌ {A = ℕ} 0 1 = cc in absurd (omega arith)
+      go (Some (b, o)) q = let s : a ≡ b = cc in rw s
 
 module _ (n : ℕ) (x y : QualityRow) where
-  pub parts-refused : (r : Refusal) → part_says_of n x y Bases ≡ Refused r → Refused r ≡ parts_say n x y
+  pub parts-refused : (r : Refusal) → part_says_of n x y Bases ≡ Err r → Err r ≡ parts_say n x y
   unfolding parts_say
   parts-refused r e = rw e
 
-  pub parts-on : part_says_of n x y Bases ≡ Accepted → part_says_of n x y Qualities ≡ parts_say n x y
+  pub parts-on : part_says_of n x y Bases ≡ Ok tt → part_says_of n x y Qualities ≡ parts_say n x y
   unfolding parts_say
   parts-on e = rw e
 
 -- ---- a record against what its line says
 
 module _ (n : ℕ) (f : List ℕ) (x : QualityRow) (named : List ℕ) (y : QualityRow) (s : Bool) (h : s ≡ same_bytes (name_in f x.«record») named) where
-  pub entry-name : s ≡ false → Refused (NameDiffers n) ≡ entry_says n f x named y
+  pub entry-name : s ≡ false → Err (NameDiffers n) ≡ entry_says n f x named y
   unfolding entry_says
   entry-name e = rw (← h, e)
 
   module _ (t : s ≡ true) where
-    pub entry_length : (x.«record».length ≡ y.«record».length → ⊥) → Refused (LengthDiffers n) ≡ entry_says n f x named y
+    pub entry_length : (x.«record».length ≡ y.«record».length → ⊥) → Err (LengthDiffers n) ≡ entry_says n f x named y
     unfolding entry_says
     entry_length e = rw (← h, t, ne_eqb x.«record».length y.«record».length e)
 
@@ -85,15 +80,15 @@ module _ (n : ℕ) (f : List ℕ) (x : QualityRow) (named : List ℕ) (y : Quali
         rw (← h, t, eq-eqb x.«record».length y.«record».length e, k.leads Bases, k.leads Qualities)
         (go (first_elsewhere (place_in (part_of Bases y)) 0 (places_of (part_of Bases x))))
       where
-        go : (v : Placed) → let u : Verdict = places_say n (first_elsewhere (place_in (part_of Qualities y)) 0 (places_of (part_of Qualities x))) Accepted in
-            and_then (places_say n v Accepted) u ≡ places_say n v u
-        go There = refl
-        go (Elsewhere a o) = refl
+        go : (v : Option (Position × Offset)) → let u : Result ⊤ Refusal = places_say n (first_elsewhere (place_in (part_of Qualities y)) 0 (places_of (part_of Qualities x))) (Ok tt) in
+            and_then (places_say n v (Ok tt)) u ≡ places_say n v u
+        go None = refl
+        go (Some (a, o)) = refl
 
 -- ---- a record against its line
 
 module _ (n : ℕ) (f : List ℕ) (x : QualityRow) where
-  pub record-absent : (l : List ℕ) → length l ≡ 0 → Refused (LineAbsent n) ≡ record_says n f x (only_line l)
+  pub record-absent : (l : List ℕ) → length l ≡ 0 → Err (LineAbsent n) ≡ record_says n f x (only_line l)
   unfolding record_says only_line
   record-absent [] e = refl
   record-absent (b ∷ l) e = absurd (omega arith)
@@ -104,10 +99,10 @@ module _ (n : ℕ) (f : List ℕ) (x : QualityRow) where
   with-line (b ∷ l) z = refl
 
   module _ (l : List ℕ) (z : length l ≡ 0 → ⊥) where
-    pub record-line : (r : Refusal) → six_line_says n l ≡ read.Refused r → Refused r ≡ record_says n f x (only_line l)
+    pub record-line : (r : Refusal) → six_line_says n l ≡ Err r → Err r ≡ record_says n f x (only_line l)
     record-line r e = rw (with-line l z, e)
 
-    pub record-entry : (e : Entry) → six_line_says n l ≡ read.Row e → entry_says n f x (name_in l e.row.«record») e.row ≡ record_says n f x (only_line l)
+    pub record-entry : (e : Entry) → six_line_says n l ≡ Ok e → entry_says n f x (name_in l e.row.«record») e.row ≡ record_says n f x (only_line l)
     record-entry e h = rw (with-line l z, h, (line-named n l e h).name)
 
   -- only the first of the lines that are left matters
@@ -132,15 +127,15 @@ module _ (n : ℕ) (f : List ℕ) (x : QualityRow) where
       go false e = rw (drop_of_length-le i (ltb-false _ _ e), take-nil {A = ℕ} (a + 0 - a))
 
   -- by what the code finds of the line at a place
-  module _ (i : List ℕ) (a e : ℕ) (h : a ≤ length i) (q : e ≡ line_end i a) (v : Verdict) (k : v ≡ record_says n f x (only_line (part i a e))) where
+  module _ (i : List ℕ) (a e : ℕ) (h : a ≤ length i) (q : e ≡ line_end i a) (v : Result ⊤ Refusal) (k : v ≡ record_says n f x (only_line (part i a e))) where
     is-here : v ≡ record_says n f x (lines (drop a i))
     is-here = k ∙ rw q (next-line i a h)
 
-    pub row-refused : (next : Place) (r : Refusal) → v ≡ Refused r → step.Refused r ≡ judged_as (record_says n f x (lines (drop a i))) next
+    pub row-refused : (next : Place) (r : Refusal) → v ≡ Err r → step.Refused r ≡ judged_as (record_says n f x (lines (drop a i))) next
     unfolding judged_as
     row-refused next r g = rw (← is-here, g)
 
-    pub row_next : (b : ℕ) → v ≡ Accepted
+    pub row_next : (b : ℕ) → v ≡ Ok tt
         → step.Next (record { fastq = b; index = e; records = n }) ≡ judged_as (record_says n f x (lines (drop a i))) (record { fastq = b; index = line_end i a; records = n })
     unfolding judged_as
     row_next b g = rw (← is-here, g, q)

@@ -1,15 +1,14 @@
 -- Laws of a part's walk: from place to place it stops at the same place, and where no record is accepted it stays.
 use Prim.Native.Nat.{ℕ, zero, suc, ◌-◌, ◌≤◌, ◌<◌}
-use Rattle.std.specs.Prelude.{◌≡◌, List, Bool, true, false, cond, length, ltb}
+use Rattle.std.specs.Prelude.{◌≡◌, List, Bool, true, false, cond, length, ltb, Option, Some, None, Result, Ok, Err}
 use Rattle.std.proofs.Math.Path.{refl, ap, sym}
 use Rattle.std.proofs.Common.{◌∙◌, drop_of_length-le, lt-ltb, ltb-true, arith}
+use Rattle.fastq.specs.declared.QualityRow.{QualityRow}
 use Rattle.refusal.specs.Numbers.{over_limit}
 use Rattle.refusal.specs.declared.Refusal.{Refusal}
 use Rattle.refusal.specs.declared.Refusal.TheVariants.{TooLong}
 use Rattle.lines.specs.Lines.{lines}
 use Rattle.fastq.specs.Fastq.{record_at}
-use Rattle.fastq.specs.declared.Indexed.{Indexed}
-use Rattle.fastq.specs.declared.Indexed.TheVariants as indexed
 use Rattle.fastq_checker.specs.Check.{record_says}
 use Rattle.fastq_checker.specs.Steps.{judged_as, step_from, step_of}
 use Rattle.fastq_checker.specs.WalkLaws.{stepped}
@@ -17,7 +16,6 @@ use Rattle.fastq_checker.specs.Part.{on_from, on_before, walked_by, walked, reac
 use Rattle.fastq_checker.specs.declared.Place.{Place}
 use Rattle.fastq_checker.specs.declared.Step.{Step}
 use Rattle.fastq_checker.specs.declared.Step.TheVariants as step
-use Rattle.fastq_checker.specs.declared.PartChecked.TheVariants.{Refused}
 
 module _ (f i : List ℕ) (to : ℕ) where
   -- what holds where the place stays, and behind a record that is accepted, holds one record on
@@ -100,20 +98,20 @@ module _ (f i : List ℕ) (to : ℕ) where
   unfolding step_of record_says judged_as lines
   walk-lineless w h = stops w (go (record_at f w.fastq).answer)
     where
-      go : (a : Indexed) → on_from w (step_from f i w a (record_at f w.fastq).next) ≡ w
-      go (indexed.Row x) = rw (drop_of_length-le i h)
-      go indexed.End = refl
-      go (indexed.Refused y) = refl
+      go : (a : Result (Option QualityRow) Refusal) → on_from w (step_from f i w a (record_at f w.fastq).next) ≡ w
+      go (Ok (Some x)) = rw (drop_of_length-le i h)
+      go (Ok None) = refl
+      go (Err y) = refl
 
 -- ---- the call
 
 module _ (f : List ℕ) (from to : ℕ) (i : List ℕ) (first : ℕ) where
-  pub part-long : over_limit (length f) ≡ true → Refused TooLong ≡ part_checked f from to i first
+  pub part-long : over_limit (length f) ≡ true → Err TooLong ≡ part_checked f from to i first
   unfolding part_checked
   part-long h = rw h
 
   module _ (h : over_limit (length f) ≡ false) where
-    pub part-long-index : over_limit (length i) ≡ true → Refused TooLong ≡ part_checked f from to i first
+    pub part-long-index : over_limit (length i) ≡ true → Err TooLong ≡ part_checked f from to i first
     unfolding part_checked
     part-long-index k = rw (h, k)
 

@@ -1,5 +1,5 @@
 -- What is known of a record that the indexer takes: its name lies in the file, and its numbers lead to every base and to every quality.
-use Rattle.std.specs.Prelude.{ℕ, ◌+◌, ◌≤◌, ◌<◌, ◌≡◌, List, ◌∷◌, map, length, drop}
+use Rattle.std.specs.Prelude.{ℕ, ◌+◌, ◌≤◌, ◌<◌, ◌≡◌, List, ◌∷◌, map, length, drop, Some, Ok}
 use Rattle.std.proofs.Common.{◌∙◌, drop-drop, arith}
 use Rattle.lines.specs.declared.Span.{Span}
 use Rattle.lines.specs.Lines.{line_end, sum_widths}
@@ -14,8 +14,6 @@ use Rattle.fastq.specs.Parts.{part_of}
 use Rattle.fastq.specs.declared.Part.{Part}
 use Rattle.fastq.specs.declared.Part.TheVariants.{Bases, Qualities}
 use Rattle.fastq.specs.declared.QualityRow.{QualityRow}
-use Rattle.fastq.specs.declared.Verdict.TheVariants as judged
-use Rattle.fastq.specs.declared.Indexed.TheVariants as indexed
 use Rattle.fastq_index.specs.Taken.{def_at, record-taken}
 use Rattle.fastq_checker.specs.Check.{part_lines, offsets_of}
 use Rattle.fastq_checker.specs.Elsewhere.{places_of}
@@ -29,7 +27,7 @@ module _ (f : List ℕ) (at n : ℕ) (name : Span) (l : List ℕ) (ls : List (Li
   abbrev behind : ℕ
   behind = at + n + sum_widths (l ∷ ls) + length p
 
-  row-leads : body_at f (at + n) ≡ l ∷ ls → 0 < (line_of l).bases → rest_of (line_of l) ls ≡ judged.Good → lines_at f behind ≡ qs → qualities_of (map line_of (l ∷ ls)) qs ≡ judged.Good
+  row-leads : body_at f (at + n) ≡ l ∷ ls → 0 < (line_of l).bases → rest_of (line_of l) ls ≡ Ok tt → lines_at f behind ≡ qs → qualities_of (map line_of (l ∷ ls)) qs ≡ Ok tt
       → (w : Part) → offsets_of f (row_for at n name (l ∷ ls) (length p)) w ≡ places_of (part_of w (row_for at n name (l ∷ ls) (length p)))
   unfolding offsets_of part_lines part_of
   row-leads b some good k g Bases = rw b (bases-lead (at + n) l ls good some)
@@ -42,7 +40,7 @@ quality-lines f at p qs e =
     (lines-behind (drop (at + sum_widths (body_at f at)) f) p qs (lines-plus f at ∙ e))
 
 -- a record that the indexer takes, by its lines
-pub taken : (f : List ℕ) (at : ℕ) (x : QualityRow) → (record_at f at).answer ≡ indexed.Row x → Taken f x
+pub taken : (f : List ℕ) (at : ℕ) (x : QualityRow) → (record_at f at).answer ≡ Ok (Some x) → Taken f x
 unfolding body_at
 taken f at x e =
     let t = record-taken f at x e in

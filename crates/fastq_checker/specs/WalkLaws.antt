@@ -1,6 +1,6 @@
 -- Laws of the checker's walk: from place to place, what the records and the lines from there on lead to stays.
 use Prim.Native.Nat.{ℕ, ◌+◌, ◌≤◌, ◌<◌}
-use Rattle.std.specs.Prelude.{◌≡◌, List, [], ◌∷◌, Bool, true, false, length, drop, ltb}
+use Rattle.std.specs.Prelude.{◌≡◌, List, [], ◌∷◌, Bool, true, false, length, drop, ltb, Option, Some, None, Result, Ok, Err, ⊤}
 use Rattle.std.proofs.Math.Path.{refl, sym}
 use Rattle.std.proofs.Common.{ap, ◌∙◌, drop_of_length-le, ltb-true, ltb-false, arith, add-one, add-zero}
 use Rattle.refusal.specs.declared.Refusal.{Refusal}
@@ -8,19 +8,13 @@ use Rattle.refusal.specs.declared.Refusal.TheVariants.{TooLong, BytesLeft}
 use Rattle.refusal.specs.Numbers.{over_limit}
 use Rattle.lines.specs.Lines.{line_len, line_end, lines, tail_of}
 use Rattle.lines.specs.Laws.{lines_at-cut, line_end-le}
-use Rattle.table.specs.declared.Stop.{Stop}
-use Rattle.table.specs.declared.Stop.TheVariants as stop
 use Rattle.fastq.specs.Fastq.{record_at}
 use Rattle.fastq.specs.declared.QualityRow.{QualityRow}
-use Rattle.fastq.specs.declared.Indexed.{Indexed}
-use Rattle.fastq.specs.declared.Indexed.TheVariants as indexed
 use Rattle.fastq.specs.declared.Step as fastq
 use Rattle.fastq_table.specs.Fill.{Found, nothing, with_first}
 use Rattle.fastq_index.specs.File.{rows_at}
 use Rattle.fastq_index.specs.FileLaws.{file-row, file-end, file-refused}
 use Rattle.checker.specs.Check.{and_then}
-use Rattle.checker.specs.declared.Verdict.{Verdict}
-use Rattle.checker.specs.declared.Verdict.TheVariants.{Accepted, Refused}
 use Rattle.fastq_checker.specs.Check.{record_says, records_say, file_says, check_of}
 use Rattle.fastq_checker.specs.Taken.{Taken, taken}
 use Rattle.fastq_checker.specs.Steps.{stop_then, place_behind, judged_as, step_from, step_of, check_at}
@@ -31,43 +25,43 @@ use Rattle.fastq_checker.specs.declared.Step.TheVariants as step
 -- ---- what the indexer refuses
 
 module _ (f : List ℕ) (at : ℕ) (r : fastq.Step) (h : r ≡ record_at f at) where
-  pub stop-on : (x : QualityRow) → r.answer ≡ indexed.Row x → ((rows_at f r.next).stop ≡ (rows_at f at).stop) × (at < length f) × (at < r.next)
+  pub stop-on : (x : QualityRow) → r.answer ≡ Ok (Some x) → ((rows_at f r.next).stop ≡ (rows_at f at).stop) × (at < length f) × (at < r.next)
   stop-on x e = let k = file-row f at r h x e in (sym (ap (λ (g : Found). g.stop) k.0), k.1, k.2)
 
-  pub stop-end : r.answer ≡ indexed.End → Accepted ≡ stop_then (rows_at f at).stop Accepted
+  pub stop-end : r.answer ≡ Ok None → Ok tt ≡ stop_then (rows_at f at).stop (Ok tt)
   unfolding stop_then
-  stop-end e = sym (ap (λ (g : Found). stop_then g.stop Accepted) (file-end f at r h e))
+  stop-end e = sym (ap (λ (g : Found). stop_then g.stop (Ok tt)) (file-end f at r h e))
 
-  pub stop-refused : (y : Refusal) → r.answer ≡ indexed.Refused y → Refused y ≡ stop_then (rows_at f at).stop Accepted
+  pub stop-refused : (y : Refusal) → r.answer ≡ Err y → Err y ≡ stop_then (rows_at f at).stop (Ok tt)
   unfolding stop_then
-  stop-refused y e = sym (ap (λ (g : Found). stop_then g.stop Accepted) (file-refused f at r h y e))
+  stop-refused y e = sym (ap (λ (g : Found). stop_then g.stop (Ok tt)) (file-refused f at r h y e))
 
-pub rest-refused : (s : Stop) (r : Refusal) (v : Verdict) → stop_then s Accepted ≡ Refused r → Refused r ≡ stop_then s v
+pub rest-refused : (s : Result ⊤ Refusal) (r : Refusal) (v : Result ⊤ Refusal) → stop_then s (Ok tt) ≡ Err r → Err r ≡ stop_then s v
 unfolding stop_then
-rest-refused stop.Ended r v e = let z : ◌≡◌ {A = ℕ} 0 1 = cc in absurd (omega arith)
-rest-refused (stop.Refused y) r v e = sym e
+rest-refused (Ok _) r v e = let z : ◌≡◌ {A = ℕ} 0 1 = cc in absurd (omega arith)
+rest-refused (Err y) r v e = sym e
 
-pub rest-taken : (s : Stop) (v : Verdict) → stop_then s Accepted ≡ Accepted → v ≡ stop_then s v
+pub rest-taken : (s : Result ⊤ Refusal) (v : Result ⊤ Refusal) → stop_then s (Ok tt) ≡ Ok tt → v ≡ stop_then s v
 unfolding stop_then
-rest-taken stop.Ended v e = refl
-rest-taken (stop.Refused y) v e = let z : ◌≡◌ {A = ℕ} 0 1 = cc in absurd (omega arith)
+rest-taken (Ok _) v e = refl
+rest-taken (Err y) v e = let z : ◌≡◌ {A = ℕ} 0 1 = cc in absurd (omega arith)
 
 -- ---- the record at a place
 
-pub row-taken : (f : List ℕ) (at : ℕ) (r : fastq.Step) → r ≡ record_at f at → (x : QualityRow) → r.answer ≡ indexed.Row x → (at < length f) × Taken f x
+pub row-taken : (f : List ℕ) (at : ℕ) (r : fastq.Step) → r ≡ record_at f at → (x : QualityRow) → r.answer ≡ Ok (Some x) → (at < length f) × Taken f x
 row-taken f at r h x e = ((file-row f at r h x e).1, taken f at x (rw h at e))
 
 module _ (f i : List ℕ) (w : Place) (r : fastq.Step) (h : r ≡ record_at f w.fastq) where
-  pub step_row : (x : QualityRow) → r.answer ≡ indexed.Row x
+  pub step_row : (x : QualityRow) → r.answer ≡ Ok (Some x)
       → judged_as (record_says (w.records + 1) f x (lines (drop w.index i))) (place_behind i w r.next) ≡ step_of f i w
   unfolding step_of
   step_row x e = rw (← h, e)
 
-  pub step_end : r.answer ≡ indexed.End → step.End ≡ step_of f i w
+  pub step_end : r.answer ≡ Ok None → step.End ≡ step_of f i w
   unfolding step_of
   step_end e = rw (← h, e)
 
-  pub step-stopped : (y : Refusal) → r.answer ≡ indexed.Refused y → step.Stopped y ≡ step_of f i w
+  pub step-stopped : (y : Refusal) → r.answer ≡ Err y → step.Stopped y ≡ step_of f i w
   unfolding step_of
   step-stopped y e = rw (← h, e)
 
@@ -88,11 +82,11 @@ records-none k f [] = refl
 records-none k f (l ∷ ls) = refl
 
 -- what a step leads to
-abbrev after : List ℕ → List ℕ → Place → Step → Verdict
+abbrev after : List ℕ → List ℕ → Place → Step → Result ⊤ Refusal
 after f i w (step.Next n) = check_at f i n
 after f i w step.End = records_say w.records [] [] (lines (drop w.index i))
-after f i w (step.Stopped y) = Refused y
-after f i w (step.Refused x) = stop_then (rows_at f w.fastq).stop (Refused x)
+after f i w (step.Stopped y) = Err y
+after f i w (step.Refused x) = stop_then (rows_at f w.fastq).stop (Err x)
 
 module _ (f i : List ℕ) (w : Place) where
   -- what is found from the place on, with what is found behind its record
@@ -101,11 +95,11 @@ module _ (f i : List ℕ) (w : Place) where
   check-found g e = rw e
 
   -- a record that is judged
-  check-judged : (g : Found) (v : Verdict) (n : Place) → (rows_at f w.fastq).stop ≡ g.stop → rows_at f n.fastq ≡ g
+  check-judged : (g : Found) (v : Result ⊤ Refusal) (n : Place) → (rows_at f w.fastq).stop ≡ g.stop → rows_at f n.fastq ≡ g
       → stop_then g.stop (and_then v (records_say n.records f g.rows (lines (drop n.index i)))) ≡ after f i w (judged_as v n)
   unfolding judged_as check_at
-  check-judged g Accepted n s e = rw e
-  check-judged g (Refused x) n s e = rw s
+  check-judged g (Ok _) n s e = rw e
+  check-judged g (Err x) n s e = rw s
 
   check-step : check_at f i w ≡ after f i w (step_of f i w)
   unfolding step_of records_say stop_then
@@ -114,19 +108,19 @@ module _ (f i : List ℕ) (w : Place) where
       next : ℕ
       next = (record_at f w.fastq).next
 
-      go : (a : Indexed) → (record_at f w.fastq).answer ≡ a → check_at f i w ≡ after f i w (step_from f i w a (record_at f w.fastq).next)
-      go (indexed.Row x) e =
+      go : (a : Result (Option QualityRow) Refusal) → (record_at f w.fastq).answer ≡ a → check_at f i w ≡ after f i w (step_from f i w a (record_at f w.fastq).next)
+      go (Ok (Some x)) e =
           let k = (file-row f w.fastq (record_at f w.fastq) refl x e).0 in
           check-found (with_first x (rows_at f next)) k
           ∙ rw (lines-tail i w.index, ← add-one w.records)
           (check-judged (rows_at f next) (record_says (w.records + 1) f x (lines (drop w.index i))) (place_behind i w next) (ap (λ (g : Found). g.stop) k) refl)
-      go indexed.End e = check-found (nothing stop.Ended) (file-end f w.fastq (record_at f w.fastq) refl e) ∙ records-none w.records f (lines (drop w.index i))
-      go (indexed.Refused y) e = check-found (nothing (stop.Refused y)) (file-refused f w.fastq (record_at f w.fastq) refl y e)
+      go (Ok None) e = check-found (nothing (Ok tt)) (file-end f w.fastq (record_at f w.fastq) refl e) ∙ records-none w.records f (lines (drop w.index i))
+      go (Err y) e = check-found (nothing (Err y)) (file-refused f w.fastq (record_at f w.fastq) refl y e)
 
-  pub check-refused : (x : Refusal) → step_of f i w ≡ step.Refused x → stop_then (rows_at f w.fastq).stop (Refused x) ≡ check_at f i w
+  pub check-refused : (x : Refusal) → step_of f i w ≡ step.Refused x → stop_then (rows_at f w.fastq).stop (Err x) ≡ check_at f i w
   check-refused x e = sym (check-step ∙ ap (after f i w) e)
 
-  pub check-stopped : (y : Refusal) → step_of f i w ≡ step.Stopped y → Refused y ≡ check_at f i w
+  pub check-stopped : (y : Refusal) → step_of f i w ≡ step.Stopped y → Err y ≡ check_at f i w
   check-stopped y e = sym (check-step ∙ ap (after f i w) e)
 
   pub check-on : (n : Place) → step_of f i w ≡ step.Next n → check_at f i n ≡ check_at f i w
@@ -148,18 +142,18 @@ pub stepped : (f i : List ℕ) (w n : Place) → step_of f i w ≡ step.Next n �
 unfolding step_of judged_as
 stepped f i w n e = go (record_at f w.fastq).answer refl e
   where
-    next : (v : Verdict) (m : Place) → judged_as v m ≡ step.Next n → n ≡ m
-    next Accepted m q = cc
-    next (Refused y) m q = let z : ◌≡◌ {A = ℕ} 0 1 = cc in absurd (omega arith)
+    next : (v : Result ⊤ Refusal) (m : Place) → judged_as v m ≡ step.Next n → n ≡ m
+    next (Ok _) m q = cc
+    next (Err y) m q = let z : ◌≡◌ {A = ℕ} 0 1 = cc in absurd (omega arith)
 
-    go : (a : Indexed) → (record_at f w.fastq).answer ≡ a → step_from f i w a (record_at f w.fastq).next ≡ step.Next n
+    go : (a : Result (Option QualityRow) Refusal) → (record_at f w.fastq).answer ≡ a → step_from f i w a (record_at f w.fastq).next ≡ step.Next n
         → (w.fastq < length f) × (w.fastq < n.fastq) × (n ≡ place_behind i w n.fastq)
-    go (indexed.Row x) h q =
+    go (Ok (Some x)) h q =
         let p = next (record_says (w.records + 1) f x (lines (drop w.index i))) (place_behind i w (record_at f w.fastq).next) q in
         let k = file-row f w.fastq (record_at f w.fastq) refl x h in
         rw p (k.1, k.2, refl)
-    go indexed.End h q = let z : ◌≡◌ {A = ℕ} 0 1 = cc in absurd (omega arith)
-    go (indexed.Refused y) h q = let z : ◌≡◌ {A = ℕ} 0 1 = cc in absurd (omega arith)
+    go (Ok None) h q = let z : ◌≡◌ {A = ℕ} 0 1 = cc in absurd (omega arith)
+    go (Err y) h q = let z : ◌≡◌ {A = ℕ} 0 1 = cc in absurd (omega arith)
 
 pub check-next : (f i : List ℕ) (w n : Place) → w.index ≤ length i → step_of f i w ≡ step.Next n → Moved f i w n
 check-next f i w n h e =
@@ -176,30 +170,30 @@ pub check-start : (f i : List ℕ) → check_at f i (record { fastq = 0; index =
 unfolding check_at stop_then
 check-start f i = go (rows_at f 0).stop
   where
-    go : (s : Stop) → stop_then s (records_say 0 f (rows_at f 0).rows (lines i)) ≡ file_says f (lines i) (rows_at f 0).rows s
-    go stop.Ended = refl
-    go (stop.Refused y) = refl
+    go : (s : Result ⊤ Refusal) → stop_then s (records_say 0 f (rows_at f 0).rows (lines i)) ≡ file_says f (lines i) (rows_at f 0).rows s
+    go (Ok _) = refl
+    go (Err y) = refl
 
 -- ---- what is left of the index
 
 module _ (i : List ℕ) (at k : ℕ) where
-  pub left-some : at < length i → Refused (BytesLeft k) ≡ records_say k [] [] (lines (drop at i))
+  pub left-some : at < length i → Err (BytesLeft k) ≡ records_say k [] [] (lines (drop at i))
   unfolding records_say
   left-some h = rw (lines_at-cut i at h)
 
-  pub left-none : length i ≤ at → Accepted ≡ records_say k [] [] (lines (drop at i))
+  pub left-none : length i ≤ at → Ok tt ≡ records_say k [] [] (lines (drop at i))
   unfolding records_say lines
   left-none h = rw (drop_of_length-le i h)
 
 -- ---- the call
 
 module _ (f i : List ℕ) where
-  pub check-long : over_limit (length f) ≡ true → Refused TooLong ≡ check_of f i
+  pub check-long : over_limit (length f) ≡ true → Err TooLong ≡ check_of f i
   unfolding check_of
   check-long h = rw h
 
   module _ (h : over_limit (length f) ≡ false) where
-    pub check-long-index : over_limit (length i) ≡ true → Refused TooLong ≡ check_of f i
+    pub check-long-index : over_limit (length i) ≡ true → Err TooLong ≡ check_of f i
     unfolding check_of
     check-long-index k = rw (h, k)
 

@@ -11,17 +11,14 @@ ghost use Rattle.lines.specs.Lines.{lines};
 ghost use Rattle.index_line.specs.IndexLine.{name_in};
 ghost use Rattle.fastq_line.specs.SixColumns.{six_line_says};
 ghost use Rattle.checker.specs.Steps.{only_line};
-ghost use Rattle.checker.specs.declared.Verdict.TheVariants.{Accepted, Refused};
 ghost use Rattle.fastq_index.specs.File.{rows_at};
 ghost use Rattle.fastq_checker.specs.Check.{entry_says, record_says, records_say, file_says, check_of};
 ghost use Rattle.fastq_checker.specs.Taken.{Taken};
 ghost use Rattle.fastq_checker.specs.Steps.{part_says_of, parts_say, stop_then, place_behind, judged_as, step_of};
 ghost use Rattle.fastq_checker.specs.Part.{walked, part_checked};
 
-use checker::Verdict;
-use elsewhere::Apart;
-use fastq::{Indexed, Part, QualityRow};
-use fastq_line::LineRead;
+use fastq::{Part, QualityRow};
+use fastq_line::Entry;
 use refusal::Refusal;
 
 // The place behind some records: in the file and in the index, and how many they are.
@@ -39,14 +36,8 @@ pub struct Stopped {
     pub index: usize,
 }
 
-// A part walked up to where it stopped; or why it was not begun.
-#[derive(Clone, Copy)]
-pub enum PartChecked {
-    Reached(Stopped),
-    Refused(Refusal),
-}
-
 // The place behind one record more; or that there is none; or what the indexer refuses there; or why the line is refused.
+// No Result says it more plainly: there are two kinds of refusal, and the second waits for what the indexer says of the rest.
 #[derive(Clone, Copy)]
 enum Step {
     Next(Place),
@@ -56,27 +47,31 @@ enum Step {
 }
 
 // One part of a record against that of its line's row: 23.
-fn judge_part(x: QualityRow, y: QualityRow, part: Part, record: u64) -> Verdict
+fn judge_part(x: QualityRow, y: QualityRow, part: Part, record: u64) -> Result<(), Refusal>
     ensures { result ≡ part_says_of «record» x y part }
 {
     match elsewhere::first_apart(x.part(part), y.part(part)) {
-        Apart::Never => Verdict::Accepted,
-        Apart::First(p) => Verdict::Refused(Refusal::BaseElsewhere { record, base: p.0 }),
+        None => Ok(()),
+        Some(p) => Err(Refusal::BaseElsewhere { record, base: p.0 }),
     }
 }
 
 // The bases of a record, then its qualities, against its line's row.
-fn judge_parts(x: QualityRow, y: QualityRow, record: u64) -> Verdict
+fn judge_parts(x: QualityRow, y: QualityRow, record: u64) -> Result<(), Refusal>
     ensures { result ≡ parts_say «record» x y }
 {
-    match judge_part(x, y, Part::Bases, record) {
-        Verdict::Refused(r) => Verdict::Refused(r),
-        Verdict::Accepted => judge_part(x, y, Part::Qualities, record),
-    }
+    judge_part(x, y, Part::Bases, record)?;
+    judge_part(x, y, Part::Qualities, record)
 }
 
 // A record against what its line says: 21, 22, then its parts.
-fn judge_entry(fastq: &[u8], x: QualityRow, line: &[u8], y: QualityRow, record: u64) -> Verdict
+fn judge_entry(
+    fastq: &[u8],
+    x: QualityRow,
+    line: &[u8],
+    y: QualityRow,
+    record: u64,
+) -> Result<(), Refusal>
     requires { Taken fastq.now x × (y.«record».name_start + y.«record».name_length ≤ length line.now) }
     ensures { result ≡ entry_says «record» fastq.now x (name_in line.now y.«record») y }
 {
@@ -87,29 +82,30 @@ fn judge_entry(fastq: &[u8], x: QualityRow, line: &[u8], y: QualityRow, record: 
     let from = b.name_start as usize;
     let m = b.name_length as usize;
     if !comparing::same_spans(fastq, start, n, line, from, m) {
-        return Verdict::Refused(Refusal::NameDiffers { record });
+        return Err(Refusal::NameDiffers { record });
     }
     if a.length != b.length {
-        return Verdict::Refused(Refusal::LengthDiffers { record });
+        return Err(Refusal::LengthDiffers { record });
     }
     judge_parts(x, y, record)
 }
 
 // A record against its index line, which has no bytes where there is none, and what was read of it: 19, 9 to 12, then what it says.
-fn judge_record(fastq: &[u8], x: QualityRow, line: &[u8], read: LineRead, record: u64) -> Verdict
+fn judge_record(
+    fastq: &[u8],
+    x: QualityRow,
+    line: &[u8],
+    read: Result<Entry, Refusal>,
+    record: u64,
+) -> Result<(), Refusal>
     requires { Taken fastq.now x × (read ≡ six_line_says «record» line.now) }
     ensures { result ≡ record_says «record» fastq.now x (only_line line.now) }
 {
-    if line.len() == 0 {
-        return Verdict::Refused(Refusal::LineAbsent { record });
+    if line.is_empty() {
+        return Err(Refusal::LineAbsent { record });
     }
-    match read {
-        LineRead::Refused(r) => Verdict::Refused(r),
-        LineRead::Row(e) => {
-            let y = e.row;
-            judge_entry(fastq, x, line, y, record)
-        }
-    }
+    let e = read?;
+    judge_entry(fastq, x, line, e.row, record)
 }
 
 impl Place {
@@ -121,13 +117,11 @@ impl Place {
         let line = self.index;
         let record = self.records + 1;
         let found = fastq_line::parse_at(index, line, record);
-        let end = found.end;
-        let read = found.read;
-        match judge_record(fastq, x, &index[line..end], read, record) {
-            Verdict::Refused(r) => Step::Refused(r),
-            Verdict::Accepted => Step::Next(Place {
+        match judge_record(fastq, x, &index[line..found.end], found.read, record) {
+            Err(r) => Step::Refused(r),
+            Ok(()) => Step::Next(Place {
                 fastq: behind,
-                index: end,
+                index: found.end,
                 records: record,
             }),
         }
@@ -139,60 +133,50 @@ impl Place {
         ensures { result ≡ step_of fastq.now index.now self }
     {
         let step = fastq::index_at(fastq, self.fastq);
-        let answer = step.answer;
-        match answer {
-            Indexed::Row(x) => self.check_row(fastq, index, x, step.next),
-            Indexed::End => Step::End,
-            Indexed::Refused(r) => Step::Stopped(r),
+        match step.answer {
+            Ok(Some(x)) => self.check_row(fastq, index, x, step.next),
+            Ok(None) => Step::End,
+            Err(r) => Step::Stopped(r),
         }
     }
 }
 
 // What the indexer refuses from `at` on.
-fn judge_file(fastq: &[u8], at: usize) -> Verdict
-    ensures { result ≡ stop_then (rows_at fastq.now at).stop Accepted }
+fn judge_file(fastq: &[u8], at: usize) -> Result<(), Refusal>
+    ensures { result ≡ stop_then (rows_at fastq.now at).stop (Ok tt) }
 {
+    // no index is counted: each step tells where the next record begins
     let mut i = at;
     loop {
         let step = fastq::index_at(fastq, i);
-        let answer = step.answer;
-        match answer {
-            Indexed::Row(_) => {
-                i = step.next;
-            }
-            Indexed::End => {
-                return Verdict::Accepted;
-            }
-            Indexed::Refused(r) => {
-                return Verdict::Refused(r);
-            }
+        match step.answer? {
+            Some(_) => i = step.next,
+            None => return Ok(()),
         }
     }
 }
 
 // What the indexer refuses from `at` on comes before a fault of the index.
-fn judge_rest(fastq: &[u8], at: usize, fault: Refusal) -> Verdict
-    ensures { result ≡ stop_then (rows_at fastq.now at).stop (Refused fault) }
+fn judge_rest(fastq: &[u8], at: usize, fault: Refusal) -> Result<(), Refusal>
+    ensures { result ≡ stop_then (rows_at fastq.now at).stop (Err fault) }
 {
-    match judge_file(fastq, at) {
-        Verdict::Refused(x) => Verdict::Refused(x),
-        Verdict::Accepted => Verdict::Refused(fault),
-    }
+    judge_file(fastq, at)?;
+    Err(fault)
 }
 
 // What is left of the index behind all records: 20.
-fn judge_left(index: &[u8], at: usize, records: u64) -> Verdict
+fn judge_left(index: &[u8], at: usize, records: u64) -> Result<(), Refusal>
     requires { at ≤ length index.now }
     ensures { result ≡ records_say records [] [] (lines (drop at index.now)) }
 {
     if at < index.len() {
-        return Verdict::Refused(Refusal::BytesLeft { records });
+        return Err(Refusal::BytesLeft { records });
     }
-    Verdict::Accepted
+    Ok(())
 }
 
 // Every record of the file against the lines of the index, in one walk. Behind the first fault of the index only what the indexer refuses is of interest.
-fn check_records(fastq: &[u8], index: &[u8]) -> Verdict
+fn check_records(fastq: &[u8], index: &[u8]) -> Result<(), Refusal>
     ensures { result ≡ file_says fastq.now (lines index.now) (rows_at fastq.now 0).rows (rows_at fastq.now 0).stop }
 {
     let mut w = Place {
@@ -202,18 +186,10 @@ fn check_records(fastq: &[u8], index: &[u8]) -> Verdict
     };
     loop {
         match w.check_record(fastq, index) {
-            Step::Next(next) => {
-                w = next;
-            }
-            Step::End => {
-                return judge_left(index, w.index, w.records);
-            }
-            Step::Stopped(r) => {
-                return Verdict::Refused(r);
-            }
-            Step::Refused(r) => {
-                return judge_rest(fastq, w.fastq, r);
-            }
+            Step::Next(next) => w = next,
+            Step::End => return judge_left(index, w.index, w.records),
+            Step::Stopped(r) => return Err(r),
+            Step::Refused(r) => return judge_rest(fastq, w.fastq, r),
         }
     }
 }
@@ -229,18 +205,10 @@ fn walk(fastq: &[u8], index: &[u8], place: Place, to: usize) -> Place
             return w;
         }
         match w.check_record(fastq, index) {
-            Step::Next(next) => {
-                w = next;
-            }
-            Step::End => {
-                return w;
-            }
-            Step::Stopped(_) => {
-                return w;
-            }
-            Step::Refused(_) => {
-                return w;
-            }
+            Step::Next(next) => w = next,
+            Step::End => return w,
+            Step::Stopped(_) => return w,
+            Step::Refused(_) => return w,
         }
     }
 }
@@ -248,17 +216,23 @@ fn walk(fastq: &[u8], index: &[u8], place: Place, to: usize) -> Place
 // Checks a part of a file: the records from `from` on, where one begins, that begin before `to`, against the index lines from `first` on, up to the
 // first that is not accepted. Example: in `@a\nA\n+\n!\n@b\nC\n+\n!\n` records begin at 0 and 9. With the index that its indexer makes, of lines of
 // 14 bytes, the part from 0 to 4 stops at 9 and at 14. A part never refuses a record: it stops before it.
-pub fn check_part(fastq: &[u8], from: usize, to: usize, index: &[u8], first: usize) -> PartChecked
+pub fn check_part(
+    fastq: &[u8],
+    from: usize,
+    to: usize,
+    index: &[u8],
+    first: usize,
+) -> Result<Stopped, Refusal>
     ensures { result ≡ part_checked fastq.now from to index.now first }
 {
     if refusal::over_limit(fastq.len()) {
-        return PartChecked::Refused(Refusal::TooLong);
+        return Err(Refusal::TooLong);
     }
     if refusal::over_limit(index.len()) {
-        return PartChecked::Refused(Refusal::TooLong);
+        return Err(Refusal::TooLong);
     }
     if index.len() < first {
-        return PartChecked::Reached(Stopped {
+        return Ok(Stopped {
             fastq: from,
             index: first,
         });
@@ -269,21 +243,21 @@ pub fn check_part(fastq: &[u8], from: usize, to: usize, index: &[u8], first: usi
         records: 0,
     };
     let w = walk(fastq, index, start, to);
-    PartChecked::Reached(Stopped {
+    Ok(Stopped {
         fastq: w.fastq,
         index: w.index,
     })
 }
 
 // Checks an index against its file. What the indexer refuses comes first, wherever in the file it is.
-pub fn check(fastq: &[u8], index: &[u8]) -> Verdict
+pub fn check(fastq: &[u8], index: &[u8]) -> Result<(), Refusal>
     ensures { result ≡ check_of fastq.now index.now }
 {
     if refusal::over_limit(fastq.len()) {
-        return Verdict::Refused(Refusal::TooLong);
+        return Err(Refusal::TooLong);
     }
     if refusal::over_limit(index.len()) {
-        return Verdict::Refused(Refusal::TooLong);
+        return Err(Refusal::TooLong);
     }
     check_records(fastq, index)
 }

@@ -1,13 +1,10 @@
 -- Laws of a FASTQ file's rows: a record moves the place on, so the count of records that bounds the definition does not matter.
-use Rattle.std.specs.Prelude.{ℕ, suc, ◌-◌, ◌≤◌, ◌<◌, ◌≡◌, List, length}
+use Rattle.std.specs.Prelude.{ℕ, suc, ◌-◌, ◌≤◌, ◌<◌, ◌≡◌, List, length, Option, Some, None, Result, Ok, Err}
 use Rattle.std.proofs.Math.Path.{ap}
 use Rattle.std.proofs.Common.{sym, ◌∙◌, arith}
 use Rattle.refusal.specs.declared.Refusal.{Refusal}
-use Rattle.table.specs.declared.Stop.TheVariants.{Ended, Refused}
 use Rattle.fastq.specs.Fastq.{record_at}
 use Rattle.fastq.specs.declared.QualityRow.{QualityRow}
-use Rattle.fastq.specs.declared.Indexed.{Indexed}
-use Rattle.fastq.specs.declared.Indexed.TheVariants as indexed
 use Rattle.fastq.specs.declared.Step.{Step}
 use Rattle.fastq_table.specs.Fill.{nothing, with_first}
 use Rattle.fastq_index.specs.PartLaws.{record-moves, up-to-whole}
@@ -28,15 +25,15 @@ module _ (s : List ℕ) (at : ℕ) (r : Step) (h : r ≡ record_at s at) where
   unfolding rows_at rows_of
   step = rw h
 
-  pub file-row : (x : QualityRow) → r.answer ≡ indexed.Row x → (rows_at s at ≡ with_first x (rows_at s r.next)) × (at < length s) × (at < r.next)
+  pub file-row : (x : QualityRow) → r.answer ≡ Ok (Some x) → (rows_at s at ≡ with_first x (rows_at s r.next)) × (at < length s) × (at < r.next)
   unfolding rows_at
   file-row x e =
       let v = record-moves s at x (ap (λ (y : Step). y.answer) (sym h) ∙ e) in
       let n : at < r.next = rw h v.1 in
-      (step ∙ ap (λ (a : Indexed). onwards a (rows_of (length s - at) s r.next)) e ∙ ap (with_first x) (enough (length s - at) (suc (length s - r.next)) s r.next (omega (arith, v.0)) (omega arith)), v.0, n)
+      (step ∙ ap (λ (a : Result (Option QualityRow) Refusal). onwards a (rows_of (length s - at) s r.next)) e ∙ ap (with_first x) (enough (length s - at) (suc (length s - r.next)) s r.next (omega (arith, v.0)) (omega arith)), v.0, n)
 
-  pub file-end : r.answer ≡ indexed.End → rows_at s at ≡ nothing Ended
-  file-end e = step ∙ ap (λ (a : Indexed). onwards a (rows_of (length s - at) s r.next)) e
+  pub file-end : r.answer ≡ Ok None → rows_at s at ≡ nothing (Ok tt)
+  file-end e = step ∙ ap (λ (a : Result (Option QualityRow) Refusal). onwards a (rows_of (length s - at) s r.next)) e
 
-  pub file-refused : (y : Refusal) → r.answer ≡ indexed.Refused y → rows_at s at ≡ nothing (Refused y)
-  file-refused y e = step ∙ ap (λ (a : Indexed). onwards a (rows_of (length s - at) s r.next)) e
+  pub file-refused : (y : Refusal) → r.answer ≡ Err y → rows_at s at ≡ nothing (Err y)
+  file-refused y e = step ∙ ap (λ (a : Result (Option QualityRow) Refusal). onwards a (rows_of (length s - at) s r.next)) e

@@ -4,17 +4,13 @@
 -- rows the file goes on from where they stop, so that a table that was full loses nothing. Nothing more is asked of the offsets, so any
 -- guess of where to cut is safe: rows that were found from a guess are used only if the part before it stopped there.
 use Prim.Native.Nat.{ℕ, zero, suc, ◌+◌, ◌-◌, ◌≤◌, ◌<◌}
-use Rattle.std.specs.Prelude.{◌≡◌, List, [], ◌∷◌, ◌++◌, Bool, true, false, take, ltb}
+use Rattle.std.specs.Prelude.{◌≡◌, List, [], ◌∷◌, ◌++◌, Bool, true, false, take, ltb, Option, Some, None, Result, Ok, Err, ⊤}
 use Rattle.std.proofs.Math.Path.{refl, ap}
 use Rattle.std.proofs.Common.{sym, ◌∙◌, length-append, ltb-true, ltb-false, arith}
 use Rattle.std.proofs.Math.ListN.{length}
 use Rattle.refusal.specs.declared.Refusal.{Refusal}
-use Rattle.table.specs.declared.Stop.{Stop}
-use Rattle.table.specs.declared.Stop.TheVariants as stop
 use Rattle.fastq.specs.Fastq.{record_at}
 use Rattle.fastq.specs.declared.QualityRow.{QualityRow}
-use Rattle.fastq.specs.declared.Indexed.{Indexed}
-use Rattle.fastq.specs.declared.Indexed.TheVariants as indexed
 use Rattle.fastq.specs.declared.Step.{Step}
 use Rattle.fastq_table.specs.Fill.{Found, nothing, with_first}
 use Rattle.fastq_index.specs.File.{onwards, rows_at}
@@ -24,9 +20,9 @@ use Rattle.fastq_index.specs.PartLaws.{record-moves, record-before, enough-befor
 -- ---- rows behind rows
 
 -- what some records give, and behind them, if they gave a row each, what others give
-abbrev pub goes_on : Found → Found → Stop → Found
-goes_on f g stop.Ended = record { rows = f.rows ++ g.rows; stop = g.stop }
-goes_on f g (stop.Refused x) = f
+abbrev pub goes_on : Found → Found → Result ⊤ Refusal → Found
+goes_on f g (Ok tt) = record { rows = f.rows ++ g.rows; stop = g.stop }
+goes_on f g (Err x) = f
 
 unfoldable pub joined : Found → Found → Found
 joined f g = goes_on f g f.stop
@@ -35,15 +31,15 @@ joined-first : (x : QualityRow) (f g : Found) → with_first x (joined f g) ≡ 
 unfolding joined
 joined-first x f g = go f.stop
   where
-    go : (t : Stop) → with_first x (goes_on f g t) ≡ goes_on (with_first x f) g t
-    go stop.Ended = refl
-    go (stop.Refused y) = refl
+    go : (t : Result ⊤ Refusal) → with_first x (goes_on f g t) ≡ goes_on (with_first x f) g t
+    go (Ok tt) = refl
+    go (Err y) = refl
 
-joined-ended : (g : Found) → joined (nothing stop.Ended) g ≡ g
+joined-ended : (g : Found) → joined (nothing (Ok tt)) g ≡ g
 unfolding joined
 joined-ended g = refl
 
-joined-refused : (y : Refusal) (g : Found) → joined (nothing (stop.Refused y)) g ≡ nothing (stop.Refused y)
+joined-refused : (y : Refusal) (g : Found) → joined (nothing (Err y)) g ≡ nothing (Err y)
 unfolding joined
 joined-refused y g = refl
 
@@ -60,14 +56,14 @@ module _ (s : List ℕ) (mid to : ℕ) (rises : mid ≤ to) where
           → rows_up_to k s to (record_at s at).next ≡ joined (rows_up_to k s mid (record_at s at).next) (rows_before s to (behind s (length (rows_up_to k s mid (record_at s at).next).rows) (record_at s at).next))
 
       -- a record that both parts have
-      shared : Behind → at < mid → (a : Indexed) → (record_at s at).answer ≡ a
+      shared : Behind → at < mid → (a : Result (Option QualityRow) Refusal) → (record_at s at).answer ≡ a
           → onwards a (rows_up_to k s to (record_at s at).next)
           ≡ joined (onwards a (rows_up_to k s mid (record_at s at).next)) (rows_before s to (behind s (length (onwards a (rows_up_to k s mid (record_at s at).next)).rows) at))
-      shared ih l (indexed.Row x) e =
+      shared ih l (Ok (Some x)) e =
           let v = record-moves s at x e in
           ap (with_first x) (ih (omega (arith, v))) ∙ joined-first x _ _
-      shared ih l indexed.End e = sym (joined-ended _ ∙ part_end s to at (ap (λ (r : Step). r.answer) (before_at s to at (omega arith)) ∙ e))
-      shared ih l (indexed.Refused y) e = sym (joined-refused y _)
+      shared ih l (Ok None) e = sym (joined-ended _ ∙ part_end s to at (ap (λ (r : Step). r.answer) (before_at s to at (omega arith)) ∙ e))
+      shared ih l (Err y) e = sym (joined-refused y _)
 
       within : (t : Bool) → ltb at mid ≡ t → Behind → rows_up_to (suc k) s to at ≡ joined (rows_up_to (suc k) s mid at) (rows_before s to (behind s (length (rows_up_to (suc k) s mid at).rows) at))
       within true q ih =
@@ -80,7 +76,7 @@ module _ (s : List ℕ) (mid to : ℕ) (rises : mid ≤ to) where
   parts-two at = two (suc (length s - at)) at (omega arith)
 
   -- a part that ended is followed by the other; one that was refused is all there is
-  pub stops-two : (at : ℕ) → (rows_before s mid at).stop ≡ stop.Ended → stop_of s to at ≡ stop_of s to (stop_of s mid at)
+  pub stops-two : (at : ℕ) → (rows_before s mid at).stop ≡ Ok tt → stop_of s to at ≡ stop_of s to (stop_of s mid at)
   stops-two at e =
       let f = rows_before s mid at in
       let g = rows_before s to (stop_of s mid at) in
@@ -89,7 +85,7 @@ module _ (s : List ℕ) (mid to : ℕ) (rises : mid ≤ to) where
       ∙ ap (λ (n : ℕ). behind s n at) (length-append f.rows g.rows)
       ∙ behind-add s (length f.rows) (length g.rows) at
 
-  pub stops-refused : (at : ℕ) (x : Refusal) → (rows_before s mid at).stop ≡ stop.Refused x → (rows_before s to at ≡ rows_before s mid at) × (stop_of s to at ≡ stop_of s mid at)
+  pub stops-refused : (at : ℕ) (x : Refusal) → (rows_before s mid at).stop ≡ Err x → (rows_before s to at ≡ rows_before s mid at) × (stop_of s to at ≡ stop_of s mid at)
   stops-refused at x e =
       let f = rows_before s mid at in
       let q : rows_before s to at ≡ f = parts-two at ∙ (unfold joined in ap (goes_on f (rows_before s to (stop_of s mid at))) e) in
@@ -113,18 +109,18 @@ module _ (s : List ℕ) (mid to : ℕ) (rises : mid ≤ to) where
           → rows_before s to next ≡ record { rows = take n (rows_before s mid next).rows ++ (rows_before s to (behind s n next)).rows; stop = (rows_before s to (behind s n next)).stop }
 
       -- a row, and the rows behind it
-      first : (end : ℕ) (x : QualityRow) → (record_before s end at).answer ≡ indexed.Row x → rows_before s end at ≡ with_first x (rows_before s end next)
+      first : (end : ℕ) (x : QualityRow) → (record_before s end at).answer ≡ Ok (Some x) → rows_before s end at ≡ with_first x (rows_before s end next)
       first end x e = (part-row s end at x e).0 ∙ ap (λ (r : Step). with_first x (rows_before s end r.next)) (record-before s end at x e).0
 
-      go : (a : Indexed) → (record_before s mid at).answer ≡ a → Behind
+      go : (a : Result (Option QualityRow) Refusal) → (record_before s mid at).answer ≡ a → Behind
           → rows_before s to at ≡ record { rows = take (suc n) (rows_before s mid at).rows ++ (rows_before s to (behind s n next)).rows; stop = (rows_before s to (behind s n next)).stop }
-      go (indexed.Row x) e ih =
+      go (Ok (Some x)) e ih =
           let b = record-before s mid at x e in
           let w = first mid x e in
           let v = first to x (ap (λ (r : Step). r.answer) (before_at s to at (omega (arith, b.1)) ∙ sym b.0) ∙ e) in
           rw (w, v) (ap (with_first x) (ih (omega (arith, ap (λ (f : Found). length f.rows) w))))
-      go indexed.End e ih = absurd (omega (arith, ap (λ (f : Found). length f.rows) (part_end s mid at e)))
-      go (indexed.Refused y) e ih = absurd (omega (arith, ap (λ (f : Found). length f.rows) (part-refused s mid at y e)))
+      go (Ok None) e ih = absurd (omega (arith, ap (λ (f : Found). length f.rows) (part_end s mid at e)))
+      go (Err y) e ih = absurd (omega (arith, ap (λ (f : Found). length f.rows) (part-refused s mid at y e)))
 
 -- of the whole file
 pub file-resumed : (s : List ℕ) (to n at : ℕ) → n ≤ length (rows_before s to at).rows

@@ -1,53 +1,43 @@
 -- Laws of a part of a FASTQ file: a record moves the place on, so the count of records that bounds the definition does not matter; a part that
 -- goes up to the end of the file has the file's rows; and what a turn of filling tells of the place.
-use Rattle.std.specs.Prelude.{ℕ, zero, suc, ◌+◌, ◌-◌, ◌≤◌, ◌<◌, List, Bool, length, get_or, ltb}
+use Rattle.std.specs.Prelude.{ℕ, zero, suc, ◌+◌, ◌-◌, ◌≤◌, ◌<◌, List, Bool, length, get_or, ltb, Option, Some, None, Result, Ok, Err}
 use Rattle.std.proofs.Math.Path.{◌≡◌, refl, ap}
 use Rattle.std.proofs.Common.{sym, ◌∙◌, lt-ltb, le-ltb, ltb-true, ltb-false, arith, add-one}
 use Rattle.std.proofs.Math.Bool.{true, false, cond}
-use Rattle.refusal.specs.Numbers.{over_limit}
 use Rattle.refusal.specs.declared.Refusal.{Refusal}
-use Rattle.refusal.specs.declared.Refusal.TheVariants.{TooLong, TableFull}
 use Rattle.lines.specs.Lines.{line_end}
 use Rattle.lines.specs.Laws.{line_end-le, line_end-gt, part_length}
-use Rattle.table.specs.Numbers.{numbers_in}
-use Rattle.table.specs.Kinds
-use Rattle.table.specs.KindLaws.{next_row, next-stop, filled-bytes, filled-nothing}
-use Rattle.table.specs.declared.Kept.{Kept}
-use Rattle.table.specs.declared.Kept.TheVariants as keeping
-use Rattle.table.specs.declared.Stop.TheVariants.{Ended, Refused}
+use Rattle.table.specs.KindLaws.{next_row, next-stop, FilledRows, filled-bytes}
 use Rattle.fastq.specs.Fastq.{record_at}
 use Rattle.fastq.specs.RecordLaws.{record-end}
 use Rattle.fastq.specs.declared.QualityRow.{QualityRow}
-use Rattle.fastq.specs.declared.Indexed.{Indexed}
-use Rattle.fastq.specs.declared.Indexed.TheVariants as indexed
 use Rattle.fastq.specs.declared.Step.{Step}
-use Rattle.fastq_table.specs.Rows.{row_count, quality_rows}
-use Rattle.fastq_table.specs.Fill.{nothing, with_first, turn_of, NextOf, KeptIn}
-use Rattle.fastq_table.specs.declared.Next.{Next}
-use Rattle.fastq_table.specs.declared.Next.TheVariants as given
+use Rattle.fastq_table.specs.Rows.{quality_rows}
+use Rattle.fastq_table.specs.Fill.{Found, nothing, with_first, NextOf}
 use Rattle.fastq_index.specs.Taken.{record-taken}
 use Rattle.fastq_index.specs.File.{onwards, rows_of, rows_at}
-use Rattle.fastq_index.specs.Part.{record_before, rows_up_to, rows_before, behind, part_in, next_for, next_before, PartRows, PartBytes}
+use Rattle.fastq_index.specs.Part.{record_before, rows_up_to, rows_before, behind, next_for, next_before, PartBytes}
 use Rattle.fastq_index.specs.declared.PartFilled.{PartFilled}
+use Rattle.table.specs.Kinds.{no_more}
 
 -- ---- a record moves the place on
 
-pub record-moves : (s : List ℕ) (at : ℕ) (x : QualityRow) → (record_at s at).answer ≡ indexed.Row x → (at < length s) × (at < (record_at s at).next)
+pub record-moves : (s : List ℕ) (at : ℕ) (x : QualityRow) → (record_at s at).answer ≡ Ok (Some x) → (at < length s) × (at < (record_at s at).next)
 record-moves s at x e =
     let t = record-taken s at x e in
     (t.here, omega (arith, t.here, t.good.on, part_length s at (line_end s at) (line_end-le s at (omega (arith, t.here))), line_end-gt s at t.here))
 
 -- a row of a part is that of the file's record
-pub record-before : (s : List ℕ) (to at : ℕ) (x : QualityRow) → (record_before s to at).answer ≡ indexed.Row x → (record_before s to at ≡ record_at s at) × (at < to)
+pub record-before : (s : List ℕ) (to at : ℕ) (x : QualityRow) → (record_before s to at).answer ≡ Ok (Some x) → (record_before s to at ≡ record_at s at) × (at < to)
 unfolding record_before
 record-before s to at x e = go (ltb at to) refl e
   where
-    go : (t : Bool) → ltb at to ≡ t → (cond t (record_at s at) (record { answer = indexed.End; next = at })).answer ≡ indexed.Row x
-        → (cond t (record_at s at) (record { answer = indexed.End; next = at }) ≡ record_at s at) × (at < to)
+    go : (t : Bool) → ltb at to ≡ t → (cond t (record_at s at) (record { answer = Ok None; next = at })).answer ≡ Ok (Some x)
+        → (cond t (record_at s at) (record { answer = Ok None; next = at }) ≡ record_at s at) × (at < to)
     go true h q = (refl, ltb-true _ _ h)
     go false h q = let z : ◌≡◌ {A = ℕ} 0 1 = cc in absurd (omega arith)
 
-before-moves : (s : List ℕ) (to at : ℕ) (x : QualityRow) → (record_before s to at).answer ≡ indexed.Row x → (at < length s) × (at < (record_before s to at).next)
+before-moves : (s : List ℕ) (to at : ℕ) (x : QualityRow) → (record_before s to at).answer ≡ Ok (Some x) → (at < length s) × (at < (record_before s to at).next)
 before-moves s to at x e = let q = (record-before s to at x e).0 in rw q (record-moves s at x (ap (λ (y : Step). y.answer) (sym q) ∙ e))
 
 -- ---- enough is enough
@@ -58,12 +48,12 @@ enough zero m s to at h g = absurd (omega arith)
 enough (suc k) zero s to at h g = absurd (omega arith)
 enough (suc k) (suc m) s to at h g = go (record_before s to at).answer refl (enough k m s to (record_before s to at).next)
   where
-    go : (a : Indexed) → (record_before s to at).answer ≡ a
+    go : (a : Result (Option QualityRow) Refusal) → (record_before s to at).answer ≡ a
         → (length s - (record_before s to at).next < k → length s - (record_before s to at).next < m → rows_up_to k s to (record_before s to at).next ≡ rows_up_to m s to (record_before s to at).next)
         → onwards a (rows_up_to k s to (record_before s to at).next) ≡ onwards a (rows_up_to m s to (record_before s to at).next)
-    go (indexed.Row x) e ih = let v = before-moves s to at x e in ap (with_first x) (ih (omega (arith, v)) (omega (arith, v)))
-    go indexed.End e ih = refl
-    go (indexed.Refused y) e ih = refl
+    go (Ok (Some x)) e ih = let v = before-moves s to at x e in ap (with_first x) (ih (omega (arith, v)) (omega (arith, v)))
+    go (Ok None) e ih = refl
+    go (Err y) e ih = refl
 
 pub enough-before : (k : ℕ) (s : List ℕ) (to at : ℕ) → length s - at < k → rows_up_to k s to at ≡ rows_before s to at
 unfolding rows_before
@@ -75,7 +65,7 @@ pub before_at : (s : List ℕ) (to at : ℕ) → at < to → record_before s to 
 unfolding record_before
 before_at s to at h = rw (lt-ltb at to h)
 
-pub before-past : (s : List ℕ) (to at : ℕ) → to ≤ at → record_before s to at ≡ record { answer = indexed.End; next = at }
+pub before-past : (s : List ℕ) (to at : ℕ) → to ≤ at → record_before s to at ≡ record { answer = Ok None; next = at }
 unfolding record_before
 before-past s to at h = rw (le-ltb at to h)
 
@@ -104,51 +94,49 @@ module _ (s : List ℕ) (to at : ℕ) where
   unfolding rows_before rows_up_to
   step = refl
 
-  pub part-row : (x : QualityRow) → (record_before s to at).answer ≡ indexed.Row x → (rows_before s to at ≡ with_first x (rows_before s to (record_before s to at).next)) × (at < length s) × (at < (record_before s to at).next)
+  pub part-row : (x : QualityRow) → (record_before s to at).answer ≡ Ok (Some x) → (rows_before s to at ≡ with_first x (rows_before s to (record_before s to at).next)) × (at < length s) × (at < (record_before s to at).next)
   unfolding rows_before
   part-row x e =
       let v = before-moves s to at x e in
       let b = (record_before s to at).next in
-      (step ∙ ap (λ (a : Indexed). onwards a (rows_up_to (length s - at) s to b)) e ∙ ap (with_first x) (enough (length s - at) (suc (length s - b)) s to b (omega (arith, v)) (omega arith)), v.0, v.1)
+      (step ∙ ap (λ (a : Result (Option QualityRow) Refusal). onwards a (rows_up_to (length s - at) s to b)) e ∙ ap (with_first x) (enough (length s - at) (suc (length s - b)) s to b (omega (arith, v)) (omega arith)), v.0, v.1)
 
-  pub part_end : (record_before s to at).answer ≡ indexed.End → rows_before s to at ≡ nothing Ended
-  part_end e = step ∙ ap (λ (a : Indexed). onwards a (rows_up_to (length s - at) s to (record_before s to at).next)) e
+  pub part_end : (record_before s to at).answer ≡ Ok None → rows_before s to at ≡ nothing (Ok tt)
+  part_end e = step ∙ ap (λ (a : Result (Option QualityRow) Refusal). onwards a (rows_up_to (length s - at) s to (record_before s to at).next)) e
 
-  pub part-refused : (y : Refusal) → (record_before s to at).answer ≡ indexed.Refused y → rows_before s to at ≡ nothing (Refused y)
-  part-refused y e = step ∙ ap (λ (a : Indexed). onwards a (rows_up_to (length s - at) s to (record_before s to at).next)) e
+  pub part-refused : (y : Refusal) → (record_before s to at).answer ≡ Err y → rows_before s to at ≡ nothing (Err y)
+  part-refused y e = step ∙ ap (λ (a : Result (Option QualityRow) Refusal). onwards a (rows_up_to (length s - at) s to (record_before s to at).next)) e
 
   -- what the code finds at a place
-  pub next_past : to ≤ at → given.Stop Ended ≡ next_before s to at
+  pub next_past : to ≤ at → no_more (Ok tt) ≡ next_before s to at
   unfolding next_before
   next_past h = rw (before-past s to at h)
 
-  pub next-at : at < to → (r : Step) → r ≡ record_at s at → (a : Indexed) → r.answer ≡ a → next_for a r.next ≡ next_before s to at
+  pub next-at : at < to → (r : Step) → r ≡ record_at s at → (a : Result (Option QualityRow) Refusal) → r.answer ≡ a → next_for a r.next ≡ next_before s to at
   unfolding next_before
   next-at h r e a q = rw (before_at s to at h, ← e, q)
 
   -- the next row of a part
-  pub next-before : (x : Next) → x ≡ next_before s to at → NextOf (rows_before s to at) (rows_before s to) at (length s) x
+  pub next-before : (x : Result (Option (QualityRow × ℕ)) Refusal) → x ≡ next_before s to at → NextOf (rows_before s to at) (rows_before s to) at (length s) x
   unfolding next_before
   next-before x q = rw q (go (record_before s to at).answer refl)
     where
-      go : (a : Indexed) → (record_before s to at).answer ≡ a → NextOf (rows_before s to at) (rows_before s to) at (length s) (next_for a (record_before s to at).next)
-      go (indexed.Row x) e = next_row _ _ _ _ _ _ (part-row x e)
-      go indexed.End e = next-stop _ _ _ _ _ (part_end e)
-      go (indexed.Refused y) e = next-stop _ _ _ _ _ (part-refused y e)
+      go : (a : Result (Option QualityRow) Refusal) → (record_before s to at).answer ≡ a → NextOf (rows_before s to at) (rows_before s to) at (length s) (next_for a (record_before s to at).next)
+      go (Ok (Some x)) e = next_row _ _ _ _ _ _ (part-row x e)
+      go (Ok None) e = next-stop _ _ _ _ _ (part_end e)
+      go (Err y) e = next-stop _ _ _ _ _ (part-refused y e)
 
-  -- where a turn goes on, the record ends
-  pub turn-place : (x : Next) → x ≡ next_before s to at → (t : List ℕ) (n : ℕ) (a : Kept) (t' : List ℕ) → KeptIn t n x a t' → (b : ℕ) → a ≡ keeping.On b → b ≡ (record_at s at).next
-  unfolding next_before Kinds.kept_of
-  turn-place x q t n a t' k b h = go (record_before s to at).answer refl (sym h ∙ k.kept.answer ∙ ap (λ (y : Next). Kinds.kept_of quality_rows (numbers_in t) n (turn_of y)) q)
+  -- behind the next row the record ends
+  pub next-place : (x : QualityRow) (b : ℕ) → next_before s to at ≡ Ok (Some (x, b)) → b ≡ (record_at s at).next
+  unfolding next_before
+  next-place x b q = go (record_before s to at).answer refl q
     where
-      row : (x : QualityRow) → (record_before s to at).answer ≡ indexed.Row x → (v : Bool) → keeping.On b ≡ cond v (keeping.On (record_before s to at).next) (keeping.Stop (Refused (TableFull (row_count (numbers_in t))))) → b ≡ (record_at s at).next
-      row x e true w = let m : b ≡ (record_before s to at).next = cc in m ∙ ap (λ (y : Step). y.next) (record-before s to at x e).0
-      row x e false w = let z : ◌≡◌ {A = ℕ} 0 1 = cc in absurd (omega arith)
-
-      go : (y : Indexed) → (record_before s to at).answer ≡ y → keeping.On b ≡ Kinds.kept_of quality_rows (numbers_in t) n (turn_of (next_for y (record_before s to at).next)) → b ≡ (record_at s at).next
-      go (indexed.Row x) e w = row x e (ltb n (row_count (numbers_in t))) w
-      go indexed.End e w = let z : ◌≡◌ {A = ℕ} 0 1 = cc in absurd (omega arith)
-      go (indexed.Refused y) e w = let z : ◌≡◌ {A = ℕ} 0 1 = cc in absurd (omega arith)
+      go : (y : Result (Option QualityRow) Refusal) → (record_before s to at).answer ≡ y → next_for y (record_before s to at).next ≡ Ok (Some (x, b)) → b ≡ (record_at s at).next
+      go (Ok (Some z)) e w =
+          let p : ◌≡◌ {A = QualityRow × ℕ} (x, b) (z, (record_before s to at).next) = cc in
+          ap (λ (y : QualityRow × ℕ). y.1) p ∙ ap (λ (y : Step). y.next) (record-before s to at z e).0
+      go (Ok None) e w = let z : ◌≡◌ {A = ℕ} 0 1 = cc in absurd (omega arith)
+      go (Err y) e w = let z : ◌≡◌ {A = ℕ} 0 1 = cc in absurd (omega arith)
 
 -- ---- the offset behind some records
 
@@ -173,15 +161,6 @@ behind-add s (suc n) m at = let e : suc n + m ≡ suc (n + m) = omega arith in r
 
 -- ---- the call
 
-module _ (s : List ℕ) (from to : ℕ) (t : List ℕ) where
-  pub part_none : over_limit (length s) ≡ true → ((i : ℕ) → get_or t i 0 < 256)
-      → PartBytes s from (part_in s from to (row_count (numbers_in t))) t t (record { filled = record { rows = 0; stop = Refused TooLong }; next = from })
-  unfolding part_in
-  part_none h m = rw h (record { filled = filled-nothing t (Refused TooLong) m; next = behind-none s from })
-
-  pub part-rows : over_limit (length s) ≡ false → (t' : List ℕ) (r : PartFilled) → PartRows s from to t t' r → ((i : ℕ) → get_or t' i 0 < 256)
-      → PartBytes s from (part_in s from to (row_count (numbers_in t))) t t' r
-  unfolding part_in
-  part-rows h t' r x m =
-      let b = filled-bytes _ t t' r.filled x.filled m in
-      rw h (record { filled = b; next = x.next ∙ ap (λ (n : ℕ). behind s n from) b.filled.rows })
+pub part-filled : (s : List ℕ) (from : ℕ) (f : Found) (t t' : List ℕ) (r : PartFilled) → FilledRows quality_rows f t t' r.filled → r.next ≡ behind s r.filled.rows from
+    → ((i : ℕ) → get_or t' i 0 < 256) → PartBytes s from f t t' r
+part-filled s from f t t' r h n m = record { filled = filled-bytes f t t' r.filled h m; next = n ∙ ap (λ (k : ℕ). behind s k from) h.filled.rows }

@@ -1,5 +1,5 @@
 -- What is known of a line of six columns that reads: its name is its front, and its numbers can stand in a line.
-use Rattle.std.specs.Prelude.{ℕ, ◌^◌, ◌≤◌, ◌<◌, ◌≡◌, refl, List, length, take}
+use Rattle.std.specs.Prelude.{ℕ, ◌^◌, ◌≤◌, ◌<◌, ◌≡◌, refl, List, length, take, Ok}
 use Rattle.std.proofs.Common.{arith}
 use Rattle.lines.specs.Lines.{content_of}
 use Rattle.columns.specs.Numbers.{reads-allowed}
@@ -8,7 +8,6 @@ use Rattle.fastq.specs.declared.QualityRow.{QualityRow}
 use Rattle.fastq_line.specs.SixColumns.{six_line_says, name_of}
 use Rattle.fastq_line.specs.RoundTrip.{fields-cut, line_known}
 use Rattle.fastq_line.specs.declared.Entry.{Entry}
-use Rattle.fastq_line.specs.declared.LineRead.TheVariants as read
 
 pub record LineSound (l : List ℕ) (x : QualityRow) : Type 0 where
   pub start : x.«record».name_start ≡ 0
@@ -18,7 +17,7 @@ pub record LineSound (l : List ℕ) (x : QualityRow) : Type 0 where
   pub fits-qualities : x.qualities.0 < 2 ^ 64
   pub no-description : (x.«record».description_start ≡ 0) × (x.«record».description_length ≡ 0)
 
-pub line-sound : (line : ℕ) (l : List ℕ) (e : Entry) → six_line_says line l ≡ read.Row e → LineSound l e.row
+pub line-sound : (line : ℕ) (l : List ℕ) (e : Entry) → six_line_says line l ≡ Ok e → LineSound l e.row
 unfolding name_of
 line-sound line l e h =
     let k = line_known line l e h in

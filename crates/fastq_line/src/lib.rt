@@ -3,18 +3,18 @@
 // a name with a tab or an LF; 14, no room. 1 comes first in the call on a line that stands alone and in writing.
 #![tactic(auto)]
 
-ghost use Rattle.std.specs.Prelude.{◌≡◌, length};
+ghost use Rattle.std.specs.Prelude.{◌≡◌, refl, length};
+ghost use Rattle.std.proofs.Common.{lit<};
 ghost use Rattle.output.specs.Outcome.{leaves};
 ghost use Rattle.table.specs.Rows.{named_of};
-ghost use Rattle.fastq_line.specs.SixColumns.{row_of, content_says, only_if, six_line_says, SaidAt, read_line, line_written};
+ghost use Rattle.fastq_line.specs.SixColumns.{six_columns_of, entry_for, plain_only, six_line_says, SaidAt, read_line, line_written};
 
-use columns::fields;
-use columns::fields::NumbersRead;
 use fastq::QualityRow;
-use output::Written;
+use index_line::reading::{Line, ReadAt};
+use index_line::writing::Numbers;
+use index_line::{reading, writing};
 use record::{Offset, Record};
 use refusal::Refusal;
-use table::{Held, InUse};
 
 // What a line says: a row, whose name's span counts from the line's start; and whether the line is plain, so that writing its row gives the
 // same bytes.
@@ -24,145 +24,89 @@ pub struct Entry {
     pub plain: bool,
 }
 
-// A line read, or why it is refused.
-#[derive(Clone, Copy)]
-pub enum LineRead {
-    Row(Entry),
-    Refused(Refusal),
-}
-
-// A line read where it stands in a text, and the place behind it.
-#[derive(Clone, Copy)]
-pub struct ReadAt {
-    pub read: LineRead,
-    pub end: usize,
-}
-
 // How many numbers a line has behind its name, each with a tab before it.
 const NUMBERS: usize = 5;
 
-// The row of a name of so many bytes, at the front of its line, and of a line's numbers.
-fn row_of(name: usize, numbers: &[u64; NUMBERS]) -> QualityRow
-    ensures { result ≡ row_of name numbers.now }
-{
-    let position = numbers[1];
-    let qualities = numbers[4];
-    let unnamed = Record::unnamed(numbers[0], Offset(position), numbers[2], numbers[3]);
-    let record = unnamed.named(0, name as u64);
-    QualityRow {
-        record,
-        qualities: Offset(qualities),
-    }
-}
+impl Line<NUMBERS> for Entry {
+    ghost entry = { entry_for };
 
-// Reads the content of line number `line`, which has no end. Of content, plain means that no number has a needless leading zero or a plus.
-fn parse_record(content: &[u8], line: u64) -> LineRead
-    ensures { result ≡ content_says line content.now }
-{
-    if content.len() == 0 {
-        return LineRead::Refused(Refusal::EmptyIndexLine { line });
+    ghost only = { plain_only };
+
+    fn of(name: usize, numbers: &[u64; NUMBERS], plain: bool) -> Entry {
+        let unnamed = Record::unnamed(numbers[0], Offset(numbers[1]), numbers[2], numbers[3]);
+        let row = QualityRow {
+            record: unnamed.named(0, name as u64),
+            qualities: Offset(numbers[4]),
+        };
+        Entry { row, plain }
     }
-    let name = fields::field_length(content, NUMBERS);
-    let mut numbers: [u64; NUMBERS] = [0; NUMBERS];
-    match fields::read_numbers(content, name, line, &mut numbers) {
-        NumbersRead::Refused(r) => LineRead::Refused(r),
-        NumbersRead::All { plain } => {
-            let row = row_of(name, &numbers);
-            LineRead::Row(Entry { row, plain })
+
+    fn plain_if(self, p: bool) -> Entry {
+        Entry {
+            plain: p & self.plain,
+            ..self
         }
     }
-}
 
-// A line read, which is plain only if p.
-fn plain_if(p: bool, read: LineRead) -> LineRead
-    ensures { result ≡ only_if p read }
-{
-    match read {
-        LineRead::Refused(r) => LineRead::Refused(r),
-        LineRead::Row(e) => {
-            let row = e.row;
-            LineRead::Row(Entry {
-                row,
-                plain: p & e.plain,
-            })
-        }
-    }
+    ghost some = { lit< tt };
+
+    ghost few = { lit< tt };
+
+    ghost both = { λ p q k vs. refl };
 }
 
 // Reads line number `line` with its end: one final LF, and one CR before it, come off. It does not look for an LF before that: a line
 // of a text has none.
-pub fn parse_line(l: &[u8], line: u64) -> LineRead
+pub fn parse_line(l: &[u8], line: u64) -> Result<Entry, Refusal>
     ensures { result ≡ six_line_says line l.now }
 {
-    let length = lines::content_length(l);
-    let ended = l.len() - length == 1;
-    plain_if(ended, parse_record(&l[..length], line))
+    reading::parse_line::<NUMBERS, Entry>(l, line)
 }
 
-// Reads the line that begins at a place of a text, by its end, which is looked for first.
-fn parse_by_end(text: &[u8], at: usize, line: u64) -> ReadAt
+// Reads the line that begins at a place of a text, and tells where it ends; at or past the end of the text there is an empty line.
+pub fn parse_at(text: &[u8], at: usize, line: u64) -> ReadAt<Entry>
     ensures { SaidAt line text.now at result.read result.end }
 {
-    if text.len() <= at {
-        return ReadAt {
-            read: LineRead::Refused(Refusal::EmptyIndexLine { line }),
-            end: at,
-        };
-    }
-    let end = lines::ends::line_end(text, at);
-    let read = parse_line(&text[at..end], line);
-    ReadAt { read, end }
-}
-
-// Reads the line that begins at a place of a text, and tells where it ends; at or past the end of the text there is an empty line. Most lines are
-// as they are written, and are read in one walk.
-pub fn parse_at(text: &[u8], at: usize, line: u64) -> ReadAt
-    ensures { SaidAt line text.now at result.read result.end }
-{
-    let mut numbers: [u64; NUMBERS] = [0; NUMBERS];
-    let found = fields::line_at(text, at, &mut numbers);
-    if found.end == 0 {
-        return parse_by_end(text, at, line);
-    }
-    let row = row_of(found.name, &numbers);
-    ReadAt {
-        read: LineRead::Row(Entry { row, plain: true }),
-        end: found.end,
-    }
+    reading::parse_at::<NUMBERS, Entry>(text, at, line)
 }
 
 // Reads a line, with its end, that stands alone. An LF before its end is a byte like others, but then it is not plain: it is no line.
-pub fn read_line(l: &[u8]) -> LineRead
+pub fn read_line(l: &[u8]) -> Result<Entry, Refusal>
     ensures { result ≡ read_line l.now }
 {
-    if refusal::over_limit(l.len()) {
-        return LineRead::Refused(Refusal::TooLong);
+    reading::read_line::<NUMBERS, Entry>(l)
+}
+
+// The numbers of a record in a line, with where its qualities begin.
+#[derive(Clone, Copy)]
+struct Five {
+    qualities: Offset,
+}
+
+impl Numbers<NUMBERS> for Five {
+    ghost columns = { λ s x. six_columns_of x s.qualities };
+
+    fn of(self, x: Record) -> [u64; NUMBERS] {
+        [
+            x.length,
+            x.position.0,
+            x.line_bases,
+            x.line_width,
+            self.qualities.0,
+        ]
     }
-    let one = lines::ends::line_end(l, 0) == l.len();
-    plain_if(one, parse_line(l, 1))
+
+    ghost few = { lit< tt };
 }
 
 // Writes the line of a row in use, whose qualities begin at an offset, to the front of the output. Its name is a span of `names`.
-pub fn write_line(names: &[u8], row: InUse, qualities: Offset, out: &mut [u8]) -> Written
+pub fn write_line(
+    names: &[u8],
+    row: Result<(usize, Record), Refusal>,
+    qualities: Offset,
+    out: &mut [u8],
+) -> Result<usize, Refusal>
     ensures { leaves result out.new ≡ line_written names.now (named_of (length names.now) row) qualities out.old }
 {
-    if refusal::over_limit(names.len()) {
-        return Written::Refused(Refusal::TooLong);
-    }
-    match row.named(names.len()) {
-        Held::Refused(r) => Written::Refused(r),
-        Held::Row(x) => {
-            let start = x.name_start as usize;
-            let end = start + x.name_length as usize;
-            let position = x.position;
-            let numbers: [u64; NUMBERS] = [
-                x.length,
-                position.0,
-                x.line_bases,
-                x.line_width,
-                qualities.0,
-            ];
-            fields::write_text(&names[start..end], &numbers, out)
-        }
-    }
+    writing::write_line::<NUMBERS, Five>(Five { qualities }, names, row, out)
 }

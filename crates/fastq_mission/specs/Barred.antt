@@ -1,7 +1,8 @@
 -- Why mending a base of a FASTQ file (docs/RULES.md, R55) bars three bytes: for each the smallest file and index that the checker accepts, and no longer
 -- accepts once that byte stands for a base. A '>' and an '@' need no bar: they are bases like any other, at the front of a line too.
-use Rattle.std.specs.Prelude.{◌≡◌, refl, List, [], ◌∷◌}
+use Rattle.std.specs.Prelude.{◌≡◌, refl, List, [], ◌∷◌, Result, Ok, Err, ⊤}
 use Rattle.std.proofs.Common.{arith}
+use Rattle.refusal.specs.declared.Refusal.{Refusal}
 use Rattle.ascii.specs.Text.{text}
 use Rattle.refusal.specs.Numbers.{over_limit}
 use Rattle.refusal.specs.declared.Refusal.TheVariants.{NoBases}
@@ -20,12 +21,10 @@ use Rattle.fastq.specs.Fastq as fastq
 use Rattle.fastq.specs.Parts.{part_of}
 use Rattle.fastq_line.specs.SixColumns.{fields_of, content_says, six_line_says, name_of}
 use Rattle.fastq_index.specs.File.{rows_of, rows_at}
-use Rattle.checker.specs.declared.Verdict.{Verdict}
-use Rattle.checker.specs.declared.Verdict.TheVariants.{Accepted, Refused}
 use Rattle.fastq_checker.specs.Check.{part_lines, offsets_of, entry_says, record_says, records_say, check_of}
 use Rattle.fastq_mission.specs.Mend.{BaseAt}
 
-unfoldable pub asked : List Verdict
+unfoldable pub asked : List (Result ⊤ Refusal)
 asked =
     -- a base, and its index
     check_of (text "@s\nA\n+\nI\n") (text "s\t1\t3\t1\t2\t7\n")
@@ -42,8 +41,8 @@ asked =
     ∷ check_of (text "@s\n>\n+\nI\n") (text "s\t1\t3\t1\t2\t7\n")
     ∷ []
 
-unfoldable pub answers : List Verdict
-answers = Accepted ∷ Refused (NoBases 4) ∷ Refused (NoBases 5) ∷ Accepted ∷ Refused (NoBases 3) ∷ Accepted ∷ Accepted ∷ Accepted ∷ []
+unfoldable pub answers : List (Result ⊤ Refusal)
+answers = Ok tt ∷ Err (NoBases 4) ∷ Err (NoBases 5) ∷ Ok tt ∷ Err (NoBases 3) ∷ Ok tt ∷ Ok tt ∷ Ok tt ∷ []
 
 pub barred : asked ≡ answers
 unfolding asked answers over_limit lines chop ends content_of sum_bases sum_widths up_from bases_at same_bytes is_space run keep marked_says fails_at refusal_of place_of first_where all_digits value_from number_from digits_of number_of plain_number digits cut_at field_says numbers_from plain_end name_in fits_last first_elsewhere body_of from_plus body_at line_says rest_of sequence_of fits_partner qualities_of sequence_says fastq.record_at part_of fields_of content_says six_line_says name_of rows_of rows_at part_lines offsets_of entry_says record_says records_say check_of

@@ -4,22 +4,21 @@
 --
 -- Each refusal means what R88 of docs/RULES.md says, the first fault in the given order; and where that is the first fault, the checker gives that
 -- refusal. FirstFault.antt says what each is.
-use Rattle.std.specs.Prelude.{ℕ, ◌≡◌, List}
+use Rattle.std.specs.Prelude.{ℕ, ◌≡◌, List, Ok, Err}
 use Rattle.refusal.specs.declared.Refusal.{Refusal}
-use Rattle.checker.specs.declared.Verdict.TheVariants.{Accepted, Refused}
 use Rattle.fastq_checker.specs.Check.{check_of}
 use Rattle.fastq_checker.specs.Accepts.{Accepts}
 use Rattle.fastq_mission.specs.FirstFault.{FirstFault}
 use Rattle.fastq_mission.specs.AllSaid.{check-means, check-only}
 
-pub accepted-only-if : (f i : List ℕ) → check_of f i ≡ Accepted → Accepts f i
+pub accepted-only-if : (f i : List ℕ) → check_of f i ≡ Ok tt → Accepts f i
 accepted-only-if f i h = rw h at (check-means f i)
 
-pub accepted-if : (f i : List ℕ) → Accepts f i → check_of f i ≡ Accepted
-accepted-if f i a = check-only f i Accepted a
+pub accepted-if : (f i : List ℕ) → Accepts f i → check_of f i ≡ Ok tt
+accepted-if f i a = check-only f i (Ok tt) a
 
-pub refused-only-if : (f i : List ℕ) (y : Refusal) → check_of f i ≡ Refused y → FirstFault f i y
+pub refused-only-if : (f i : List ℕ) (y : Refusal) → check_of f i ≡ Err y → FirstFault f i y
 refused-only-if f i y h = rw h at (check-means f i)
 
-pub refused-if : (f i : List ℕ) (y : Refusal) → FirstFault f i y → check_of f i ≡ Refused y
-refused-if f i y e = check-only f i (Refused y) e
+pub refused-if : (f i : List ℕ) (y : Refusal) → FirstFault f i y → check_of f i ≡ Err y
+refused-if f i y e = check-only f i (Err y) e

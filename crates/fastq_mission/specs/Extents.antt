@@ -1,9 +1,10 @@
 -- Where the records of a FASTQ file lie: each behind the one before it; in a record the name, then its bases, then its qualities. So a base of one
 -- record is no byte of another's name, bases or qualities.
 use Prim.Native.Nat.{ℕ, zero, suc, ◌+◌, ◌-◌, ◌≤◌, ◌<◌}
-use Rattle.std.specs.Prelude.{◌≡◌, refl, ◌⊎◌, length, get_or}
+use Rattle.std.specs.Prelude.{◌≡◌, refl, ◌⊎◌, length, get_or, Option, Some, None, Result, Ok, Err}
 use Rattle.std.proofs.Math.Path.{ap}
 use Rattle.std.proofs.Common.{◌∙◌, inl, inr, arith}
+use Rattle.refusal.specs.declared.Refusal.{Refusal}
 use mathlib.Core.List.{List, [], ◌∷◌}
 use Rattle.lines.specs.Lines.{chop, bases_of, sum_bases, sum_widths, bases_at}
 use Rattle.lines.specs.Laws.{chop-le}
@@ -16,8 +17,6 @@ use Rattle.fastq.specs.Parts.{part_of}
 use Rattle.fastq.specs.declared.Part.{Part}
 use Rattle.fastq.specs.declared.Part.TheVariants.{Bases, Qualities}
 use Rattle.fastq.specs.declared.QualityRow.{QualityRow}
-use Rattle.fastq.specs.declared.Indexed.{Indexed}
-use Rattle.fastq.specs.declared.Indexed.TheVariants as indexed
 use Rattle.fastq_index.specs.File.{onwards, rows_of, rows_at}
 use Rattle.fastq_checker.specs.Check.{part_lines, offsets_of}
 use Rattle.fastq_checker.specs.Accepts.{records_of, record_at}
@@ -107,11 +106,11 @@ unfolding rows_of
 rows-along zero f at = end
 rows-along (suc k) f at = go (fastq.record_at f at).answer refl (rows-along k f (fastq.record_at f at).next)
   where
-    go : (a : Indexed) → (fastq.record_at f at).answer ≡ a → Along f (fastq.record_at f at).next (rows_of k f (fastq.record_at f at).next).rows
+    go : (a : Result (Option QualityRow) Refusal) → (fastq.record_at f at).answer ≡ a → Along f (fastq.record_at f at).next (rows_of k f (fastq.record_at f at).next).rows
         → Along f at (onwards a (rows_of k f (fastq.record_at f at).next)).rows
-    go (indexed.Row x) e h = more (record-taken f at x e) h
-    go indexed.End e h = end
-    go (indexed.Refused y) e h = end
+    go (Ok (Some x)) e h = more (record-taken f at x e) h
+    go (Ok None) e h = end
+    go (Err y) e h = end
 
 pub file-along : (f : List ℕ) → Along f 0 (records_of f)
 unfolding rows_at

@@ -1,19 +1,17 @@
 -- What each refusal of the checker of FASTQ means: the first fault in the order of R88 (docs/RULES.md). That the checker refuses exactly so is in
 -- Exactly.antt.
-use Rattle.std.specs.Prelude.{ℕ, suc, ◌≤◌, ◌<◌, ◌≡◌, List, [], ◌∷◌, length, drop, get_or}
+use Rattle.std.specs.Prelude.{ℕ, suc, ◌≤◌, ◌<◌, ◌≡◌, List, [], ◌∷◌, length, drop, get_or, Ok, Err}
 use Rattle.refusal.specs.declared.Refusal.{Refusal}
 use Rattle.refusal.specs.declared.Refusal.TheVariants.{TooLong, LineAbsent, BytesLeft, NameDiffers, LengthDiffers, BaseElsewhere}
 use Rattle.lines.specs.Lines.{lines}
 use Rattle.record.specs.Place.{place_in}
 use Rattle.index_line.specs.IndexLine.{name_in}
-use Rattle.table.specs.declared.Stop.TheVariants as stop
 use Rattle.fastq.specs.Parts.{part_of}
 use Rattle.fastq.specs.declared.Part.{Part}
 use Rattle.fastq.specs.declared.Part.TheVariants.{Bases, Qualities}
 use Rattle.fastq.specs.declared.QualityRow.{QualityRow}
 use Rattle.fastq_line.specs.SixColumns.{six_line_says, name_of}
 use Rattle.fastq_line.specs.declared.Entry.{Entry}
-use Rattle.fastq_line.specs.declared.LineRead.TheVariants as read
 use Rattle.fastq_index.specs.File.{rows_at}
 use Rattle.checker.specs.Accepts.{limit, Fit}
 use Rattle.fastq_checker.specs.Check.{offsets_of}
@@ -35,7 +33,7 @@ pub record FirstElsewhere (f : List ℕ) (x y : QualityRow) (p : Part) (j : ℕ)
 
 -- line l reads, as line number n, and has the name of record x of a file
 pub record SameName (n : ℕ) (f : List ℕ) (x : QualityRow) (l : List ℕ) (e : Entry) : Type 0 where
-  pub reads : six_line_says n l ≡ read.Row e
+  pub reads : six_line_says n l ≡ Ok e
   pub name : name_in f x.«record» ≡ name_of l
 
 -- and its count of bases
@@ -46,9 +44,9 @@ pub record SameCount (n : ℕ) (f : List ℕ) (x : QualityRow) (l : List ℕ) (e
 -- what is wrong between record x of a file, which is number n, and its line
 pub data LineFault (n : ℕ) (f : List ℕ) (x : QualityRow) (l : List ℕ) : Refusal → Type 0 where
   -- 9 to 12: the line does not read
-  bad-line : (y : Refusal) → six_line_says n l ≡ read.Refused y → LineFault n f x l y
+  bad-line : (y : Refusal) → six_line_says n l ≡ Err y → LineFault n f x l y
   -- 21: it reads, and has another name
-  other_name : (e : Entry) → six_line_says n l ≡ read.Row e → (name_in f x.«record» ≡ name_of l → ⊥) → LineFault n f x l (NameDiffers n)
+  other_name : (e : Entry) → six_line_says n l ≡ Ok e → (name_in f x.«record» ≡ name_of l → ⊥) → LineFault n f x l (NameDiffers n)
   -- 22: it has the same name, and another count of bases
   other_length : (e : Entry) → SameName n f x l e → (x.«record».length ≡ e.row.«record».length → ⊥) → LineFault n f x l (LengthDiffers n)
   -- 23: it has the same name and count, and a base is the first that is not in its place
@@ -70,10 +68,10 @@ pub data FirstFault (f i : List ℕ) : Refusal → Type 0 where
   long-file : limit < length f → FirstFault f i TooLong
   long-index : length f ≤ limit → limit < length i → FirstFault f i TooLong
   -- what the indexer refuses
-  bad-file : Fit f i → (y : Refusal) → (rows_at f 0).stop ≡ stop.Refused y → FirstFault f i y
+  bad-file : Fit f i → (y : Refusal) → (rows_at f 0).stop ≡ Err y → FirstFault f i y
   -- 19, 9 to 12, 21, 22, 23: record r is wrong, and all before it match
-  wrong-record : {y : Refusal} → Fit f i → (rows_at f 0).stop ≡ stop.Ended → (r : ℕ) → r < length (records_of f) → ((k : ℕ) → k < r → MatchesAt f i k)
+  wrong-record : {y : Refusal} → Fit f i → (rows_at f 0).stop ≡ Ok tt → (r : ℕ) → r < length (records_of f) → ((k : ℕ) → k < r → MatchesAt f i k)
       → RecordFault (suc r) f (record_at (records_of f) r) (drop r (lines i)) y → FirstFault f i y
   -- 20: all records match, and lines are left
-  lines_left : Fit f i → (rows_at f 0).stop ≡ stop.Ended → ((k : ℕ) → k < length (records_of f) → MatchesAt f i k) → length (records_of f) < length (lines i)
+  lines_left : Fit f i → (rows_at f 0).stop ≡ Ok tt → ((k : ℕ) → k < length (records_of f) → MatchesAt f i k) → length (records_of f) < length (lines i)
       → FirstFault f i (BytesLeft (length (records_of f)))

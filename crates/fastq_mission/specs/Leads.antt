@@ -1,5 +1,5 @@
 -- A row of the indexer of FASTQ leads to the bases and to the qualities of its record, and its numbers can stand in a line of six columns.
-use Rattle.std.specs.Prelude.{ℕ, ◌+◌, ◌^◌, ◌≤◌, ◌<◌, ◌≡◌, refl, Bool, true, false, cond, length, get_or}
+use Rattle.std.specs.Prelude.{ℕ, ◌+◌, ◌^◌, ◌≤◌, ◌<◌, ◌≡◌, refl, Bool, true, false, cond, length, get_or, Ok}
 use Rattle.std.proofs.Math.Path.{ap, sym}
 use Rattle.std.proofs.Common.{◌∙◌, take-append-drop, drop-drop, arith, zero-add}
 use mathlib.Core.List.{List, [], ◌∷◌, ◌++◌, map}
@@ -28,7 +28,6 @@ use Rattle.fastq.specs.Parts.{part_of}
 use Rattle.fastq.specs.declared.Part.{Part}
 use Rattle.fastq.specs.declared.Part.TheVariants.{Bases, Qualities}
 use Rattle.fastq.specs.declared.QualityRow.{QualityRow}
-use Rattle.fastq.specs.declared.Verdict.TheVariants as judged
 use Rattle.fastq_checker.specs.Check.{part_lines, offsets_of}
 use Rattle.fastq_mission.specs.FirstFault.{AllInPlace}
 use Rattle.fastq_index.specs.Taken.{def_at, Taken}
@@ -147,7 +146,7 @@ module _ {s : List ℕ} {at : ℕ} {x : QualityRow} {next : ℕ} (t : Taken s at
       ∙ numbers-are x.«record».position.0
   offsets_are Qualities =
       let lines_are : t.good.behind ≡ lines (drop x.qualities.0 s) = sym behind-here in
-      let fit : qualities_of (map line_of (first ∷ rest)) (lines (drop x.qualities.0 s)) ≡ judged.Good =
+      let fit : qualities_of (map line_of (first ∷ rest)) (lines (drop x.qualities.0 s)) ≡ Ok tt =
       ap (λ (ls : List (List ℕ)). qualities_of (map line_of ls) (lines (drop x.qualities.0 s))) (sym t.good.body.is) ∙ ap (qualities_of (map line_of body)) behind-here ∙ t.good.fit in
       ap (bases_at x.qualities.0) (qualities-are ∙ ap (take (length body)) lines_are ∙ ap (λ (ls : List (List ℕ)). take (length ls) (lines (drop x.qualities.0 s))) t.good.body.is)
       ∙ qualities-lead x.qualities.0 first rest t.good.body.even t.good.body.some (drop x.qualities.0 s) fit

@@ -1,8 +1,8 @@
 -- What mending a base of a FASTQ file is: a base by its record, its number and its offset, the byte that takes its place, and what it means that a read
 -- covers the base.
-use Rattle.std.specs.Prelude.{ℕ, suc, ◌≤◌, ◌<◌, ◌≡◌, List}
+use Rattle.std.specs.Prelude.{ℕ, suc, ◌≤◌, ◌<◌, ◌≡◌, List, Option}
+use Rattle.record.specs.declared.Position.{Position}
 use Rattle.region.specs.Region.{start_of, end_of}
-use Rattle.region.specs.declared.Bound.{Bound}
 use Rattle.fastq.specs.declared.Part.{Part}
 use Rattle.fastq.specs.declared.Part.TheVariants.{Bases}
 use Rattle.fastq_mission.specs.TableOf.{record_count, base_count, base_place}
@@ -20,7 +20,7 @@ pub record Plain (b : ℕ) : Type 0 where
   pub no_plus : b ≡ 43 → ⊥
 
 -- the read of a part of row r with these bounds covers base j + 1 of record k: a read of qualities covers none
-pub record Covers (f : List ℕ) (k j r : ℕ) (p : Part) (a e : Bound) : Type 0 where
+pub record Covers (f : List ℕ) (k j r : ℕ) (p : Part) (a e : Option Position) : Type 0 where
   pub row : r ≡ k
   pub part : p ≡ Bases
   pub from : start_of a ≤ suc j

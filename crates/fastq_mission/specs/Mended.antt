@@ -1,10 +1,9 @@
 -- Mending a base of a FASTQ file (docs/RULES.md, R55), its first part: one byte of a file that is a base is replaced by a byte other than LF, CR and
 -- '+'. The file has the same records, but for that base; every base and every quality stays where it was; and an index that was accepted is accepted
 -- still: `mended-accepted`, `mended-checked`. To index the file again gives the same rows, and the same index: `mended-rows`, `mended-index`.
-use Rattle.std.specs.Prelude.{ℕ, suc, ◌<◌, ◌≡◌, refl, List, [], ◌∷◌, ◌++◌, length, set}
+use Rattle.std.specs.Prelude.{ℕ, suc, ◌<◌, ◌≡◌, refl, List, [], ◌∷◌, ◌++◌, length, set, Ok}
 use Rattle.std.proofs.Common.{ap, ◌∙◌, length-set, arith}
 use Rattle.index_line.specs.IndexLine.{name_in}
-use Rattle.checker.specs.declared.Verdict.TheVariants.{Accepted}
 use Rattle.fastq.specs.declared.QualityRow.{QualityRow}
 use Rattle.fastq_line.specs.RoundTrip.{six_line_of}
 use Rattle.fastq_table.specs.Fill.{Found}
@@ -34,7 +33,7 @@ module _ (f : List ℕ) (k j o b : ℕ) (x : BaseAt f k j o) (p : Plain b) where
         each = rw (records-same f k j o b x p) (λ r h. matches-same f k j o b x p r h _ _ (a.each r h));
       }
 
-  pub mended-checked : (i : List ℕ) → check_of f i ≡ Accepted → check_of (set f o b) i ≡ Accepted
+  pub mended-checked : (i : List ℕ) → check_of f i ≡ Ok tt → check_of (set f o b) i ≡ Ok tt
   mended-checked i h = accepted-if (set f o b) i (mended-accepted i (accepted-only-if f i h))
 
   -- ---- indexed again

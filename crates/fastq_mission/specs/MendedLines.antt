@@ -1,15 +1,16 @@
 -- The lines of a FASTQ record with one byte replaced: behind the record, or a base of it. Either way the record says the same.
 use Prim.Native.Nat.{ℕ, zero, suc, ◌+◌, ◌-◌, ◌≤◌, ◌<◌}
 use Rattle.std.proofs.Math.Path.{◌≡◌, refl}
-use Rattle.std.proofs.Common.{ap, sym, ◌∙◌, length-set}
+use Rattle.std.proofs.Common.{ap, sym, ◌∙◌, length-set, Result, Ok, Err}
 use mathlib.Core.List.{List, [], ◌∷◌, map}
-use Rattle.std.specs.Prelude.{Bool, set, eqb}
+use Rattle.std.specs.Prelude.{Bool, set, eqb, ⊤}
 use Rattle.std.proofs.Math.Bool.{true, false, cond}
 use Rattle.std.proofs.Math.ListN.{length, take, length-map}
 use Rattle.std.proofs.Math.Dec.{ltb}
 use borrow.Author.Tests.{ne_eqb, ltb-false}
 use native.Mathlib.Omega.{arith}
 use Rattle.std.proofs.Math.Nat.{zero-add}
+use Rattle.refusal.specs.declared.Refusal.{Refusal}
 use Rattle.refusal.specs.declared.Refusal.TheVariants.{NoBases, QualityLine}
 use Rattle.lines.specs.declared.Line.{Line}
 use Rattle.lines.specs.declared.Span.{Span}
@@ -19,8 +20,6 @@ use Rattle.lines.specs.Mending.{set_in, set_first, set-later, bases-set, widths-
 use Rattle.indexer.specs.Index.{line_of}
 use Rattle.fastq.specs.Fastq.{plus, body_of, from_plus, line_says, and_then, rest_of, sequence_of, fits_partner, qualities_of, qualities_judged, sequence_judged, sequence_says}
 use Rattle.fastq.specs.declared.QualityRow.{QualityRow}
-use Rattle.fastq.specs.declared.Verdict.{Verdict}
-use Rattle.fastq.specs.declared.Verdict.TheVariants as judged
 use Rattle.fastq_index.specs.Taken.{GoodLines}
 
 -- ---- a byte behind the record
@@ -46,8 +45,8 @@ module _ (b : ℕ) where
           rw (w, set-later l ls (sum_widths (body_of ls) + (length p + d)) b, h) (ap (λ (k : List (List ℕ)). l ∷ k) (more q).0, (more q).1)
 
   -- and so are the quality lines
-  qualities-past : (ps : List Line) (qs : List (List ℕ)) (d : ℕ) → qualities_of ps qs ≡ judged.Good
-      → (qualities_of ps (set_in qs (sum_widths (take (length ps) qs) + d) b) ≡ judged.Good) × (take (length ps) (set_in qs (sum_widths (take (length ps) qs) + d) b) ≡ take (length ps) qs)
+  qualities-past : (ps : List Line) (qs : List (List ℕ)) (d : ℕ) → qualities_of ps qs ≡ Ok tt
+      → (qualities_of ps (set_in qs (sum_widths (take (length ps) qs) + d) b) ≡ Ok tt) × (take (length ps) (set_in qs (sum_widths (take (length ps) qs) + d) b) ≡ take (length ps) qs)
   unfolding qualities_of sum_widths
   qualities-past [] qs d e = (refl, refl)
   qualities-past (p ∷ ps) [] d e = let z : ◌≡◌ {A = ℕ} 0 1 = cc in absurd (omega arith)
@@ -56,10 +55,10 @@ module _ (b : ℕ) where
       w : length q + sum_widths (take (length ps) qs) + d ≡ length q + (sum_widths (take (length ps) qs) + d)
       w = omega arith
 
-      go : (t : Bool) → fits_partner p q ≡ t → cond t (qualities_of ps qs) (judged.Bad (QualityLine (length (bases_of q)) p.bases)) ≡ judged.Good
-          → (qualities_of ps qs ≡ judged.Good
-          → (qualities_of ps (set_in qs (sum_widths (take (length ps) qs) + d) b) ≡ judged.Good) × (take (length ps) (set_in qs (sum_widths (take (length ps) qs) + d) b) ≡ take (length ps) qs))
-          → (qualities_of (p ∷ ps) (set_in (q ∷ qs) (length q + sum_widths (take (length ps) qs) + d) b) ≡ judged.Good)
+      go : (t : Bool) → fits_partner p q ≡ t → cond t (qualities_of ps qs) (Err (QualityLine (length (bases_of q)) p.bases)) ≡ Ok tt
+          → (qualities_of ps qs ≡ Ok tt
+          → (qualities_of ps (set_in qs (sum_widths (take (length ps) qs) + d) b) ≡ Ok tt) × (take (length ps) (set_in qs (sum_widths (take (length ps) qs) + d) b) ≡ take (length ps) qs))
+          → (qualities_of (p ∷ ps) (set_in (q ∷ qs) (length q + sum_widths (take (length ps) qs) + d) b) ≡ Ok tt)
           × (take (suc (length ps)) (set_in (q ∷ qs) (length q + sum_widths (take (length ps) qs) + d) b) ≡ q ∷ take (length ps) qs)
       go true f k more = rw (w, set-later q qs (sum_widths (take (length ps) qs) + d) b, f) ((more k).0, ap (λ (m : List (List ℕ)). q ∷ m) (more k).1)
       go false f k more = let z : ◌≡◌ {A = ℕ} 0 1 = cc in absurd (omega arith)
@@ -76,10 +75,10 @@ module _ (b : ℕ) where
       let s = body-past ls g.plus_line g.behind g.plus (sum_widths (take (length (body_of ls)) g.behind) + d) in
       rw (w, s.0, s.1, g.plus) (go (sequence_of (at + n) (body_of ls)) _ q.0 q.1)
     where
-      go : (v : Verdict) (qs : List (List ℕ)) → qualities_of (map line_of (body_of ls)) qs ≡ judged.Good → take (length (body_of ls)) qs ≡ take (length (body_of ls)) g.behind
+      go : (v : Result ⊤ Refusal) (qs : List (List ℕ)) → qualities_of (map line_of (body_of ls)) qs ≡ Ok tt → take (length (body_of ls)) qs ≡ take (length (body_of ls)) g.behind
           → sequence_judged at n name (body_of ls) (g.plus_line ∷ qs) v ≡ sequence_judged at n name (body_of ls) (g.plus_line ∷ g.behind) v
-      go (judged.Bad y) qs e k = refl
-      go judged.Good qs e k = rw (e, g.fit, k)
+      go (Err y) qs e k = refl
+      go (Ok tt) qs e k = rw (e, g.fit, k)
 
 -- ---- a base of the record
 
@@ -132,8 +131,8 @@ sequence-alike at (l ∷ ls) [] e = let z : ◌≡◌ {A = ℕ} 0 1 = cc in absu
 sequence-alike at (l ∷ ls) (m ∷ ms) e =
     let here : line_of l ≡ line_of m = cc in
     let more : map line_of ls ≡ map line_of ms = cc in
-    ap (λ (y : Line). cond (eqb y.bases 0) (judged.Bad (NoBases (at + y.width))) (rest_of y ls)) here
-    ∙ ap (cond (eqb (line_of m).bases 0) (judged.Bad (NoBases (at + length m)))) (rest-alike (line_of m) ls ms more)
+    ap (λ (y : Line). cond (eqb y.bases 0) (Err (NoBases (at + y.width))) (rest_of y ls)) here
+    ∙ ap (cond (eqb (line_of m).bases 0) (Err (NoBases (at + length m)))) (rest-alike (line_of m) ls ms more)
 
 first_alike : (ls ms : List (List ℕ)) → map line_of ls ≡ map line_of ms → first_line ls ≡ first_line ms
 first_alike [] [] e = refl
@@ -162,9 +161,9 @@ module _ (b : ℕ) (lf : b ≡ 10 → ⊥) (cr : b ≡ 13 → ⊥) (n : b ≡ 43
       sums : sum_bases (set_in (body_of ls) c b) ≡ sum_bases (body_of ls)
       sums = sums-set b lf cr base
 
-      row : (p : ℕ) (qs : List (List ℕ)) (v : Verdict) → qualities_judged at m name (set_in (body_of ls) c b) p qs v ≡ qualities_judged at m name (body_of ls) p qs v
-      row p qs (judged.Bad y) = refl
-      row p qs judged.Good =
+      row : (p : ℕ) (qs : List (List ℕ)) (v : Result ⊤ Refusal) → qualities_judged at m name (set_in (body_of ls) c b) p qs v ≡ qualities_judged at m name (body_of ls) p qs v
+      row p qs (Err y) = refl
+      row p qs (Ok tt) =
           rw (
             sums,
             widths-set (body_of ls) c b,
@@ -172,9 +171,9 @@ module _ (b : ℕ) (lf : b ≡ 10 → ⊥) (cr : b ≡ 13 → ⊥) (n : b ≡ 43
             count-alike (set_in (body_of ls) c b) (body_of ls) (alike_set base),
           )
 
-      go : (qs : List (List ℕ)) (v : Verdict) → sequence_judged at m name (set_in (body_of ls) c b) qs v ≡ sequence_judged at m name (body_of ls) qs v
-      go qs (judged.Bad y) = refl
-      go [] judged.Good = refl
-      go (p ∷ qs) judged.Good =
+      go : (qs : List (List ℕ)) (v : Result ⊤ Refusal) → sequence_judged at m name (set_in (body_of ls) c b) qs v ≡ sequence_judged at m name (body_of ls) qs v
+      go qs (Err y) = refl
+      go [] (Ok tt) = refl
+      go (p ∷ qs) (Ok tt) =
           ap (λ (ps : List Line). qualities_judged at m name (set_in (body_of ls) c b) (length p) qs (qualities_of ps qs)) (alike_set base)
           ∙ row (length p) qs (qualities_of (map line_of (body_of ls)) qs)

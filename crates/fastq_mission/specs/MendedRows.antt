@@ -1,11 +1,12 @@
 -- A FASTQ file with one base replaced has the same rows, and the indexer stops where it did: `rows_same`.
 use Prim.Native.Nat.{ℕ, zero, suc, ◌+◌, ◌-◌, ◌≤◌, ◌<◌}
-use Rattle.std.specs.Prelude.{◌≡◌, drop, set}
+use Rattle.std.specs.Prelude.{◌≡◌, drop, set, Option, Some, None, Result, Ok, Err}
 use Rattle.std.proofs.Math.Path.{refl, ap}
 use Rattle.std.proofs.Common.{sym, ◌∙◌, length-set, get_or-drop, drop-set-lt, arith}
 use mathlib.Core.List.{List, ◌∷◌, ◌++◌}
 use Rattle.std.proofs.Math.ListN.{length, get_or}
 use Rattle.std.proofs.lemmas.List.{drop-set-add}
+use Rattle.refusal.specs.declared.Refusal.{Refusal}
 use Rattle.lines.specs.Lines.{lines, line_end}
 use Rattle.lines.specs.Laws.{lines_at-cut}
 use Rattle.lines.specs.Mending.{set_in, set-later, lines-set, BaseOf, first, later, base-no-lf}
@@ -15,8 +16,6 @@ use Rattle.fastq.specs.Fastq as fastq
 use Rattle.fastq.specs.Parts.{part_of}
 use Rattle.fastq.specs.declared.Part.TheVariants.{Bases}
 use Rattle.fastq.specs.declared.QualityRow.{QualityRow}
-use Rattle.fastq.specs.declared.Indexed.{Indexed}
-use Rattle.fastq.specs.declared.Indexed.TheVariants as indexed
 use Rattle.fastq_table.specs.Fill.{with_first}
 use Rattle.fastq_index.specs.File.{onwards, rows_of, rows_at}
 use Rattle.fastq_checker.specs.Check.{part_lines, offsets_of}
@@ -98,11 +97,11 @@ module _ (f : List ℕ) (b : ℕ) (lf : b ≡ 10 → ⊥) (cr : b ≡ 13 → ⊥
   rows-kept zero o at h = refl
   rows-kept (suc m) o at h = rw (record-kept o at h) (go (fastq.record_at f at).answer refl (rows-kept m o (fastq.record_at f at).next))
     where
-      go : (a : Indexed) → (fastq.record_at f at).answer ≡ a → (o < (fastq.record_at f at).next → rows_of m (set f o b) (fastq.record_at f at).next ≡ rows_of m f (fastq.record_at f at).next)
+      go : (a : Result (Option QualityRow) Refusal) → (fastq.record_at f at).answer ≡ a → (o < (fastq.record_at f at).next → rows_of m (set f o b) (fastq.record_at f at).next ≡ rows_of m f (fastq.record_at f at).next)
           → onwards a (rows_of m (set f o b) (fastq.record_at f at).next) ≡ onwards a (rows_of m f (fastq.record_at f at).next)
-      go (indexed.Row x) e more = ap (with_first x) (more (omega (arith, (record-taken f at x e).good.on)))
-      go indexed.End e more = refl
-      go (indexed.Refused y) e more = refl
+      go (Ok (Some x)) e more = ap (with_first x) (more (omega (arith, (record-taken f at x e).good.on)))
+      go (Ok None) e more = refl
+      go (Err y) e more = refl
 
   rows-mended : (m at k j o : ℕ) → (get_or f o 0 ≡ 10 → ⊥) → k < length (rows_of m f at).rows → j < count_of f (record_at (rows_of m f at).rows k) Bases
       → place_at f (record_at (rows_of m f at).rows k) Bases j ≡ o → rows_of m (set f o b) at ≡ rows_of m f at
@@ -110,21 +109,21 @@ module _ (f : List ℕ) (b : ℕ) (lf : b ≡ 10 → ⊥) (cr : b ≡ 13 → ⊥
   rows-mended zero at k j o n h u e = refl
   rows-mended (suc m) at k j o n h u e = go (fastq.record_at f at).answer refl k h u e (λ r. rows-mended m (fastq.record_at f at).next r j o n)
     where
-      go : (a : Indexed) → (fastq.record_at f at).answer ≡ a → (k : ℕ) → k < length (onwards a (rows_of m f (fastq.record_at f at).next)).rows
+      go : (a : Result (Option QualityRow) Refusal) → (fastq.record_at f at).answer ≡ a → (k : ℕ) → k < length (onwards a (rows_of m f (fastq.record_at f at).next)).rows
           → j < count_of f (record_at (onwards a (rows_of m f (fastq.record_at f at).next)).rows k) Bases
           → place_at f (record_at (onwards a (rows_of m f (fastq.record_at f at).next)).rows k) Bases j ≡ o
           → ((r : ℕ) → r < length (rows_of m f (fastq.record_at f at).next).rows → j < count_of f (record_at (rows_of m f (fastq.record_at f at).next).rows r) Bases
           → place_at f (record_at (rows_of m f (fastq.record_at f at).next).rows r) Bases j ≡ o → rows_of m (set f o b) (fastq.record_at f at).next ≡ rows_of m f (fastq.record_at f at).next)
           → onwards (fastq.record_at (set f o b) at).answer (rows_of m (set f o b) (fastq.record_at (set f o b) at).next) ≡ onwards a (rows_of m f (fastq.record_at f at).next)
-      go (indexed.Row x) q zero h u e more =
+      go (Ok (Some x)) q zero h u e more =
           let t = record-taken f at x q in
           rw (taken_here t j o u e, q) (ap (with_first x) (rows-kept m o (fastq.record_at f at).next (omega (arith, (extent t).bases j u, (extent t).ordered))))
-      go (indexed.Row x) q (suc r) h u e more =
+      go (Ok (Some x)) q (suc r) h u e more =
           let t = record-taken f at x q in
           let past : (fastq.record_at f at).next ≤ o = omega (arith, (behind (rows-along m f (fastq.record_at f at).next) r (omega arith)).places Bases j u) in
           rw (taken-past t o past n, q) (ap (with_first x) (more r (omega arith) u e))
-      go indexed.End q k h u e more = absurd (omega arith)
-      go (indexed.Refused y) q k h u e more = absurd (omega arith)
+      go (Ok None) q k h u e more = absurd (omega arith)
+      go (Err y) q k h u e more = absurd (omega arith)
 
   pub rows_same : (k j o : ℕ) → Leads f (record_at (records_of f) k) → k < length (records_of f) → j < count_of f (record_at (records_of f) k) Bases → place_at f (record_at (records_of f) k) Bases j ≡ o
       → rows_at (set f o b) 0 ≡ rows_at f 0

@@ -5,23 +5,22 @@
 -- and `changed-other` of region/specs/Changed.antt say what that leaves. For an accepted index they are `pair-elsewhere`, `pair-qualities` and
 -- `pair-here`. That two indexes of one file are read alike is `indexes-agree` of Tables.antt.
 use Prim.Native.Nat.{ℕ, suc, ◌-◌, ◌≤◌, ◌<◌}
-use Rattle.std.specs.Prelude.{◌≡◌, refl, List, Bool, true, false, length, set, ltb}
+use Rattle.std.specs.Prelude.{◌≡◌, refl, List, Bool, true, false, length, set, ltb, Option, Result, Ok}
 use Rattle.std.proofs.Common.{ap, sym, ◌∙◌, length-set, ltb-true, ltb-false, arith}
 use Rattle.std.proofs.Math.Bool.{cond}
+use Rattle.refusal.specs.declared.Refusal.{Refusal}
+use Rattle.record.specs.declared.Position.{Position}
 use Rattle.refusal.specs.Numbers.{over_limit}
 use Rattle.refusal.specs.declared.Refusal.TheVariants.{TooLong}
 use Rattle.record.specs.Bases.{byte_at}
 use Rattle.record.specs.Place.{place_in}
 use Rattle.record.specs.declared.Record.{Record}
 use Rattle.table.specs.declared.Filled.{Filled}
-use Rattle.table.specs.declared.Held.TheVariants as held
 use Rattle.output.specs.Outcome.{Outcome, refuses}
-use Rattle.output.specs.declared.Written.{Written}
 use Rattle.region.specs.Region.{start_of}
 use Rattle.region.specs.Exact.{exact_of, exact_held}
 use Rattle.region.specs.Dependence.{InRegion, exact_same}
 use Rattle.region.specs.Changed.{changed_at, changed-refused, exact-changed}
-use Rattle.region.specs.declared.Bound.{Bound}
 use Rattle.fastq.specs.declared.Part.{Part}
 use Rattle.fastq.specs.declared.Part.TheVariants.{Bases, Qualities}
 use Rattle.fastq_table.specs.Rows.{row_count}
@@ -34,7 +33,7 @@ use Rattle.fastq_mission.specs.Mend.{BaseAt, Plain, Covers}
 use Rattle.fastq_mission.specs.MendedLaws.{records-same, count_same, offsets-same, byte-here, byte-other}
 
 -- a row that is held is about a record
-held-about : (f t : List ℕ) (n r : ℕ) (p : Part) (x : Record) → TableOf f t n → held_at t n r p ≡ held.Row x → (r < n) × RowOf f r p x
+held-about : (f t : List ℕ) (n r : ℕ) (p : Part) (x : Record) → TableOf f t n → held_at t n r p ≡ Ok x → (r < n) × RowOf f r p x
 held-about f t n r p x y h = go (ltb r n) refl
   where
     go : (q : Bool) → ltb r n ≡ q → (r < n) × RowOf f r p x
@@ -47,7 +46,7 @@ held-about f t n r p x y h = go (ltb r n) refl
         let z : ◌≡◌ {A = ℕ} 0 1 = cc in
         absurd (omega arith)
 
-no-qualities : {f : List ℕ} {k j r : ℕ} {a e : Bound} → Covers f k j r Qualities a e → ⊥
+no-qualities : {f : List ℕ} {k j r : ℕ} {a e : Option Position} → Covers f k j r Qualities a e → ⊥
 no-qualities c = let w = c.part in let z : ◌≡◌ {A = ℕ} 0 1 = cc in omega arith
 
 module _ (f : List ℕ) (k j o b : ℕ) (base : BaseAt f k j o) (plain : Plain b) where
@@ -70,10 +69,10 @@ module _ (f : List ℕ) (k j o b : ℕ) (base : BaseAt f k j o) (plain : Plain b
         beyond = y.beyond;
       }
 
-  module _ (t : List ℕ) (n : ℕ) (table : TableOf f t n) (r : ℕ) (a e : Bound) (out : List ℕ) where
+  module _ (t : List ℕ) (n : ℕ) (table : TableOf f t n) (r : ℕ) (a e : Option Position) (out : List ℕ) where
     module _ (p : Part) where
       -- the byte of a base, or of a quality, of a held row, if it is not that base
-      byte-kept : (x : Record) → held_at t n r p ≡ held.Row x → (q : ℕ) → InRegion x a e q → (r ≡ k → p ≡ Bases → q ≡ suc j → ⊥)
+      byte-kept : (x : Record) → held_at t n r p ≡ Ok x → (q : ℕ) → InRegion x a e q → (r ≡ k → p ≡ Bases → q ≡ suc j → ⊥)
           → byte_at (set f o b) (place_in x (q - 1)) ≡ byte_at f (place_in x (q - 1))
       byte-kept x h q i m =
           let y = held-about f t n r p x table h in
@@ -85,11 +84,11 @@ module _ (f : List ℕ) (k j o b : ℕ) (base : BaseAt f k j o) (plain : Plain b
       unfolding exact_part exact_held
       mended-elsewhere m =
           rw (length-set f o b)
-          (ap (λ (y : Outcome Written). cond (over_limit (length f)) (refuses TooLong out) y)
+          (ap (λ (y : Outcome (Result ℕ Refusal)). cond (over_limit (length f)) (refuses TooLong out) y)
           (exact_same (length f) (held_at t n r p) a e out (byte_at (set f o b)) (byte_at f)
           (λ x h q i z. byte-kept x h q i (λ u s v. m (covers p x h q i u s v)))))
         where
-          covers : (p : Part) (x : Record) → held_at t n r p ≡ held.Row x → (q : ℕ) → InRegion x a e q → r ≡ k → p ≡ Bases → q ≡ suc j → Covers f k j r p a e
+          covers : (p : Part) (x : Record) → held_at t n r p ≡ Ok x → (q : ℕ) → InRegion x a e q → r ≡ k → p ≡ Bases → q ≡ suc j → Covers f k j r p a e
           covers p x h q i u s v =
               let c : x.length ≡ base_count f k Bases = rw (u, s) at (held-about f t n r p x table h).1.count in
               record { row = u; part = s; from = rw v at i.from; to = rw (v, c) at i.to }
@@ -120,7 +119,7 @@ module _ (f : List ℕ) (k j o b : ℕ) (base : BaseAt f k j o) (plain : Plain b
         go false = read
 
   -- the same of the table that the whole-index call leaves of an accepted index
-  module _ (i t t' : List ℕ) (told : Filled) (accepted : Accepts f i) (filled : FilledAs (index_in i (row_count t)) t t' told) (enough : record_count f ≤ row_count t) (r : ℕ) (a e : Bound) (out : List ℕ) where
+  module _ (i t t' : List ℕ) (told : Filled) (accepted : Accepts f i) (filled : FilledAs (index_in i (row_count t)) t t' told) (enough : record_count f ≤ row_count t) (r : ℕ) (a e : Option Position) (out : List ℕ) where
     table : TableOf f t' told.rows
     table = accepted-table f t t' told i accepted filled enough
 

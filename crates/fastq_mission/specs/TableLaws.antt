@@ -1,5 +1,5 @@
 -- Laws for Tables.antt: the rows of an index of six columns whose lines all read, and rows about a file's records put in a table.
-use Rattle.std.specs.Prelude.{ℕ, zero, suc, ◌+◌, ◌≤◌, ◌<◌, ◌≡◌, List, [], ◌∷◌, length, take, get_or}
+use Rattle.std.specs.Prelude.{ℕ, zero, suc, ◌+◌, ◌≤◌, ◌<◌, ◌≡◌, List, [], ◌∷◌, length, take, get_or, Ok}
 use Rattle.std.proofs.Math.Path.{refl}
 use Rattle.std.proofs.Common.{ap, sym, ◌∙◌, le-ltb, arith, add-zero, zero-add, one-add}
 use Rattle.refusal.specs.Numbers.{over_limit}
@@ -8,14 +8,12 @@ use Rattle.record.specs.Place.{place_in}
 use Rattle.record.specs.EvenLines.{length-bases_at}
 use Rattle.index_line.specs.IndexLine.{name_in}
 use Rattle.table.specs.declared.Filled.{Filled}
-use Rattle.table.specs.declared.Stop.TheVariants.{Ended}
 use Rattle.fastq.specs.Parts.{part_of}
 use Rattle.fastq.specs.declared.Part.{Part}
 use Rattle.fastq.specs.declared.Part.TheVariants.{Bases, Qualities}
 use Rattle.fastq.specs.declared.QualityRow.{QualityRow}
 use Rattle.fastq_line.specs.SixColumns.{six_line_says}
 use Rattle.fastq_line.specs.declared.Entry.{Entry}
-use Rattle.fastq_line.specs.declared.LineRead.TheVariants.{Row}
 use Rattle.fastq_table.specs.Rows.{row_count, with_rows}
 use Rattle.fastq_table.specs.Fill.{Found, with_first, FilledAs}
 use Rattle.table.specs.KindLaws.{held_all}
@@ -85,31 +83,31 @@ filled-table f t t' found told a room filled = rw (filled.table, filled.rows) (r
 -- the lines from number n on all read
 pub record Reads (n : ℕ) (l : List ℕ) : Type 0 where
   pub entry : Entry
-  pub reads : six_line_says n l ≡ Row entry
+  pub reads : six_line_says n l ≡ Ok entry
 
 abbrev pub AllRead : ℕ → List (List ℕ) → Type 0
 AllRead n ls = (k : ℕ) → k < length ls → Reads (n + k) (get_or ls k [])
 
 -- the rows of lines that begin at an offset: as many as lines, and row k is what line k says, its name where that line begins
 pub record RowsOf (n at : ℕ) (ls : List (List ℕ)) (f : Found) : Type 0 where
-  pub stop : f.stop ≡ Ended
+  pub stop : f.stop ≡ Ok tt
   pub count : length f.rows ≡ length ls
-  pub row : (k : ℕ) → k < length ls → (e : Entry) → six_line_says (n + k) (get_or ls k []) ≡ Row e → record_at f.rows k ≡ placed_at (line_start at ls k) e.row
+  pub row : (k : ℕ) → k < length ls → (e : Entry) → six_line_says (n + k) (get_or ls k []) ≡ Ok e → record_at f.rows k ≡ placed_at (line_start at ls k) e.row
 
 -- the lines behind the first
 behind : (n : ℕ) (l : List ℕ) (ls : List (List ℕ)) → AllRead n (l ∷ ls) → AllRead (suc n) ls
 behind n l ls read k h = let r = read (suc k) (omega arith) in record { entry = r.entry; reads = rw (suc-shift n k) r.reads }
 
 -- a first line, and rows of those behind it
-more_rows : (n at : ℕ) (l : List ℕ) (ls : List (List ℕ)) (e : Entry) (f : Found) → six_line_says n l ≡ Row e → RowsOf (suc n) (at + length l) ls f
+more_rows : (n at : ℕ) (l : List ℕ) (ls : List (List ℕ)) (e : Entry) (f : Found) → six_line_says n l ≡ Ok e → RowsOf (suc n) (at + length l) ls f
     → RowsOf n at (l ∷ ls) (with_first (placed_at at e.row) f)
 unfolding sum_widths
 more_rows n at l ls e f q r = record { stop = r.stop; count = ap suc r.count; row = row }
   where
-    row : (k : ℕ) → k < length (l ∷ ls) → (x : Entry) → six_line_says (n + k) (get_or (l ∷ ls) k []) ≡ Row x
+    row : (k : ℕ) → k < length (l ∷ ls) → (x : Entry) → six_line_says (n + k) (get_or (l ∷ ls) k []) ≡ Ok x
         → record_at (placed_at at e.row ∷ f.rows) k ≡ placed_at (line_start at (l ∷ ls) k) x.row
     row zero h x p =
-        let z : six_line_says n l ≡ Row x = rw (add-zero n) at p in
+        let z : six_line_says n l ≡ Ok x = rw (add-zero n) at p in
         let s : e ≡ x = cc in
         rw (s, add-zero at)
     row (suc k) h x p = r.row k (omega arith) x (rw (suc-shift n k) p) ∙ ap (λ (o : ℕ). placed_at o x.row) (start-behind at l ls k)
@@ -119,7 +117,7 @@ unfolding lines_say
 rows_of [] n at read = record { stop = refl; count = refl; row = λ k h e q. absurd (omega arith) }
 rows_of (l ∷ ls) n at read =
     let r = read 0 (omega arith) in
-    let e : six_line_says n l ≡ Row r.entry = rw (add-zero n) at r.reads in
+    let e : six_line_says n l ≡ Ok r.entry = rw (add-zero n) at r.reads in
     rw e (more_rows n at l ls r.entry (lines_say (suc n) (at + length l) ls) e (rows_of ls (suc n) (at + length l) (behind n l ls read)))
 
 -- an index within the limit, whose rows a table has room for, is read whole

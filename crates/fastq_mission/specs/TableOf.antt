@@ -1,16 +1,14 @@
 -- Rows about the records of a FASTQ file, and a table of them, said of the file alone: row r has the count of bases of record r, and the place of each
 -- base and of each quality.
-use Rattle.std.specs.Prelude.{ℕ, ◌≤◌, ◌<◌, ◌≡◌, List, length, get_or}
+use Rattle.std.specs.Prelude.{ℕ, ◌≤◌, ◌<◌, ◌≡◌, List, length, get_or, Option, Result, Ok}
+use Rattle.refusal.specs.declared.Refusal.{Refusal}
+use Rattle.record.specs.declared.Position.{Position}
 use Rattle.lines.specs.Lines.{sum_bases}
 use Rattle.record.specs.Place.{place_in}
 use Rattle.record.specs.declared.Record.{Record}
 use Rattle.output.specs.Outcome.{Outcome}
-use Rattle.output.specs.declared.Written.{Written}
 use Rattle.table.specs.Rows.{bad_row, held_of}
-use Rattle.table.specs.declared.Held.{Held}
-use Rattle.table.specs.declared.Held.TheVariants as held
 use Rattle.region.specs.Exact.{exact_held}
-use Rattle.region.specs.declared.Bound.{Bound}
 use Rattle.fastq.specs.declared.Part.{Part}
 use Rattle.fastq_table.specs.Rows.{used_at}
 use Rattle.fastq_checker.specs.Check.{part_lines, offsets_of}
@@ -37,17 +35,17 @@ pub record RowOf (f : List ℕ) (r : ℕ) (p : Part) (x : Record) : Type 0 where
   pub places : (j : ℕ) → j < base_count f r p → place_in x j ≡ base_place f r p j
 
 -- the bases, or the qualities, of row r of a table with n rows in use, as the reads take them
-abbrev pub held_at : List ℕ → ℕ → ℕ → Part → Held
+abbrev pub held_at : List ℕ → ℕ → ℕ → Part → Result Record Refusal
 held_at t n r p = held_of (used_at t n r p)
 
 -- the exact read of them
-unfoldable pub exact_part : List ℕ → List ℕ → ℕ → ℕ → Part → Bound → Bound → List ℕ → Outcome Written
+unfoldable pub exact_part : List ℕ → List ℕ → ℕ → ℕ → Part → Option Position → Option Position → List ℕ → Outcome (Result ℕ Refusal)
 exact_part f t n r p a e out = exact_held f (held_at t n r p) a e out
 
 -- row r of such a table holds such a row
 pub record Holds (f t : List ℕ) (n r : ℕ) (p : Part) : Type 0 where
   pub row : Record
-  pub held : held_at t n r p ≡ held.Row row
+  pub held : held_at t n r p ≡ Ok row
   pub about : RowOf f r p row
 
 -- a table has n rows in use, one for each record of a file and about it; beyond them there is none

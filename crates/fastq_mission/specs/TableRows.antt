@@ -1,11 +1,9 @@
 -- Rows put in a table of FASTQ's are read back, without their descriptions, which such a table does not hold.
-use Rattle.std.specs.Prelude.{ℕ, ◌+◌, ◌*◌, ◌≤◌, ◌<◌, ◌≡◌, refl, List, ◌++◌, length}
+use Rattle.std.specs.Prelude.{ℕ, ◌+◌, ◌*◌, ◌≤◌, ◌<◌, ◌≡◌, refl, List, ◌++◌, length, Ok}
 use Rattle.std.proofs.Math.Path.{ap, sym}
 use Rattle.std.proofs.Common.{◌∙◌, get_or-append-add, arith, zero-add, add_assoc}
 use Rattle.table.specs.Rows.{bad_row, held_of}
 use Rattle.table.specs.RowLaws.{sound-row}
-use Rattle.table.specs.declared.Held.TheVariants as held
-use Rattle.table.specs.declared.InUse.TheVariants as used
 use Rattle.fastq.specs.Parts.{part_of}
 use Rattle.fastq.specs.declared.Part.{Part}
 use Rattle.fastq.specs.declared.Part.TheVariants.{Bases, Qualities}
@@ -44,13 +42,13 @@ module _ (t : List ℕ) (xs : List QualityRow) (h : length xs ≤ row_count t) (
       ap (λ (i : ℕ). numbers_at (with_rows t 0 xs) (i * row_words)) (sym (zero-add k)) ∙ KindLaws.rows-read quality_rows numbers_at bare shift (λ x rest. refl) t 0 _ xs k (omega arith) m
 
   -- so a row is in use, for its bases and for its qualities
-  pub used-stored : k < length xs → (p : Part) → used_at (with_rows t 0 xs) (length xs) k p ≡ used.Row k (part_of p (bare (record_at xs k)))
+  pub used-stored : k < length xs → (p : Part) → used_at (with_rows t 0 xs) (length xs) k p ≡ Ok (k, (part_of p (bare (record_at xs k))))
   used-stored m p =
-      sym (used-row (with_rows t 0 xs) (length xs) k p (rw (row_count-rows quality_rows t 0 xs) h) m) ∙ ap (λ (x : QualityRow). used.Row k (part_of p x)) (rows-read m)
+      sym (used-row (with_rows t 0 xs) (length xs) k p (rw (row_count-rows quality_rows t 0 xs) h) m) ∙ ap (λ (x : QualityRow). Ok (k, (part_of p x))) (rows-read m)
 
   -- and holds a record, if line bases and line width are not 0
   pub held-stored : k < length xs → 1 ≤ (record_at xs k).«record».line_bases → 1 ≤ (record_at xs k).«record».line_width → (p : Part)
-      → held_of (used_at (with_rows t 0 xs) (length xs) k p) ≡ held.Row (part_of p (bare (record_at xs k)))
+      → held_of (used_at (with_rows t 0 xs) (length xs) k p) ≡ Ok (part_of p (bare (record_at xs k)))
   unfolding held_of part_of
   held-stored m b w Bases = ap held_of (used-stored m Bases) ∙ sym (sound-row k (bare (record_at xs k)).«record» (λ e. omega arith) (λ e. omega arith))
   held-stored m b w Qualities = ap held_of (used-stored m Qualities) ∙ sym (sound-row k (part_of Qualities (bare (record_at xs k))) (λ e. omega arith) (λ e. omega arith))

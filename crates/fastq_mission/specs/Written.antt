@@ -1,5 +1,5 @@
 -- The index lines of rows that lead to their records: each is one line, reads back, and matches its record.
-use Rattle.std.specs.Prelude.{ℕ, zero, suc, ◌^◌, ◌<◌, ◌≡◌, length, get_or}
+use Rattle.std.specs.Prelude.{ℕ, zero, suc, ◌^◌, ◌<◌, ◌≡◌, length, get_or, Ok}
 use Rattle.std.proofs.Math.Path.{refl, sym}
 use Rattle.std.proofs.Common.{ap, ◌∙◌, arith}
 use mathlib.Core.List.{List, [], ◌∷◌, ◌++◌, append-nil}
@@ -17,7 +17,6 @@ use Rattle.fastq.specs.declared.Part.TheVariants.{Bases, Qualities}
 use Rattle.fastq.specs.declared.QualityRow.{QualityRow}
 use Rattle.fastq_line.specs.SixColumns.{six_line_says, name_of}
 use Rattle.fastq_line.specs.RoundTrip.{five_of, six_line_of, entry_of, written-reads}
-use Rattle.fastq_line.specs.declared.LineRead.TheVariants as read
 use Rattle.fastq_checker.specs.Accepts.{record_at, Matches}
 use Rattle.fastq_mission.specs.Leads.{Leads}
 use Rattle.fastq_line.specs.Sound.{line-sound}
@@ -55,7 +54,7 @@ module _ (f : List ℕ) (x : QualityRow) (d : Leads f x) where
     fits = omega (arith, (d.front Qualities).inside)
 
     -- and reads back, whichever its number
-    pub reads : (n : ℕ) → six_line_says n (line_in f x) ≡ read.Row (entry_of (length (name_in f x.«record»)) x)
+    pub reads : (n : ℕ) → six_line_says n (line_in f x) ≡ Ok (entry_of (length (name_in f x.«record»)) x)
     reads n = written-reads n (name_in f x.«record») x untabbed (d.lined small) fits
 
     name-read : name_in f x.«record» ≡ name_of (line_in f x)

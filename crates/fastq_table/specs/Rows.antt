@@ -1,11 +1,11 @@
 -- A FASTQ record's row in a table of numbers, seven to a row: its words, reading it, and the table with it stored. Of a table of bytes, these
 -- are about its numbers (`numbersIn`).
-use Rattle.std.specs.Prelude.{ℕ, ◌+◌, ◌*◌, ◌/◌, ◌≡◌, refl, List, [], ◌∷◌, ◌++◌, cond, length, get_or, ltb}
+use Rattle.std.specs.Prelude.{ℕ, ◌+◌, ◌*◌, ◌/◌, ◌≡◌, refl, List, [], ◌∷◌, ◌++◌, cond, length, get_or, ltb, Result, Ok}
 use Rattle.std.proofs.Common.{lit<}
+use Rattle.refusal.specs.declared.Refusal.{Refusal}
+use Rattle.record.specs.declared.Record.{Record}
 use Rattle.record.specs.declared.Offset.{Offset}
 use Rattle.table.specs.Rows.{no_row}
-use Rattle.table.specs.declared.InUse.{InUse}
-use Rattle.table.specs.declared.InUse.TheVariants as used
 use Rattle.table.specs.Kinds
 use Rattle.fastq.specs.declared.QualityRow.{QualityRow}
 use Rattle.fastq.specs.declared.Part.{Part}
@@ -67,10 +67,9 @@ pub rows-counted : (t : List ℕ) → row_count t ≡ length t / row_words
 unfolding row_count
 rows-counted t = refl
 
-abbrev pub quality_rows : Kinds.Kind
+abbrev pub quality_rows : Kinds.Kind QualityRow
 quality_rows =
     record {
-      Row = QualityRow;
       size = row_words;
       words_of = words_of;
       words = words;
@@ -90,8 +89,8 @@ with_rows = Kinds.with_rows quality_rows
 
 -- the bases, or the qualities, of row r of a table with n rows in use: if it has fewer rows than n, the first that it lacks is refused,
 -- whichever is asked
-unfoldable pub used_at : List ℕ → ℕ → ℕ → Part → InUse
-used_at t n r p = cond (ltb (row_count t) n) (no_row (row_count t)) (cond (ltb r n) (used.Row r (part_of p (row_at t r))) (no_row r))
+unfoldable pub used_at : List ℕ → ℕ → ℕ → Part → Result (ℕ × Record) Refusal
+used_at t n r p = cond (ltb (row_count t) n) (no_row (row_count t)) (cond (ltb r n) (Ok (r, (part_of p (row_at t r)))) (no_row r))
 
 -- where the qualities of row r begin; 0 where the table has no such row
 unfoldable pub qualities_at : List ℕ → ℕ → Offset

@@ -3,88 +3,75 @@
 // judged as the crate `table` does (25). A good record that finds no free row is refused (8).
 #![tactic(auto)]
 
-ghost use Rattle.std.specs.Prelude.{◌≡◌, ◌+◌, ◌^◌, ◌<◌};
-ghost use Rattle.std.proofs.lemmas.List.Edits.{sets};
+ghost use Rattle.std.specs.Prelude.{◌≡◌, refl};
 ghost use Rattle.table.specs.Numbers.{numbers_in};
-ghost use Rattle.table.specs.NumberLaws.{Became};
-ghost use Rattle.fastq_table.specs.Rows.{row_words, words_of, numbers_at, row_count, used_at, qualities_at};
+ghost use Rattle.fastq_table.specs.Rows.{row_words, numbers_at, quality_rows, row_count, used_at, qualities_at};
 ghost use Rattle.fastq_table.specs.Fill.{StoredIn, KeptIn};
 
 use fastq::{Part, QualityRow};
 use record::{Offset, Record};
 use refusal::Refusal;
-use table::{InUse, Kept, Stop, Stored, numbers};
+use table::kind;
+use table::kind::{Cell, RowKind};
 
 // The numbers of a row.
 pub const WORDS: usize = 7;
 
-// The next row and the place behind it, in what a table is filled from; or why there is none.
-#[derive(Clone, Copy)]
-pub enum Next {
-    Row(QualityRow, usize),
-    Stop(Stop),
+// The rows of FASTQ: the numbers of an index line with the name's span in front, the quality position last. There is no description.
+pub struct QualityRows;
+
+impl RowKind for QualityRows {
+    type Row = QualityRow;
+
+    ghost kind = { quality_rows };
+
+    ghost numbers_at = { numbers_at };
+
+    ghost WORDS = { row_words };
+
+    const WORDS: usize = WORDS;
+
+    fn read<C: Cell>(table: &[C], b: usize) -> QualityRow {
+        let x = Record::unnamed(
+            C::number(table, b + 2),
+            Offset(C::number(table, b + 3)),
+            C::number(table, b + 4),
+            C::number(table, b + 5),
+        );
+        QualityRow {
+            record: x.named(C::number(table, b), C::number(table, b + 1)),
+            qualities: Offset(C::number(table, b + 6)),
+        }
+    }
+
+    fn write<C: Cell>(table: &mut [C], b: usize, x: QualityRow) {
+        C::put(table, b, x.record.name_start);
+        C::put(table, b + 1, x.record.name_length);
+        C::put(table, b + 2, x.record.length);
+        C::put(table, b + 3, x.record.position.0);
+        C::put(table, b + 4, x.record.line_bases);
+        C::put(table, b + 5, x.record.line_width);
+        C::put(table, b + 6, x.qualities.0);
+    }
+
+    ghost sized = { refl };
 }
+
+// The calls below stay beside those of `kind`: the calls from C stand on `row`, and docs/PROMISES.md names them.
 
 // How many whole rows a table has.
 pub fn rows(table: &[u8]) -> usize
     ensures { result ≡ row_count (numbers_in table.now) }
 {
-    numbers::count(table) / WORDS
-}
-
-// There is no row `row`.
-fn none(row: usize) -> InUse
-    ensures { result ≡ InUse.Refused (Refusal.BadRow row) }
-{
-    InUse::Refused(Refusal::BadRow { row: row as u64 })
-}
-
-// The row whose numbers begin with number `b`.
-fn read(table: &[u8], b: usize) -> QualityRow
-    requires { b + row_words < 2 ^ 64 }
-    ensures { result ≡ numbers_at (numbers_in table.now) b }
-{
-    let x = Record::unnamed(
-        numbers::number(table, b + 2),
-        Offset(numbers::number(table, b + 3)),
-        numbers::number(table, b + 4),
-        numbers::number(table, b + 5),
-    );
-    let record = x.named(numbers::number(table, b), numbers::number(table, b + 1));
-    QualityRow {
-        record,
-        qualities: Offset(numbers::number(table, b + 6)),
-    }
-}
-
-// Puts a row's numbers in a table, from number `b` on.
-fn write(table: &mut [u8], b: usize, x: QualityRow)
-    requires { b + row_words < 2 ^ 64 }
-    ensures { Became table.old (sets (numbers_in table.old) b (words_of x)) table.new }
-{
-    let y = x.record;
-    numbers::put(table, b, y.name_start);
-    numbers::put(table, b + 1, y.name_length);
-    numbers::put(table, b + 2, y.length);
-    numbers::put(table, b + 3, y.position.0);
-    numbers::put(table, b + 4, y.line_bases);
-    numbers::put(table, b + 5, y.line_width);
-    numbers::put(table, b + 6, x.qualities.0);
+    kind::rows::<QualityRows, u8>(table)
 }
 
 // The bases, or the qualities, of row `row` of a table that has `in_use` rows in use.
-pub fn row(table: &[u8], in_use: usize, row: usize, part: Part) -> InUse
+pub fn row(table: &[u8], in_use: usize, row: usize, part: Part) -> Result<(usize, Record), Refusal>
     ensures { result ≡ used_at (numbers_in table.now) in_use row part }
 {
-    let all = rows(table);
-    if all < in_use {
-        return none(all);
-    }
-    if in_use <= row {
-        return none(row);
-    }
-    let x = read(table, row * WORDS);
-    InUse::Row(row, x.part(part))
+    let (number, x) = kind::row::<QualityRows, u8>(table, in_use, row)?;
+    Ok((number, x.part(part)))
 }
 
 // Where the qualities of row `row` begin; 0 where the table has no such row.
@@ -94,31 +81,24 @@ pub fn qualities(table: &[u8], row: usize) -> Offset
     if rows(table) <= row {
         return Offset(0);
     }
-    let x = read(table, row * WORDS);
+    let x = QualityRows::read(table, row * WORDS);
     x.qualities
 }
 
 // Puts a row in row `row` of a table, and leaves every other byte there as it was.
-pub fn store(table: &mut [u8], row: usize, x: QualityRow) -> Stored
+pub fn store(table: &mut [u8], row: usize, x: QualityRow) -> Result<(), Refusal>
     ensures { StoredIn table.old row x result table.new }
 {
-    let all = rows(table);
-    if all <= row {
-        return Stored::Refused(Refusal::TableFull { rows: all as u64 });
-    }
-    write(table, row * WORDS, x);
-    Stored::Kept
+    kind::store::<QualityRows, u8>(table, row, x)
 }
 
 // One turn of filling: puts the next row, if there is one, in row `row`.
-pub fn keep(table: &mut [u8], row: usize, next: Next) -> Kept
+pub fn keep(
+    table: &mut [u8],
+    row: usize,
+    next: Result<Option<(QualityRow, usize)>, Refusal>,
+) -> Result<Option<usize>, Refusal>
     ensures { KeptIn table.old row next result table.new }
 {
-    match next {
-        Next::Stop(stop) => Kept::Stop(stop),
-        Next::Row(x, behind) => match store(table, row, x) {
-            Stored::Kept => Kept::On(behind),
-            Stored::Refused(f) => Kept::Stop(Stop::Refused(f)),
-        },
-    }
+    kind::keep::<QualityRows, u8>(table, row, next)
 }

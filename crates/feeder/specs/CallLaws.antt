@@ -12,7 +12,12 @@ use Rattle.feeder.specs.declared.Fed.{Fed}
 use Rattle.feeder.specs.declared.Out.{Out}
 use Rattle.feeder.specs.declared.Feeder.{Feeder}
 use Rattle.feeder.specs.Machine.{out_of, step_by, SettleDone, FeedDone}
-use Rattle.feeder.specs.Calls.{limit, refused_by, live, still_stopped, sound_of, kept_by, kept_in, piece_of, closed_by, closed_in, end_of, CallDone}
+use Rattle.feeder.specs.Calls.{limit, refused_by, live, still_stopped, sound_of, stopped, kept_by, kept_in, piece_of, closed_by, closed_in, end_of, CallDone, refusal_in}
+use Rattle.refusal.specs.declared.Numbers as refused
+use Rattle.fitting.specs.declared.Rule.{Rule}
+use Rattle.feeder.specs.declared.Waiting.{Waiting}
+use Rattle.feeder.specs.declared.Phase.{Phase}
+use Rattle.feeder.specs.declared.Phase.TheVariants.{Definition, Lines, Halted, Ended}
 
 module _ (f : Feeder) (p t : List ℕ) (r : Feeder) where
   pub piece-none : length p ≡ 0 → CallDone (piece_of f p (numbers_in t)) t f t
@@ -73,3 +78,33 @@ not-true false e = refl
 pub not-false : (b : Bool) → not b ≡ false → b ≡ true
 not-false true e = refl
 not-false false e = sym e
+
+-- ---- what holds of each phase but one
+
+pub still-other : (f : Feeder) (p : Phase) → (p ≡ Ended → ⊥) → f ≡ still_stopped f p
+unfolding still_stopped
+still-other f (Definition at) h = refl
+still-other f (Lines d so z) h = refl
+still-other f (Halted n) h = refl
+still-other f Ended h = absurd (h refl)
+
+pub kept-other : (rule : Rule) (total rows : ℕ) (t : Waiting) (p : Phase) → ((n : refused.Numbers) → p ≡ Halted n → ⊥) → record { rule = rule; total = total; rows = rows; phase = p; waiting = t } ≡ kept_by rule total p rows t
+unfolding kept_by
+kept-other rule total rows t (Definition at) h = refl
+kept-other rule total rows t (Lines d so z) h = refl
+kept-other rule total rows t (Halted n) h = absurd (h n refl)
+kept-other rule total rows t Ended h = refl
+
+pub closed-other : (rule : Rule) (rows : ℕ) (p : Phase) → ((n : refused.Numbers) → p ≡ Halted n → ⊥) → stopped rule rows Ended ≡ closed_by rule p rows
+unfolding closed_by
+closed-other rule rows (Definition at) h = refl
+closed-other rule rows (Lines d so z) h = refl
+closed-other rule rows (Halted n) h = absurd (h n refl)
+closed-other rule rows Ended h = refl
+
+pub refusal-none : (p : Phase) → ((n : refused.Numbers) → p ≡ Halted n → ⊥) → record { refusal = 0; first = 0; second = 0 } ≡ refusal_in p
+unfolding refusal_in
+refusal-none (Definition at) h = refl
+refusal-none (Lines d so z) h = refl
+refusal-none (Halted n) h = absurd (h n refl)
+refusal-none Ended h = refl

@@ -1,5 +1,5 @@
 -- Laws that the code's proofs cite: of the bytes of a line, of a definition by its numbers, of a place, and of a stored row.
-use Rattle.std.specs.Prelude.{ℕ, zero, suc, ◌+◌, ◌-◌, ◌*◌, ◌/◌, ◌%◌, ◌^◌, ◌≤◌, ◌<◌, min, ◌≡◌, List, [], ◌∷◌, Bool, cond, not, length, get_or, drop}
+use Rattle.std.specs.Prelude.{ℕ, zero, suc, ◌+◌, ◌-◌, ◌*◌, ◌/◌, ◌%◌, ◌^◌, ◌≤◌, ◌<◌, min, ◌≡◌, List, [], ◌∷◌, Bool, cond, not, length, get_or, drop, Some, None, Result, Ok, Err, ⊤}
 use Rattle.std.proofs.Math.Path.{refl, ap, sym}
 use Rattle.std.proofs.Common.{◌∙◌, drop_of_length-le}
 use Rattle.std.proofs.Math.Bool.{true, false}
@@ -15,7 +15,6 @@ use Rattle.lines.specs.Lines.{part, line_end, lines, chop, ends, begins, up_from
 use Rattle.lines.specs.Laws.{part-cons, part_length, lines_at-cut}
 use Rattle.definition.specs.Definition.{is_space, spaced, run}
 use Rattle.definition.specs.Laws.{described-none, described-some}
-use Rattle.definition.specs.declared.Parsed.TheVariants.{Named}
 use Rattle.indexer.specs.LineSums.{skip, grow, named_as}
 use Rattle.lines.specs.Feeding.{FedSum, absorb_sum, absorb_sums, feed_sum}
 use Rattle.fitting.specs.declared.Rule.{Rule}
@@ -30,15 +29,12 @@ use Rattle.record.specs.declared.Record.{Record}
 use Rattle.record.specs.Place.{place_of}
 use Rattle.walking.specs.Places.{first_elsewhere}
 use Rattle.walking.specs.Walk.{walk_stride, judged-there, judged-crosses, judged-elsewhere}
-use Rattle.walking.specs.declared.Placed.TheVariants.{There, Elsewhere}
 use Rattle.fitting.specs.declared.Numbers.{Numbers}
 use Rattle.fitting.specs.Complete.{place_by}
 use Rattle.table.specs.Numbers.{numbers_in, rest_of}
 use Rattle.table.specs.Rows.{row_count}
 use Rattle.table.specs.RowLaws.{without-row, kept-inside, full-outside}
 use Rattle.table.specs.Bytes.{StoredIn}
-use Rattle.table.specs.declared.Stored.{Stored}
-use Rattle.table.specs.declared.Stored.TheVariants as stored
 use Rattle.feeder.specs.declared.Phase.TheVariants.{Definition, Halted}
 use Rattle.feeder.specs.declared.Phase.{Phase}
 use Rattle.feeder.specs.declared.Out.{Out}
@@ -126,12 +122,12 @@ text-more l r e h k =
     k ∙ rw q (skip-name l)
 
 -- what a line says that begins with '>'
-pub named_none : (n text kept : ℕ) → (n ≡ 0 → ⊥) → kept ≤ text → Named (record { name = record { start = 1; length = n }; description = record { start = 0; length = 0 } }) ≡ named_as n text kept
+pub named_none : (n text kept : ℕ) → (n ≡ 0 → ⊥) → kept ≤ text → Ok (record { name = record { start = 1; length = n }; description = record { start = 0; length = 0 } }) ≡ named_as n text kept
 named_none zero text kept h k = absurd (h refl)
 named_none (suc n) text kept h k = rw (described-none text (kept - text) (omega arith))
 
 pub named_some : (n text kept : ℕ) → (n ≡ 0 → ⊥) → text < kept
-    → Named (record { name = record { start = 1; length = n }; description = record { start = text; length = kept - text } }) ≡ named_as n text kept
+    → Ok (record { name = record { start = 1; length = n }; description = record { start = text; length = kept - text } }) ≡ named_as n text kept
 named_some zero text kept h k = absurd (h refl)
 named_some (suc n) text kept h k = rw (described-some text (kept - text) (omega arith))
 
@@ -193,19 +189,19 @@ module _ (n : Numbers) (k at b : ℕ) (s : 0 < n.bases) (a : n.bases < n.width) 
   unfolding walk_stride
   inside = mod-lt k s
 
-  pub bases-there : t ≡ true → b ≤ n.bases - k % n.bases → There ≡ first_elsewhere (place_by n) k (up_from at b)
+  pub bases-there : t ≡ true → b ≤ n.bases - k % n.bases → None ≡ first_elsewhere (place_by n) k (up_from at b)
   bases-there h l =
       (judged-there (walk_stride n.position n.bases n.width k) n.bases k (record { 0 = at }) b (omega arith) (λ e. omega arith) inside t same h (unfold walk_stride in l)
       ).says n.position n.width refl (λ e. absurd (omega arith))
 
   pub bases-cross : t ≡ true → n.bases - k % n.bases < b
-      → Elsewhere (record { 0 = k + (n.bases - k % n.bases) + 1 }) (record { 0 = at + (n.bases - k % n.bases) }) ≡ first_elsewhere (place_by n) k (up_from at b)
+      → Some ((record { 0 = k + (n.bases - k % n.bases) + 1 }), (record { 0 = at + (n.bases - k % n.bases) })) ≡ first_elsewhere (place_by n) k (up_from at b)
   unfolding walk_stride
   bases-cross h l =
       (judged-crosses (walk_stride n.position n.bases n.width k) n.bases k (record { 0 = at }) b (omega arith) (λ e. omega arith) inside t same h l
       ).says n.position n.width refl (λ e. absurd (omega arith))
 
-  pub bases-elsewhere : t ≡ false → Elsewhere (record { 0 = k + 1 }) (record { 0 = at }) ≡ first_elsewhere (place_by n) k (up_from at b)
+  pub bases-elsewhere : t ≡ false → Some ((record { 0 = k + 1 }), (record { 0 = at })) ≡ first_elsewhere (place_by n) k (up_from at b)
   bases-elsewhere h =
       (judged-elsewhere (walk_stride n.position n.bases n.width k) n.bases k (record { 0 = at }) b (omega arith) (λ e. omega arith) inside t same h
       ).says n.position n.width refl (λ e. absurd (omega arith))
@@ -216,14 +212,14 @@ module _ (out : Out) (n : ℕ) (t : List ℕ) where
   pub settled-keeps : (p : Phase) → out ≡ Keeps p → SettleDone out n t (record { phase = p; rows = n }) t
   settled-keeps p e = record { is = unfold applied in rw e; rest = refl }
 
-  module _ (x : Record) (z : ℕ) (e : out ≡ Emits x z) (told : Stored) (t' : List ℕ) (s : StoredIn t n x told t') where
-    pub settled-row : told ≡ stored.Kept → SettleDone out n t (record { phase = Definition z; rows = n + 1 }) t'
+  module _ (x : Record) (z : ℕ) (e : out ≡ Emits x z) (told : Result ⊤ Refusal) (t' : List ℕ) (s : StoredIn t n x told t') where
+    pub settled-row : told ≡ Ok tt → SettleDone out n t (record { phase = Definition z; rows = n + 1 }) t'
     unfolding applied
     settled-row k =
         let r = kept-inside (numbers_in t) n (sym s.stored.answer ∙ k) in
         record { is = rw (e, lt-ltb _ _ r) (ap (filling (Definition z) (n + 1)) s.stored.table); rest = s.rest }
 
-    pub settled-full : (f : Refusal) → told ≡ stored.Refused f → SettleDone out n t (record { phase = Halted (numbers_of f); rows = n }) t'
+    pub settled-full : (f : Refusal) → told ≡ Err f → SettleDone out n t (record { phase = Halted (numbers_of f); rows = n }) t'
     unfolding applied
     settled-full f k =
         let r = full-outside (numbers_in t) n f (sym s.stored.answer ∙ k) in

@@ -1,6 +1,6 @@
 -- Over the lines of a whole file the machine by the complete rule gives what indexing the file by that rule gives. It takes a record's lines
 -- one by one (LineByLine), and the first misfit decides.
-use Rattle.std.specs.Prelude.{ℕ, suc, ◌+◌, ◌-◌, ◌<◌, ◌≡◌, Bool, cond, eqb, ltb}
+use Rattle.std.specs.Prelude.{ℕ, suc, ◌+◌, ◌-◌, ◌<◌, ◌≡◌, Bool, cond, eqb, ltb, Option, Some, None, Result, Ok, Err}
 use Rattle.std.proofs.Math.Path.{refl, ap}
 use Rattle.std.proofs.Common.{sym, ◌∙◌, true≢false, length-append, ltb-true, ltb-false, arith}
 use mathlib.Core.List.{List, [], ◌∷◌, ◌++◌}
@@ -19,27 +19,21 @@ use Rattle.lines.specs.Feeding.{judge_all}
 use Rattle.definition.specs.declared.Definition as definition
 use Rattle.definition.specs.declared.Fault.{Fault}
 use Rattle.definition.specs.declared.Fault.TheVariants as fault
-use Rattle.definition.specs.declared.Parsed.{Parsed}
-use Rattle.definition.specs.declared.Parsed.TheVariants.{Named, Bad}
 use Rattle.definition.specs.Definition.{definition_says, refusal_at, refusal_of, fails_at}
 use Rattle.record.specs.declared.Record.{Record}
 use Rattle.record.specs.declared.Position.{Position}
 use Rattle.record.specs.declared.Offset.{Offset}
 use Rattle.record.specs.EvenLines.{length-up_from}
-use Rattle.table.specs.declared.Stop.TheVariants as stop
 use Rattle.table.specs.Rows.{row_count, with_row, with_rows}
 use Rattle.table.specs.RowLaws.{rows_none, rows-onward, row_count-rows, with-row}
 use Rattle.table.specs.Fill.{Found, nothing, with_first, held_in}
 use Rattle.table.specs.Laws.{held-nothing, held_none, held_first}
-use Rattle.indexer.specs.declared.Indexed.TheVariants as indexed
 use Rattle.indexer.specs.declared.Step.{Step}
 use Rattle.indexer.specs.Rule.{Verdict, good, bad, judged_by, sequence_by, defined_by, stepped, groups_by, file_by}
 use Rattle.indexer.specs.Index.{line_of}
 use Rattle.indexer.specs.ByLines as old
 use Rattle.indexer.specs.LineSums.{sum_of, sum_says, step_sum, sums-law}
 use Rattle.walking.specs.Places.{first_elsewhere}
-use Rattle.walking.specs.declared.Placed.{Placed}
-use Rattle.walking.specs.declared.Placed.TheVariants.{There, Elsewhere}
 use Rattle.fitting.specs.declared.Numbers.{Numbers}
 use Rattle.fitting.specs.declared.Rule.TheVariants.{Complete}
 use Rattle.fitting.specs.Complete.{place_by, complete, numbers_at, fit}
@@ -64,19 +58,19 @@ use Rattle.feeder.specs.Whole.{stop_numbers, ToldBy, slim-says}
 abbrev fault_by : ℕ → Fault
 fault_by n = cond (eqb n 2) fault.Empty (cond (eqb n 3) fault.NoPrefix fault.NoName)
 
-abbrev said_of : old.Phase → Parsed
-said_of (old.wants-definition at) = Bad fault.Empty
-said_of (old.wants-first d) = Named d.said
-said_of (old.wants-line d x m z) = Bad fault.Empty
-said_of (old.halted stop.Ended) = Bad fault.Empty
-said_of (old.halted (stop.Refused r)) = Bad (fault_by (numbers_of r).refusal)
+abbrev said_of : old.Phase → Result definition.Definition Fault
+said_of (old.wants-definition at) = Err fault.Empty
+said_of (old.wants-first d) = Ok d.said
+said_of (old.wants-line d x m z) = Err fault.Empty
+said_of (old.halted (Ok tt)) = Err fault.Empty
+said_of (old.halted (Err r)) = Err (fault_by (numbers_of r).refusal)
 
-said-back : (w : ℕ) (p : Parsed) → said_of (old.applied 0 0 [] (old.definition_out 0 w false p)).phase ≡ p
+said-back : (w : ℕ) (p : Result definition.Definition Fault) → said_of (old.applied 0 0 [] (old.definition_out 0 w false p)).phase ≡ p
 unfolding old.definition_out refusal_of fails_at numbers_of
-said-back w (Named d) = refl
-said-back w (Bad fault.Empty) = refl
-said-back w (Bad fault.NoPrefix) = refl
-said-back w (Bad fault.NoName) = refl
+said-back w (Ok d) = refl
+said-back w (Err fault.Empty) = refl
+said-back w (Err fault.NoPrefix) = refl
+said-back w (Err fault.NoName) = refl
 
 judged-line : (l : List ℕ) → old.step_line 0 (old.state (old.wants-definition 0) 0 []) l false ≡ old.applied 0 0 [] (old.definition_out 0 (sum_of l).line.width false (sum_says (sum_of l)))
 unfolding step_sum
@@ -135,11 +129,11 @@ after_front l ls h = rw (some-begins l ls h)
 abbrev so_far_of : SoFar → byLine.SoFar
 so_far_of Blank = byLine.blank
 so_far_of (Run n) = byLine.run n.position n.bases n.width
-so_far_of (Rows n k) = byLine.rows n k There
+so_far_of (Rows n k) = byLine.rows n k None
 
 abbrev verdict_as : Opened → Numbers → ℕ → ℕ → Verdict → Step
-verdict_as d n k e good = record { answer = indexed.Row (row_of d n k); next = record { at = e } }
-verdict_as d n k e (bad x) = record { answer = indexed.Refused x; next = record { at = d.at } }
+verdict_as d n k e good = record { answer = Ok (Some (row_of d n k)); next = record { at = e } }
+verdict_as d n k e (bad x) = record { answer = Err x; next = record { at = d.at } }
 
 abbrev step_of : Opened → byLine.SoFar → ℕ → Step
 step_of d t e = verdict_as d (byLine.numbers_told d.end t) (byLine.bases_told t) e (byLine.verdict_told t)
@@ -170,7 +164,7 @@ rest-starts at w said s = rw (told.verdict, told.numbers, told.bases) (go (fit (
 -- a line that is taken: it fits, or it has the first misfit
 data Taken (d : Opened) (so : SoFar) (z : ℕ) (l : List ℕ) (last : Bool) : Type 0 where
   fits : (t : SoFar) → byLine.take_line (so_far_of so) z (length l) (length (bases_of l)) ≡ so_far_of t → complete_out d so z (line_of l) last ≡ passed_out d t (z + length l) last → Taken d so z l last
-  misfits : (n : Numbers) (k : ℕ) (p : Position) (o : Offset) → byLine.take_line (so_far_of so) z (length l) (length (bases_of l)) ≡ byLine.rows n k (Elsewhere p o)
+  misfits : (n : Numbers) (k : ℕ) (p : Position) (o : Offset) → byLine.take_line (so_far_of so) z (length l) (length (bases_of l)) ≡ byLine.rows n k (Some (p, o))
       → complete_out d so z (line_of l) last ≡ Keeps (Halted (numbers_of (NoIndexFits o.0 p.0))) → Taken d so z l last
 
 module _ (d : Opened) (z : ℕ) (l : List ℕ) (last : Bool) where
@@ -182,19 +176,19 @@ module _ (d : Opened) (z : ℕ) (l : List ℕ) (last : Bool) where
   taken_none so e = fits so (rw e) (rw e)
 
   taken-rows : (so : SoFar) (n : Numbers) (k : ℕ) → eqb b 0 ≡ false
-      → byLine.take_bases (so_far_of so) z (length l) b ≡ byLine.more n k There z b → bases_out d so z (line_of l) last ≡ rows_out d n k z (line_of l) last → Taken d so z l last
+      → byLine.take_bases (so_far_of so) z (length l) b ≡ byLine.more n k None z b → bases_out d so z (line_of l) last ≡ rows_out d n k z (line_of l) last → Taken d so z l last
   unfolding byLine.take_line complete_out
   taken-rows so n k e p q = go (first_elsewhere (place_by n) k (up_from z b)) refl
     where
-      more-is : (v : Placed) → first_elsewhere (place_by n) k (up_from z b) ≡ v → byLine.more n k There z b ≡ byLine.rows n (k + b) v
+      more-is : (v : Option (Position × Offset)) → first_elsewhere (place_by n) k (up_from z b) ≡ v → byLine.more n k None z b ≡ byLine.rows n (k + b) v
       more-is v h = unfold byLine.more in ap (byLine.rows n (k + b)) h
 
-      out-is : (v : Placed) → first_elsewhere (place_by n) k (up_from z b) ≡ v → rows_out d n k z (line_of l) last ≡ placed_out d n (k + b) (z + length l) last v
+      out-is : (v : Option (Position × Offset)) → first_elsewhere (place_by n) k (up_from z b) ≡ v → rows_out d n k z (line_of l) last ≡ placed_out d n (k + b) (z + length l) last v
       out-is v h = unfold rows_out in ap (placed_out d n (k + b) (z + length l) last) h
 
-      go : (v : Placed) → first_elsewhere (place_by n) k (up_from z b) ≡ v → Taken d so z l last
-      go There h = fits (Rows n (k + b)) (rw e (p ∙ more-is There h)) (rw e (q ∙ out-is There h))
-      go (Elsewhere x o) h = misfits n (k + b) x o (rw e (p ∙ more-is (Elsewhere x o) h)) (rw e (q ∙ out-is (Elsewhere x o) h))
+      go : (v : Option (Position × Offset)) → first_elsewhere (place_by n) k (up_from z b) ≡ v → Taken d so z l last
+      go None h = fits (Rows n (k + b)) (rw e (p ∙ more-is None h)) (rw e (q ∙ out-is None h))
+      go (Some (x, o)) h = misfits n (k + b) x o (rw e (p ∙ more-is (Some (x, o)) h)) (rw e (q ∙ out-is (Some (x, o)) h))
 
   taken-some : (so : SoFar) → eqb b 0 ≡ false → Taken d so z l last
   unfolding byLine.take_line byLine.take_bases complete_out bases_out
@@ -210,29 +204,29 @@ module _ (d : Opened) (z : ℕ) (l : List ℕ) (last : Bool) where
       go false e = taken-some so e
 
 -- the first misfit stays
-misfit-stays : (ls : List (List ℕ)) (n : Numbers) (k : ℕ) (p : Position) (o : Offset) (at : ℕ) → byLine.verdict_told (byLine.take_lines (byLine.rows n k (Elsewhere p o)) at ls) ≡ bad (NoIndexFits o.0 p.0)
+misfit-stays : (ls : List (List ℕ)) (n : Numbers) (k : ℕ) (p : Position) (o : Offset) (at : ℕ) → byLine.verdict_told (byLine.take_lines (byLine.rows n k (Some (p, o))) at ls) ≡ bad (NoIndexFits o.0 p.0)
 unfolding byLine.take_lines byLine.take_line byLine.take_bases byLine.more
 misfit-stays [] n k p o at = refl
 misfit-stays (l ∷ ls) n k p o at = go (eqb (length (bases_of l)) 0) (λ j. misfit-stays ls n j p o (at + length l))
   where
-    go : (t : Bool) → ((j : ℕ) → byLine.verdict_told (byLine.take_lines (byLine.rows n j (Elsewhere p o)) (at + length l) ls) ≡ bad (NoIndexFits o.0 p.0))
-        → byLine.verdict_told (byLine.take_lines (cond t (byLine.rows n k (Elsewhere p o)) (byLine.rows n (k + length (bases_of l)) (Elsewhere p o))) (at + length l) ls) ≡ bad (NoIndexFits o.0 p.0)
+    go : (t : Bool) → ((j : ℕ) → byLine.verdict_told (byLine.take_lines (byLine.rows n j (Some (p, o))) (at + length l) ls) ≡ bad (NoIndexFits o.0 p.0))
+        → byLine.verdict_told (byLine.take_lines (cond t (byLine.rows n k (Some (p, o))) (byLine.rows n (k + length (bases_of l)) (Some (p, o)))) (at + length l) ls) ≡ bad (NoIndexFits o.0 p.0)
     go true r = r k
     go false r = r (k + length (bases_of l))
 
 -- lines that fit are a row
-fits-row : (d : Opened) (t : SoFar) (e : ℕ) → step_of d (so_far_of t) e ≡ record { answer = indexed.Row (told_row d t); next = record { at = e } }
+fits-row : (d : Opened) (t : SoFar) (e : ℕ) → step_of d (so_far_of t) e ≡ record { answer = Ok (Some (told_row d t)); next = record { at = e } }
 unfolding told_row
 fits-row d Blank e = refl
 fits-row d (Run n) e = refl
 fits-row d (Rows n k) e = refl
 
 -- a definition line
-bad-out : (at w : ℕ) (u : Bool) (f : Fault) → definition_out Complete at w u (Bad f) ≡ Keeps (Halted (numbers_of (refusal_at f at)))
+bad-out : (at w : ℕ) (u : Bool) (f : Fault) → definition_out Complete at w u (Err f) ≡ Keeps (Halted (numbers_of (refusal_at f at)))
 unfolding definition_out
 bad-out at w u f = refl
 
-named-out : (at w : ℕ) (said : definition.Definition) (u : Bool) → definition_out Complete at w u (Named said) ≡ passed_out (opened_at at w said) Blank (at + w) u
+named-out : (at w : ℕ) (said : definition.Definition) (u : Bool) → definition_out Complete at w u (Ok said) ≡ passed_out (opened_at at w said) Blank (at + w) u
 unfolding definition_out close_alone passed_out told_row
 named-out at w said true = refl
 named-out at w said false = refl
@@ -243,8 +237,8 @@ module _ (d : Opened) (so : SoFar) (z : ℕ) (l : List ℕ) (qs : List (List ℕ
   unfolding byLine.take_lines sum_widths
   rest-fits t e = rw (e, add_assoc z (length l) (sum_widths qs))
 
-  rest-misfits : (n : Numbers) (k : ℕ) (p : Position) (o : Offset) → byLine.take_line (so_far_of so) z (length l) (length (bases_of l)) ≡ byLine.rows n k (Elsewhere p o)
-      → rest_of d so z (l ∷ qs) ≡ record { answer = indexed.Refused (NoIndexFits o.0 p.0); next = record { at = d.at } }
+  rest-misfits : (n : Numbers) (k : ℕ) (p : Position) (o : Offset) → byLine.take_line (so_far_of so) z (length l) (length (bases_of l)) ≡ byLine.rows n k (Some (p, o))
+      → rest_of d so z (l ∷ qs) ≡ record { answer = Err (NoIndexFits o.0 p.0); next = record { at = d.at } }
   unfolding byLine.take_lines
   rest-misfits n k p o e = rw (e, misfit-stays qs n k p o (z + length l))
 
@@ -262,7 +256,7 @@ told_of st = record { rows = st.rows; refusal = refusal_in st.phase; table = st.
 unfoldable found_told : List ℕ → ℕ → Found → Told
 found_told t n f = record { rows = n + length f.rows; refusal = stop_numbers f.stop; table = with_rows t n f.rows }
 
-nothing-told : (t : List ℕ) (n : ℕ) (f : Refusal) → record { rows = n; refusal = numbers_of f; table = t } ≡ found_told t n (nothing (stop.Refused f))
+nothing-told : (t : List ℕ) (n : ℕ) (f : Refusal) → record { rows = n; refusal = numbers_of f; table = t } ≡ found_told t n (nothing (Err f))
 unfolding found_told stop_numbers
 nothing-told t n f = rw (add-zero n, rows_none t n)
 
@@ -290,8 +284,8 @@ module _ (all : ℕ) where
   FromLine ls = (d : Opened) (so : SoFar) (z n : ℕ) (t : List ℕ) → row_count t ≡ all → none (seq_of ls) ≡ false
       → told_of (run (filling (Lines d so z) n t) ls) ≡ found_told t n (held_in (all - n) all (stepped (rest_of d so z (seq_of ls)) (groups_by complete (groups (after_seq ls)))))
 
-  refused-told : (f : Refusal) (n : ℕ) (t : List ℕ) (ls : List (List ℕ)) → told_of (run (filling (Halted (numbers_of f)) n t) ls) ≡ found_told t n (held_in (all - n) all (nothing (stop.Refused f)))
-  refused-told f n t ls = halted-stays (numbers_of f) n t ls ∙ nothing-told t n f ∙ ap (found_told t n) (sym (held-nothing (all - n) all (stop.Refused f)))
+  refused-told : (f : Refusal) (n : ℕ) (t : List ℕ) (ls : List (List ℕ)) → told_of (run (filling (Halted (numbers_of f)) n t) ls) ≡ found_told t n (held_in (all - n) all (nothing (Err f)))
+  refused-told f n t ls = halted-stays (numbers_of f) n t ls ∙ nothing-told t n f ∙ ap (found_told t n) (sym (held-nothing (all - n) all (Err f)))
 
   row-told : (ls : List (List ℕ)) → FromDefinition ls → (x : Record) (z n : ℕ) (t : List ℕ) → row_count t ≡ all
       → told_of (run (applied n t (Emits x z)) ls) ≡ found_told t n (held_in (all - n) all (with_first x (groups_by complete (groups ls) z)))
@@ -314,7 +308,7 @@ module _ (all : ℕ) where
           let c : all - n ≡ 0 = omega (arith, h, k) in
           halted-stays (numbers_of (TableFull (row_count t))) n t ls
           ∙ nothing-told t n (TableFull (row_count t))
-          ∙ ap (found_told t n) (ap (λ (a : ℕ). nothing (stop.Refused (TableFull a))) h ∙ sym (rw c (held_none all x f)))
+          ∙ ap (found_told t n) (ap (λ (a : ℕ). nothing (Err (TableFull a))) h ∙ sym (rw c (held_none all x f)))
 
   module _ (l : List ℕ) (ls : List (List ℕ)) (from : FromDefinition ls) (on : FromLine ls) where
     step_is : (p : Phase) (n : ℕ) (t : List ℕ) → run (filling p n t) (l ∷ ls) ≡ run (applied n t (out_of Complete p (waiting_of l) (none (seq_of ls)))) ls
@@ -327,7 +321,7 @@ module _ (all : ℕ) where
     passed-step d so z n t h true e = rw (none_after ls e, none-seq ls e, add-zero z, fits-row d so z) (row-told ls from (told_row d so) z n t h)
     passed-step d so z n t h false e = unfold applied in on d so z n t h e
 
-    halted-told : (f : Refusal) (n : ℕ) (t : List ℕ) → told_of (run (applied n t (Keeps (Halted (numbers_of f)))) ls) ≡ found_told t n (held_in (all - n) all (nothing (stop.Refused f)))
+    halted-told : (f : Refusal) (n : ℕ) (t : List ℕ) → told_of (run (applied n t (Keeps (Halted (numbers_of f)))) ls) ≡ found_told t n (held_in (all - n) all (nothing (Err f)))
     unfolding applied
     halted-told f n t = refused-told f n t ls
 
@@ -364,17 +358,17 @@ module _ (all : ℕ) where
         starts : (said : definition.Definition) → rest_of (opened_at at (length l) said) Blank (at + length l) (seq_of ls) ≡ sequence_by complete at (length l) said (seq_of ls)
         starts said = rw e at (rest-starts at (length l) said s)
 
-        go : (p : Parsed) (u : Bool) → none (seq_of ls) ≡ u
+        go : (p : Result definition.Definition Fault) (u : Bool) → none (seq_of ls) ≡ u
             → told_of (run (applied n t (definition_out Complete at (length l) u p)) ls) ≡ found_told t n (held_in (all - n) all (stepped (defined_by complete at (length l) (seq_of ls) p) (groups_by complete (groups (after_seq ls)))))
-        go (Bad f) u q = ap (λ (x : Out). told_of (run (applied n t x) ls)) (bad-out at (length l) u f) ∙ halted-told (refusal_at f at) n t
-        go (Named said) u q =
+        go (Err f) u q = ap (λ (x : Out). told_of (run (applied n t x) ls)) (bad-out at (length l) u f) ∙ halted-told (refusal_at f at) n t
+        go (Ok said) u q =
             ap (λ (x : Out). told_of (run (applied n t x) ls)) (named-out at (length l) said u)
             ∙ passed-step (opened_at at (length l) said) Blank (at + length l) n t h u q
             ∙ ap (λ (v : Step). found_told t n (held_in (all - n) all (stepped v (groups_by complete (groups (after_seq ls)))))) (starts said)
 
   none_left : FromDefinition []
   unfolding judge_all groups_by groups found_told stop_numbers refusal_in
-  none_left at n t h = rw (held-nothing (all - n) all stop.Ended, add-zero n, rows_none t n)
+  none_left at n t h = rw (held-nothing (all - n) all (Ok tt), add-zero n, rows_none t n)
 
   no-line : FromLine []
   unfolding seq_of

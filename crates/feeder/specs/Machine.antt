@@ -1,6 +1,9 @@
 -- The indexer as a machine over lines, by either rule, with the table that it fills. With each line it learns whether the sequence ends behind
 -- it: the next byte is '>', or the file ends.
-use Rattle.std.specs.Prelude.{ℕ, ◌+◌, ◌-◌, ◌≡◌, List, Bool, cond, eqb, ltb}
+use Rattle.std.specs.Prelude.{ℕ, ◌+◌, ◌-◌, ◌≡◌, List, Bool, cond, eqb, ltb, Option, Some, None, Result, Ok, Err}
+use Rattle.record.specs.declared.Offset.{Offset}
+use Rattle.record.specs.declared.Position.{Position}
+use Rattle.definition.specs.declared.Fault.{Fault}
 use Rattle.refusal.specs.Numbers.{numbers_of}
 use Rattle.refusal.specs.declared.Refusal.{Refusal}
 use Rattle.refusal.specs.declared.Refusal.TheVariants.{NoBases, LineBases, LineWidth, TableFull, NoIndexFits}
@@ -8,8 +11,6 @@ use Rattle.lines.specs.declared.Line.{Line}
 use Rattle.lines.specs.Lines.{up_from}
 use Rattle.lines.specs.Feeding.{FedSum, Summing, absorb_sum, feed_sum}
 use Rattle.definition.specs.declared.Definition as definition
-use Rattle.definition.specs.declared.Parsed.{Parsed}
-use Rattle.definition.specs.declared.Parsed.TheVariants.{Named, Bad}
 use Rattle.definition.specs.Definition.{refusal_at}
 use Rattle.record.specs.declared.Record.{Record}
 use Rattle.table.specs.Numbers.{numbers_in, rest_of}
@@ -18,8 +19,6 @@ use Rattle.indexer.specs.Rule.{row_for}
 use Rattle.indexer.specs.Index.{fits_last}
 use Rattle.indexer.specs.LineSums.{sum_says}
 use Rattle.walking.specs.Places.{first_elsewhere}
-use Rattle.walking.specs.declared.Placed.{Placed}
-use Rattle.walking.specs.declared.Placed.TheVariants.{There, Elsewhere}
 use Rattle.fitting.specs.declared.Numbers.{Numbers}
 use Rattle.fitting.specs.declared.Rule.{Rule}
 use Rattle.fitting.specs.declared.Rule.TheVariants.{Strict, Complete}
@@ -62,9 +61,9 @@ close_alone Complete d = Emits (row_of d (record { position = d.end; bases = 1; 
 abbrev pub opened_at : ℕ → ℕ → definition.Definition → Opened
 opened_at at w said = record { at = at; end = at + w; said = said }
 
-unfoldable pub definition_out : Rule → ℕ → ℕ → Bool → Parsed → Out
-definition_out rule at w last (Named said) = cond last (close_alone rule (opened_at at w said)) (Keeps (Lines (opened_at at w said) Blank (at + w)))
-definition_out rule at w last (Bad f) = halt (refusal_at f at)
+unfoldable pub definition_out : Rule → ℕ → ℕ → Bool → Result definition.Definition Fault → Out
+definition_out rule at w last (Ok said) = cond last (close_alone rule (opened_at at w said)) (Keeps (Lines (opened_at at w said) Blank (at + w)))
+definition_out rule at w last (Err f) = halt (refusal_at f at)
 
 -- by the ported rule, a record's first sequence line
 unfoldable pub first_out : Opened → ℕ → Line → Bool → Out
@@ -96,9 +95,9 @@ unfoldable pub passed_out : Opened → SoFar → ℕ → Bool → Out
 passed_out d t z last = cond last (Emits (told_row d t) z) (Keeps (Lines d t z))
 
 -- a line with bases beside rows, behind m bases: each lies where the rows say, or the first that does not is refused
-abbrev pub placed_out : Opened → Numbers → ℕ → ℕ → Bool → Placed → Out
-placed_out d n m z last There = passed_out d (Rows n m) z last
-placed_out d n m z last (Elsewhere p o) = halt (NoIndexFits o.0 p.0)
+abbrev pub placed_out : Opened → Numbers → ℕ → ℕ → Bool → Option (Position × Offset) → Out
+placed_out d n m z last None = passed_out d (Rows n m) z last
+placed_out d n m z last (Some (p, o)) = halt (NoIndexFits o.0 p.0)
 
 unfoldable pub rows_out : Opened → Numbers → ℕ → ℕ → Line → Bool → Out
 rows_out d n m z x last = placed_out d n (m + x.bases) (z + x.width) last (first_elsewhere (place_by n) m (up_from z x.bases))

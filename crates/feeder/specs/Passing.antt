@@ -1,6 +1,6 @@
 -- Lines alike, passed at once: lines that are like a record's rows, and even with them, bring the machine to where it comes line by line, by
 -- either rule.
-use Rattle.std.specs.Prelude.{ℕ, suc, ◌+◌, ◌*◌, ◌/◌, ◌%◌, ◌^◌, ◌≤◌, ◌<◌, ◌≡◌, List, [], ◌∷◌, Bool, true, false, cond, not, ◌&&◌, length, drop, eqb}
+use Rattle.std.specs.Prelude.{ℕ, suc, ◌+◌, ◌*◌, ◌/◌, ◌%◌, ◌^◌, ◌≤◌, ◌<◌, ◌≡◌, List, [], ◌∷◌, Bool, true, false, cond, not, ◌&&◌, length, drop, eqb, None}
 use Rattle.std.proofs.Math.Path.{refl}
 use Rattle.std.proofs.Common.{ap, sym, ◌∙◌, arith, add-one, add-zero, one-mul, zero-mul, mul-le-mul_left}
 use borrow.Author.Tests.{eq-eqb, ne_eqb, eqb-true}
@@ -14,7 +14,6 @@ use Rattle.indexer.specs.LineSums.{sum_of}
 use Rattle.record.specs.Place.{place_of}
 use Rattle.table.specs.Numbers.{numbers_in, rest_of}
 use Rattle.walking.specs.Places.{first_elsewhere}
-use Rattle.walking.specs.declared.Placed.TheVariants.{There}
 use Rattle.fitting.specs.declared.Numbers.{Numbers}
 use Rattle.fitting.specs.declared.Rule.{Rule}
 use Rattle.fitting.specs.declared.Rule.TheVariants.{Strict, Complete}
@@ -158,7 +157,7 @@ module _ (d : Opened) (n : Numbers) (m z : ℕ) (some : 0 < n.bases) (apart : n.
   even-out Strict k h = rw (eq-eqb n.bases n.bases refl, eq-eqb n.width n.width refl)
   even-out Complete k h = unfold complete_out bases_out rows_out passed_out in rw (ne_eqb n.bases 0 (λ e. omega arith), ← there)
     where
-      there : There ≡ first_elsewhere (place_by n) (m + k * n.bases) (up_from (z + k * n.width) n.bases)
+      there : None ≡ first_elsewhere (place_by n) (m + k * n.bases) (up_from (z + k * n.width) n.bases)
       there = bases-there n (m + k * n.bases) (z + k * n.width) n.bases some apart some h (eqb (z + k * n.width) (place_by n (m + k * n.bases))) refl
           (eq-eqb _ _ (place-on k)) (omega (arith, column-on k))
 

@@ -1,22 +1,22 @@
 -- Every state that calls reach from the start of a file is sound, and takes bytes unless it is refused; and a refusal stays.
-use Rattle.std.specs.Prelude.{ℕ, ◌+◌, ◌-◌, ◌≤◌, ◌<◌, ◌≡◌, Bool, cond, not, ◌||◌, eqb, ltb}
+use Rattle.std.specs.Prelude.{ℕ, ◌+◌, ◌-◌, ◌≤◌, ◌<◌, ◌≡◌, Bool, cond, not, ◌||◌, eqb, ltb, Option, Some, None, Result, Ok, Err}
 use Rattle.std.proofs.Math.Path.{refl}
 use Rattle.std.proofs.Common.{arith}
 use mathlib.Core.List.{List, [], ◌∷◌}
 use Rattle.std.proofs.Math.Bool.{true, false}
+use Rattle.record.specs.declared.Offset.{Offset}
+use Rattle.record.specs.declared.Position.{Position}
+use Rattle.definition.specs.declared.Definition as definition
+use Rattle.definition.specs.declared.Fault.{Fault}
 use borrow.Author.Tests.{le-leb, lt-ltb}
 use Rattle.refusal.specs.declared.Numbers as refused
 use Rattle.record.specs.declared.Record.{Record}
 use Rattle.lines.specs.declared.Line.{Line}
 use Rattle.lines.specs.Lines.{lines, begins, up_from}
 use Rattle.lines.specs.Feeding.{FedSum, absorb_sum, absorb_sums, feed_sum}
-use Rattle.definition.specs.declared.Parsed.{Parsed}
-use Rattle.definition.specs.declared.Parsed.TheVariants.{Named, Bad}
 use Rattle.indexer.specs.Index.{fits_last}
 use Rattle.indexer.specs.LineSums.{sum_says}
 use Rattle.walking.specs.Places.{first_elsewhere}
-use Rattle.walking.specs.declared.Placed.{Placed}
-use Rattle.walking.specs.declared.Placed.TheVariants.{There, Elsewhere}
 use Rattle.table.specs.Rows.{row_count}
 use Rattle.fitting.specs.declared.Numbers.{Numbers}
 use Rattle.fitting.specs.Complete.{place_by}
@@ -132,9 +132,9 @@ module _ (d : Opened) (z : ℕ) (x : Line) where
   unfolding rows_out
   rows-over n m last = go (first_elsewhere (place_by n) m (up_from z x.bases))
     where
-      go : (v : Placed) → over_out (placed_out d n (m + x.bases) (z + x.width) last v) ≡ false
-      go There = passed_over (Rows n (m + x.bases)) (z + x.width) last
-      go (Elsewhere p o) = refl
+      go : (v : Option (Position × Offset)) → over_out (placed_out d n (m + x.bases) (z + x.width) last v) ≡ false
+      go None = passed_over (Rows n (m + x.bases)) (z + x.width) last
+      go (Some (p, o)) = refl
 
   bases-over : (t : SoFar) (last : Bool) → over_out (bases_out d t z x last) ≡ false
   unfolding bases_out
@@ -153,12 +153,12 @@ module _ (d : Opened) (z : ℕ) (x : Line) where
       go true = passed_over t (z + x.width) last
       go false = bases-over t last
 
-definition-over : (rule : Rule) (at w : ℕ) (last : Bool) (p : Parsed) → over_out (definition_out rule at w last p) ≡ false
+definition-over : (rule : Rule) (at w : ℕ) (last : Bool) (p : Result definition.Definition Fault) → over_out (definition_out rule at w last p) ≡ false
 unfolding definition_out close_alone
-definition-over Strict at w true (Named said) = refl
-definition-over Complete at w true (Named said) = refl
-definition-over rule at w false (Named said) = refl
-definition-over rule at w last (Bad f) = refl
+definition-over Strict at w true (Ok said) = refl
+definition-over Complete at w true (Ok said) = refl
+definition-over rule at w false (Ok said) = refl
+definition-over rule at w last (Err f) = refl
 
 out-over : (rule : Rule) (p : Phase) (t : Waiting) (last : Bool) → over p ≡ false → over_out (out_of rule p t last) ≡ false
 unfolding out_of

@@ -1,6 +1,6 @@
 -- Records that lie whole in a piece: what the lines of such a record give, one after another, is its row, by either rule.
 use Prim.Native.Nat.{ℕ, zero, suc, ◌+◌, ◌-◌, ◌*◌, ◌%◌, ◌^◌, ◌≤◌, ◌<◌}
-use Rattle.std.specs.Prelude.{◌≡◌, List, [], ◌∷◌, Bool, ◌&&◌, length, drop, get_or, eqb, ltb}
+use Rattle.std.specs.Prelude.{◌≡◌, List, [], ◌∷◌, Bool, ◌&&◌, length, drop, get_or, eqb, ltb, None}
 use Rattle.std.proofs.Math.Path.{refl, ap}
 use Rattle.std.proofs.Common.{sym, ◌∙◌, length-drop, arith, add-zero, zero-add, mul-le-mul_left}
 use Rattle.std.proofs.Math.Bool.{true, false}
@@ -15,7 +15,6 @@ use Rattle.lines.specs.Feeding.{FedSum, absorb_sum, absorb_sums}
 use Rattle.indexer.specs.Index.{fits_last}
 use Rattle.record.specs.Laws.{place-first}
 use Rattle.walking.specs.Places.{first_elsewhere}
-use Rattle.walking.specs.declared.Placed.TheVariants.{There}
 use Rattle.fitting.specs.declared.Numbers.{Numbers}
 use Rattle.fitting.specs.declared.Rule.{Rule}
 use Rattle.fitting.specs.declared.Rule.TheVariants.{Strict, Complete}
@@ -167,7 +166,7 @@ module _ (d : Opened) (x : Line) (z : ℕ) (some : 0 < x.bases) (apart : x.bases
   place k = rw (zero-add (suc k * x.bases)) at (place-on d nums 0 z some apart (zero-mod x.bases) place-zero (suc k))
 
   module _ (k : ℕ) (t : Waiting) (bases : 0 < t.bases) (less : t.bases ≤ x.bases) (small : z + suc k * x.width + t.bases < 2 ^ 62) where
-    there : There ≡ first_elsewhere (place_by nums) (suc k * x.bases) (up_from (z + suc k * x.width) t.bases)
+    there : None ≡ first_elsewhere (place_by nums) (suc k * x.bases) (up_from (z + suc k * x.width) t.bases)
     there =
         bases-there nums (suc k * x.bases) (z + suc k * x.width) t.bases some apart bases small (eqb (z + suc k * x.width) (place_by nums (suc k * x.bases))) refl
         (eq-eqb _ _ (place k)) (omega (arith, column k))

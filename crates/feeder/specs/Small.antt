@@ -27,6 +27,10 @@ pub record SmallOpened (m : ℕ) (d : Opened) : Type 0 where
   pub text-start : d.said.description.start ≤ m
   pub text-length : d.said.description.length ≤ m
 
+-- the places of its name and its description in the file are numbers that fit
+abbrev pub RowFits : Opened → Type 0
+RowFits d = (d.at + d.said.name.start < 2 ^ 63) × (d.at + d.said.description.start < 2 ^ 63)
+
 -- lines have a byte behind their bases
 pub record SmallNumbers (m : ℕ) (n : Numbers) : Type 0 where
   pub position : n.position ≤ m

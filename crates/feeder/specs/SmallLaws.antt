@@ -1,5 +1,5 @@
 -- The numbers of a feeder stay small: with each line they are no more than the bytes that have come.
-use Rattle.std.specs.Prelude.{ℕ, zero, suc, ◌+◌, ◌-◌, ◌≤◌, ◌<◌, ◌^◌, ◌≡◌, Bool, not, ◌&&◌, ◌||◌, drop, ltb, leb}
+use Rattle.std.specs.Prelude.{ℕ, zero, suc, ◌+◌, ◌-◌, ◌≤◌, ◌<◌, ◌^◌, ◌≡◌, Bool, not, ◌&&◌, ◌||◌, drop, ltb, leb, Option, Some, None, Result, Ok, Err}
 use Rattle.std.proofs.Math.Path.{refl}
 use Rattle.std.proofs.Common.{sym, ◌∙◌, true≢false, add_assoc}
 use mathlib.Core.List.{List, [], ◌∷◌}
@@ -8,6 +8,9 @@ use Rattle.std.proofs.Math.ListN.{length}
 use Rattle.std.proofs.Math.Dec.{eqb}
 use borrow.Author.Tests.{eqb-false, leb-true, ltb-true}
 use native.Mathlib.Omega.{arith}
+use Rattle.record.specs.declared.Offset.{Offset}
+use Rattle.record.specs.declared.Position.{Position}
+use Rattle.definition.specs.declared.Fault.{Fault}
 use Rattle.lines.specs.declared.Line.{Line}
 use Rattle.lines.specs.Lines.{lines, chop, ends, bases_of, begins, up_from, sum_widths}
 use Rattle.lines.specs.Laws.{chop-le, ends-chop}
@@ -15,16 +18,12 @@ use Rattle.lines.specs.GroupLaws.{lines-behind}
 use Rattle.lines.specs.Sums.{widths-lines}
 use Rattle.lines.specs.Feeding.{FedSum, absorb_sum, absorb_sums, feed_sum}
 use Rattle.definition.specs.declared.Definition as definition
-use Rattle.definition.specs.declared.Parsed.{Parsed}
-use Rattle.definition.specs.declared.Parsed.TheVariants.{Named, Bad}
 use Rattle.definition.specs.declared.Fault.TheVariants.{Empty, NoPrefix}
 use Rattle.definition.specs.Definition.{is_space, spaced, run, keep, described}
 use Rattle.definition.specs.Laws.{run-le, keep-le}
 use Rattle.indexer.specs.Index.{fits_last}
 use Rattle.indexer.specs.LineSums.{skip, grow, named_as, blank, sum_says}
 use Rattle.walking.specs.Places.{first_elsewhere}
-use Rattle.walking.specs.declared.Placed.{Placed}
-use Rattle.walking.specs.declared.Placed.TheVariants.{There, Elsewhere}
 use Rattle.refusal.specs.declared.Numbers as refused
 use Rattle.record.specs.declared.Record.{Record}
 use Rattle.table.specs.Rows.{row_count}
@@ -55,7 +54,7 @@ pub record SmallSaid (w : ℕ) (d : definition.Definition) : Type 0 where
   pub text-start : d.description.start ≤ w
   pub text-length : d.description.length ≤ w
 
-pub says-small : (t : Waiting) → SmallWaiting t → (said : definition.Definition) → sum_says (unpack t) ≡ Named said → SmallSaid t.width said
+pub says-small : (t : Waiting) → SmallWaiting t → (said : definition.Definition) → sum_says (unpack t) ≡ Ok said → SmallSaid t.width said
 unfolding sum_says
 says-small t s said e = go (blank (unpack t)) t.starts e
   where
@@ -63,13 +62,13 @@ says-small t s said e = go (blank (unpack t)) t.starts e
     texted n zero q h = record { name-start = omega arith; name-length = h; text-start = omega arith; text-length = omega arith }
     texted n (suc k) q h = record { name-start = omega arith; name-length = h; text-start = s.text; text-length = omega (arith, s.kept) }
 
-    called : (n : ℕ) → n ≡ t.name → named_as n t.text t.kept ≡ Named said → SmallSaid t.width said
+    called : (n : ℕ) → n ≡ t.name → named_as n t.text t.kept ≡ Ok said → SmallSaid t.width said
     called zero q h = let z : ◌≡◌ {A = ℕ} 0 1 = cc in absurd (omega arith)
     called (suc n) q h =
         let r : record { name = record { start = 1; length = suc n }; description = described t.text (t.kept - t.text) } ≡ said = cc in
         rw (sym r) (texted n (t.kept - t.text) (omega arith) (omega (arith, s.name, q)))
 
-    go : (u v : Bool) → cond u (Bad Empty) (cond v (named_as t.name t.text t.kept) (Bad NoPrefix)) ≡ Named said → SmallSaid t.width said
+    go : (u v : Bool) → cond u (Err Empty) (cond v (named_as t.name t.text t.kept) (Err NoPrefix)) ≡ Ok said → SmallSaid t.width said
     go true v h = let z : ◌≡◌ {A = ℕ} 0 1 = cc in absurd (omega arith)
     go false true h = called t.name refl h
     go false false h = let z : ◌≡◌ {A = ℕ} 0 1 = cc in absurd (omega arith)
@@ -150,9 +149,9 @@ module _ (m : ℕ) (d : Opened) (z : ℕ) (x : Line) (last : Bool) (o : SmallOpe
   unfolding rows_out SmallPhase
   rows-small n k s q = go (first_elsewhere (place_by n) k (up_from z x.bases))
     where
-      go : (v : Placed) → SmallOut (m + x.width) (placed_out d n (k + x.bases) (z + x.width) last v)
-      go There = passed-small (Rows n (k + x.bases)) (numbers-weak m (m + x.width) (omega arith) n s, omega arith)
-      go (Elsewhere p o) = tt
+      go : (v : Option (Position × Offset)) → SmallOut (m + x.width) (placed_out d n (k + x.bases) (z + x.width) last v)
+      go None = passed-small (Rows n (k + x.bases)) (numbers-weak m (m + x.width) (omega arith) n s, omega arith)
+      go (Some (p, o)) = tt
 
   bases-small : (t : SoFar) → SmallSoFar m z t → 0 < x.bases → SmallOut (m + x.width) (bases_out d t z x last)
   unfolding bases_out
@@ -193,11 +192,11 @@ module _ (rule : Rule) (m : ℕ) (t : Waiting) (last : Bool) (s : SmallWaiting t
   unfolding definition_out SmallPhase close_alone
   definition-small at h = go (sum_says (unpack t)) refl last rule
     where
-      go : (p : Parsed) → sum_says (unpack t) ≡ p → (u : Bool) (r : Rule) → SmallOut (m + t.width) (definition_out r at t.width u p)
-      go (Named said) e true Strict = tt
-      go (Named said) e true Complete = omega arith
-      go (Named said) e false r = (opened-small at said h (says-small t s said e), tt, omega arith)
-      go (Bad f) e u r = tt
+      go : (p : Result definition.Definition Fault) → sum_says (unpack t) ≡ p → (u : Bool) (r : Rule) → SmallOut (m + t.width) (definition_out r at t.width u p)
+      go (Ok said) e true Strict = tt
+      go (Ok said) e true Complete = omega arith
+      go (Ok said) e false r = (opened-small at said h (says-small t s said e), tt, omega arith)
+      go (Err f) e u r = tt
 
   out-small : (p : Phase) → SmallPhase m p → SmallOut (m + t.width) (out_of rule p t last)
   unfolding out_of SmallPhase

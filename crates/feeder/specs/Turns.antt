@@ -1,5 +1,5 @@
 -- How the code goes through a piece in which records lie whole: each part leaves what its lines leave, one after another.
-use Rattle.std.specs.Prelude.{ℕ, ◌+◌, ◌-◌, ◌^◌, ◌≤◌, ◌<◌, ◌≡◌, List, Bool, cond, not, ◌&&◌, length, drop, get_or, eqb}
+use Rattle.std.specs.Prelude.{ℕ, ◌+◌, ◌-◌, ◌^◌, ◌≤◌, ◌<◌, ◌≡◌, List, Bool, cond, not, ◌&&◌, length, drop, get_or, eqb, Result, Ok, Err, ⊤}
 use Rattle.std.proofs.Math.Path.{refl, ap, sym}
 use Rattle.std.proofs.Common.{◌∙◌, eqb-true, arith}
 use Rattle.std.proofs.Math.Bool.{true, false}
@@ -8,7 +8,6 @@ use Rattle.lines.specs.Lines.{part, lines, line_end}
 use Rattle.lines.specs.Laws.{lines_at-cut, line_end-gt, line_end-le, part_length}
 use Rattle.lines.specs.Feeding.{FedSum, absorb_sums}
 use Rattle.definition.specs.declared.Definition as definition
-use Rattle.definition.specs.declared.Parsed.TheVariants.{Named}
 use Rattle.definition.specs.Definition.{definition_says}
 use Rattle.indexer.specs.LineSums.{sum_of}
 use Rattle.record.specs.declared.Record.{Record}
@@ -17,8 +16,6 @@ use Rattle.table.specs.NumberLaws.{length-numbers}
 use Rattle.table.specs.Rows.{row_count}
 use Rattle.table.specs.RowLaws.{without-row, kept-inside, full-outside}
 use Rattle.table.specs.Bytes.{StoredIn}
-use Rattle.table.specs.declared.Stored.{Stored}
-use Rattle.table.specs.declared.Stored.TheVariants as stored
 use Rattle.fitting.specs.declared.Rule.{Rule}
 use Rattle.feeder.specs.declared.Waiting.{Waiting}
 use Rattle.feeder.specs.declared.SoFar.TheVariants.{Blank}
@@ -149,12 +146,12 @@ module _ (at rows : ℕ) (p : List ℕ) (i : ℕ) (h : i < length p) (t : List �
     rest = r;
   }
 
-  pub record-full : (x : Record) (told : Stored) (u : List ℕ) (f : Refusal) → StoredIn t rows x told u → told ≡ stored.Refused f → RecordDone at rows p i t i u
+  pub record-full : (x : Record) (told : Result ⊤ Refusal) (u : List ℕ) (f : Refusal) → StoredIn t rows x told u → told ≡ Err f → RecordDone at rows p i t i u
   record-full x told u f s k =
       let r = full-outside (numbers_in t) rows f (sym s.stored.answer ∙ k) in
       record-left u (s.stored.table ∙ without-row (numbers_in t) rows x r.0) s.rest
 
-  module _ (v : length p ≤ 2 ^ 40) (a : at ≤ 2 ^ 42) (e : ℕ) (q : e ≡ line_end p i) (said : definition.Definition) (n : definition_says (part p i e) ≡ Named said) where
+  module _ (v : length p ≤ 2 ^ 40) (a : at ≤ 2 ^ 42) (e : ℕ) (q : e ≡ line_end p i) (said : definition.Definition) (n : definition_says (part p i e) ≡ Ok said) where
     abbrev l : List ℕ
     l = part p i e
 
@@ -193,9 +190,9 @@ module _ (at rows : ℕ) (p : List ℕ) (i : ℕ) (h : i < length p) (t : List �
         ended : (waiting_of l).whole ≡ true
         ended = unfold waiting_of sum_of in rw (← q) at (ends-before p i h (omega (arith, q, o.here)))
 
-    pub record-kept : (s : Sequence) → SequenceAt p e s → (x : Record) (told : Stored) (u : List ℕ)
+    pub record-kept : (s : Sequence) → SequenceAt p e s → (x : Record) (told : Result ⊤ Refusal) (u : List ℕ)
         → x ≡ row_of (record { at = at; end = at + (e - i); said = said }) (record { position = at + (e - i); bases = s.line.bases; width = s.line.width }) s.bases
-        → StoredIn t rows x told u → told ≡ stored.Kept → RecordDone at rows p i t s.next u
+        → StoredIn t rows x told u → told ≡ Ok tt → RecordDone at rows p i t s.next u
     record-kept s o x told u r d k = record {
       on = omega (arith, o.on, behind);
       ahead = o.ahead;

@@ -1,11 +1,14 @@
 -- Over the lines of a whole file the machine by the ported rule gives what indexing the file gives. So any pieces and the end leave the table,
 -- the count and the refusal of one call on all their bytes: `fed-whole`.
 use Prim.Native.Nat.{ℕ, zero, suc, ◌+◌, ◌<◌}
-use Rattle.std.specs.Prelude.{◌≡◌, Bool, cond, length, eqb}
+use Rattle.std.specs.Prelude.{◌≡◌, Bool, cond, length, eqb, Result, Ok, Err, ⊤}
 use Rattle.std.proofs.Math.Path.{refl, ap, sym}
 use Rattle.std.proofs.Common.{◌∙◌, length-append, arith, add-zero, zero-add}
 use mathlib.Core.List.{List, [], ◌∷◌, ◌++◌}
 use Rattle.std.proofs.Math.Bool.{true, false}
+use Rattle.refusal.specs.declared.Refusal.{Refusal}
+use Rattle.definition.specs.declared.Definition as definition
+use Rattle.definition.specs.declared.Fault.{Fault}
 use borrow.Author.Tests.{lt-ltb, le-ltb}
 use Rattle.refusal.specs.Numbers.{numbers_of}
 use Rattle.refusal.specs.declared.Numbers as refused
@@ -13,11 +16,7 @@ use Rattle.refusal.specs.declared.Refusal.TheVariants.{NoBases, LineBases, LineW
 use Rattle.lines.specs.declared.Line.{Line}
 use Rattle.lines.specs.Lines.{lines, seq_of, none}
 use Rattle.lines.specs.Feeding.{judge_all}
-use Rattle.definition.specs.declared.Parsed.{Parsed}
-use Rattle.definition.specs.declared.Parsed.TheVariants.{Named, Bad}
 use Rattle.record.specs.declared.Record.{Record}
-use Rattle.table.specs.declared.Stop.{Stop}
-use Rattle.table.specs.declared.Stop.TheVariants as stop
 use Rattle.table.specs.Rows.{row_count, with_row, with_rows}
 use Rattle.table.specs.RowLaws.{rows_none, rows_append, row_count-rows, with-row}
 use Rattle.table.specs.Fill.{Found, held_in}
@@ -44,8 +43,8 @@ abbrev awaits : old.Phase → Phase
 awaits (old.wants-definition at) = Definition at
 awaits (old.wants-first d) = Lines (opened_at d.at d.width d.said) Blank (d.at + d.width)
 awaits (old.wants-line d x m z) = Lines (opened_at d.at d.width d.said) (Rows (record { position = d.at + d.width; bases = x.bases; width = x.width }) m) z
-awaits (old.halted stop.Ended) = Ended
-awaits (old.halted (stop.Refused f)) = Halted (numbers_of f)
+awaits (old.halted (Ok tt)) = Ended
+awaits (old.halted (Err f)) = Halted (numbers_of f)
 
 abbrev gives : old.Out → Out
 gives (old.keeps p) = Keeps (awaits p)
@@ -57,7 +56,7 @@ first-same d x last = go (eqb x.bases 0) last
   where
     go : (a b : Bool)
         → cond a (Keeps (Halted (numbers_of (NoBases (d.at + d.width + x.width))))) (cond b (Emits (old.row_in d x x.bases) (d.at + d.width + x.width)) (Keeps (awaits (old.wants-line d x x.bases (d.at + d.width + x.width)))))
-        ≡ gives (cond a (old.keeps (old.halted (stop.Refused (NoBases (d.at + d.width + x.width))))) (cond b (old.emits (old.row_in d x x.bases) (d.at + d.width + x.width)) (old.keeps (old.wants-line d x x.bases (d.at + d.width + x.width)))))
+        ≡ gives (cond a (old.keeps (old.halted (Err (NoBases (d.at + d.width + x.width))))) (cond b (old.emits (old.row_in d x x.bases) (d.at + d.width + x.width)) (old.keeps (old.wants-line d x x.bases (d.at + d.width + x.width)))))
     go true b = refl
     go false true = refl
     go false false = refl
@@ -71,22 +70,22 @@ further_same d f m z x last = go (fits_last last x f) (eqb x.bases f.bases) (eqb
         → cond a (Emits (old.row_in d f (m + x.bases)) (z + x.width))
         (cond b (cond c (Keeps (awaits (old.wants-line d f (m + x.bases) (z + x.width)))) (Keeps (Halted (numbers_of (LineWidth x.width f.width))))) (Keeps (Halted (numbers_of (LineBases x.bases f.bases)))))
         ≡ gives (cond a (old.emits (old.row_in d f (m + x.bases)) (z + x.width))
-        (cond b (cond c (old.keeps (old.wants-line d f (m + x.bases) (z + x.width))) (old.keeps (old.halted (stop.Refused (LineWidth x.width f.width))))) (old.keeps (old.halted (stop.Refused (LineBases x.bases f.bases))))))
+        (cond b (cond c (old.keeps (old.wants-line d f (m + x.bases) (z + x.width))) (old.keeps (old.halted (Err (LineWidth x.width f.width))))) (old.keeps (old.halted (Err (LineBases x.bases f.bases))))))
     go true b c = refl
     go false true true = refl
     go false true false = refl
     go false false c = refl
 
-definition-same : (at w : ℕ) (last : Bool) (p : Parsed) → definition_out Strict at w last p ≡ gives (old.definition_out at w last p)
+definition-same : (at w : ℕ) (last : Bool) (p : Result definition.Definition Fault) → definition_out Strict at w last p ≡ gives (old.definition_out at w last p)
 unfolding definition_out close_alone old.definition_out
-definition-same at w true (Named d) = refl
-definition-same at w false (Named d) = refl
-definition-same at w last (Bad f) = refl
+definition-same at w true (Ok d) = refl
+definition-same at w false (Ok d) = refl
+definition-same at w last (Err f) = refl
 
 -- a file is never over before its end
 abbrev Going : old.Phase → Type 0
-Going (old.halted stop.Ended) = ⊥
-Going (old.halted (stop.Refused f)) = Unit {0}
+Going (old.halted (Ok tt)) = ⊥
+Going (old.halted (Err f)) = Unit {0}
 Going (old.wants-definition at) = Unit {0}
 Going (old.wants-first d) = Unit {0}
 Going (old.wants-line d x m z) = Unit {0}
@@ -101,8 +100,8 @@ unfolding out_of line_out strict_out
 out-same (old.wants-definition at) t last g = definition-same at t.width last (sum_says (unpack t))
 out-same (old.wants-first d) t last g = first-same d (record { width = t.width; bases = t.bases }) last
 out-same (old.wants-line d x m z) t last g = further_same d x m z (record { width = t.width; bases = t.bases }) last
-out-same (old.halted stop.Ended) t last g = absurd g
-out-same (old.halted (stop.Refused f)) t last g = refl
+out-same (old.halted (Ok tt)) t last g = absurd g
+out-same (old.halted (Err f)) t last g = refl
 
 -- nobody needs what is not kept of a sequence line
 pub slim-says : (s : Sum) → sum_says (unpack (slim s)) ≡ sum_says s
@@ -133,15 +132,15 @@ module _ (t : List ℕ) where
 
   -- ---- line by line
 
-  going-out : (p : old.Phase) (x : Line) (q : Parsed) (last : Bool) → Going p → GoingOut (old.out_of p x q last)
+  going-out : (p : old.Phase) (x : Line) (q : Result definition.Definition Fault) (last : Bool) → Going p → GoingOut (old.out_of p x q last)
   unfolding old.definition_out old.first_out old.line_out
-  going-out (old.wants-definition at) x (Named d) true g = tt
-  going-out (old.wants-definition at) x (Named d) false g = tt
-  going-out (old.wants-definition at) x (Bad f) last g = tt
+  going-out (old.wants-definition at) x (Ok d) true g = tt
+  going-out (old.wants-definition at) x (Ok d) false g = tt
+  going-out (old.wants-definition at) x (Err f) last g = tt
   going-out (old.wants-first d) x q last g = go (eqb x.bases 0) last
     where
       go : (a b : Bool)
-          → GoingOut (cond a (old.keeps (old.halted (stop.Refused (NoBases (d.at + d.width + x.width))))) (cond b (old.emits (old.row_in d x x.bases) (d.at + d.width + x.width)) (old.keeps (old.wants-line d x x.bases (d.at + d.width + x.width)))))
+          → GoingOut (cond a (old.keeps (old.halted (Err (NoBases (d.at + d.width + x.width))))) (cond b (old.emits (old.row_in d x x.bases) (d.at + d.width + x.width)) (old.keeps (old.wants-line d x x.bases (d.at + d.width + x.width)))))
       go true b = tt
       go false true = tt
       go false false = tt
@@ -149,13 +148,13 @@ module _ (t : List ℕ) where
     where
       go : (a b c : Bool)
           → GoingOut (cond a (old.emits (old.row_in d f (m + x.bases)) (z + x.width))
-          (cond b (cond c (old.keeps (old.wants-line d f (m + x.bases) (z + x.width))) (old.keeps (old.halted (stop.Refused (LineWidth x.width f.width))))) (old.keeps (old.halted (stop.Refused (LineBases x.bases f.bases))))))
+          (cond b (cond c (old.keeps (old.wants-line d f (m + x.bases) (z + x.width))) (old.keeps (old.halted (Err (LineWidth x.width f.width))))) (old.keeps (old.halted (Err (LineBases x.bases f.bases))))))
       go true b c = tt
       go false true true = tt
       go false true false = tt
       go false false c = tt
-  going-out (old.halted stop.Ended) x q last g = absurd g
-  going-out (old.halted (stop.Refused f)) x q last g = tt
+  going-out (old.halted (Ok tt)) x q last g = absurd g
+  going-out (old.halted (Err f)) x q last g = tt
 
   record Sure (st : old.State) : Type 0 where
     room : st.free + length st.rows ≡ row_count t
@@ -180,7 +179,7 @@ module _ (t : List ℕ) where
       ∙ applied-same st.free st.rows (out st l last) s.room
     where
       same : (p : old.Phase) → old.out_of p (record { width = (waiting_of l).width; bases = (waiting_of l).bases }) (sum_says (unpack (waiting_of l))) last ≡ old.out_of p (sum_of l).line (sum_says (sum_of l)) last
-      same p = unfold waiting_of in ap (λ (q : Parsed). old.out_of p (sum_of l).line q last) (slim-says (sum_of l))
+      same p = unfold waiting_of in ap (λ (q : Result definition.Definition Fault). old.out_of p (sum_of l).line q last) (slim-says (sum_of l))
 
   judge-same : (ls : List (List ℕ)) (st : old.State) → Sure st → judge_all (step_line Strict) (filled st) ls ≡ filled (judge_all (old.step_line (row_count t)) st ls)
   unfolding judge_all
@@ -193,9 +192,9 @@ module _ (t : List ℕ) where
 
 -- ---- the answer at the end
 
-unfoldable pub stop_numbers : Stop → refused.Numbers
-stop_numbers stop.Ended = record { refusal = 0; first = 0; second = 0 }
-stop_numbers (stop.Refused f) = numbers_of f
+unfoldable pub stop_numbers : Result ⊤ Refusal → refused.Numbers
+stop_numbers (Ok tt) = record { refusal = 0; first = 0; second = 0 }
+stop_numbers (Err f) = numbers_of f
 
 -- the rows of a file in a table, their count, and the refusal
 pub record ToldBy (f : Found) (t : List ℕ) (st : Filling) : Type 0 where
@@ -208,8 +207,8 @@ unfolding refusal_in stop_numbers
 stops_same (old.wants-definition at) = refl
 stops_same (old.wants-first d) = refl
 stops_same (old.wants-line d x m z) = refl
-stops_same (old.halted stop.Ended) = refl
-stops_same (old.halted (stop.Refused f)) = refl
+stops_same (old.halted (Ok tt)) = refl
+stops_same (old.halted (Err f)) = refl
 
 module _ (t s : List ℕ) where
   -- the machine by the ported rule over the lines of a whole file

@@ -4,14 +4,13 @@ ghost use Rattle.lines.specs.Lines.{up_from};
 ghost use Rattle.fitting.specs.Complete.{place_by};
 ghost use Rattle.walking.specs.Places.{first_elsewhere};
 ghost use Rattle.feeder.specs.Machine.{told_row, passed_out, rows_out, bases_out, complete_out};
-ghost use Rattle.feeder.specs.Small.{SmallRows, FitsIn};
+ghost use Rattle.feeder.specs.Small.{SmallRows, FitsIn, RowFits};
 
 use crate::{Opened, Out, Phase, SoFar, opening};
 use fitting::Numbers;
 use lines::Line;
 use record::{Offset, Position, Record};
 use refusal::Refusal;
-use walking::Placed;
 
 // Do the numbers say that the base behind `count` others lies at `at`. It divides, since a product might not fit.
 pub(crate) fn is_place(n: Numbers, count: usize, at: usize) -> bool
@@ -35,37 +34,30 @@ pub(crate) fn is_place(n: Numbers, count: usize, at: usize) -> bool
 }
 
 // Some bases, from `at` on, behind `count` others: is each where the numbers say.
-fn place_bases(n: Numbers, count: usize, at: usize, bases: usize) -> Placed
+fn place_bases(n: Numbers, count: usize, at: usize, bases: usize) -> Option<(Position, Offset)>
     requires { (0 < n.bases) × (n.bases < n.width) × (0 < bases) × (count < 2 ^ 62) × (at + bases < 2 ^ 62) }
     ensures { result ≡ first_elsewhere (place_by n) count (up_from at bases) }
 {
     if is_place(n, count, at) {
         let left = n.bases - count % n.bases;
         if bases <= left {
-            return Placed::There;
+            return None;
         }
-        return Placed::Elsewhere(
+        return Some((
             Position((count + left + 1) as u64),
             Offset((at + left) as u64),
-        );
+        ));
     }
-    Placed::Elsewhere(Position((count + 1) as u64), Offset(at as u64))
+    Some((Position((count + 1) as u64), Offset(at as u64)))
 }
 
 // The row of a record, by what its lines say.
 fn told_row(d: Opened, so_far: SoFar) -> Record
-    requires { (d.at + d.said.name.start < 2 ^ 63) × (d.at + d.said.description.start < 2 ^ 63) }
+    requires { RowFits d }
     ensures { result ≡ told_row d so_far }
 {
     match so_far {
-        SoFar::Blank => {
-            let n = Numbers {
-                position: d.end,
-                bases: 1,
-                width: 2,
-            };
-            opening::row(d, n, 0)
-        }
+        SoFar::Blank => opening::row_alone(d),
         SoFar::Run(n) => opening::row(d, n, n.bases),
         SoFar::Rows(n, count) => opening::row(d, n, count),
     }
@@ -73,7 +65,7 @@ fn told_row(d: Opened, so_far: SoFar) -> Record
 
 // A line that fits: the record goes on at `next`, or ends there.
 fn pass_line(d: Opened, so_far: SoFar, next: usize, last: bool) -> Out
-    requires { (d.at + d.said.name.start < 2 ^ 63) × (d.at + d.said.description.start < 2 ^ 63) }
+    requires { RowFits d }
     ensures { result ≡ passed_out d so_far next last }
 {
     if last {
@@ -88,8 +80,8 @@ fn judge_rows(d: Opened, n: Numbers, count: usize, at: usize, x: Line, last: boo
     ensures { result ≡ rows_out d n count at x last }
 {
     match place_bases(n, count, at, x.bases) {
-        Placed::There => pass_line(d, SoFar::Rows(n, count + x.bases), at + x.width, last),
-        Placed::Elsewhere(base, offset) => opening::halted(Refusal::NoIndexFits {
+        None => pass_line(d, SoFar::Rows(n, count + x.bases), at + x.width, last),
+        Some((base, offset)) => opening::halted(Refusal::NoIndexFits {
             offset: offset.0,
             base: base.0,
         }),
@@ -112,9 +104,8 @@ fn judge_bases(d: Opened, so_far: SoFar, at: usize, x: Line, last: bool) -> Out
         }
         SoFar::Run(n) => {
             let rows = Numbers {
-                position: n.position,
-                bases: n.bases,
                 width: at - n.position,
+                ..n
             };
             judge_rows(d, rows, n.bases, at, x, last)
         }

@@ -5,7 +5,7 @@ ghost use Rattle.indexer.specs.LineSums.{grow, sum_says, blank};
 ghost use Rattle.feeder.specs.Waiting.{unpack, no_line, grow_by};
 
 use crate::Waiting;
-use definition::{Definition, Fault, Parsed};
+use definition::{Definition, Fault};
 use lines::Span;
 
 // Do some bytes end in LF.
@@ -166,22 +166,22 @@ fn is_blank(t: Waiting) -> bool
 }
 
 // What a line says as a definition.
-pub(crate) fn says(t: Waiting) -> Parsed
+pub(crate) fn says(t: Waiting) -> Result<Definition, Fault>
     ensures { result ≡ sum_says (unpack t) }
 {
     if is_blank(t) {
-        return Parsed::Bad(Fault::Empty);
+        return Err(Fault::Empty);
     }
     if t.starts {
         if t.name == 0 {
-            return Parsed::Bad(Fault::NoName);
+            return Err(Fault::NoName);
         }
         let name = Span {
             start: 1,
             length: t.name,
         };
         if t.kept <= t.text {
-            return Parsed::Named(Definition {
+            return Ok(Definition {
                 name,
                 description: Span {
                     start: 0,
@@ -189,7 +189,7 @@ pub(crate) fn says(t: Waiting) -> Parsed
                 },
             });
         }
-        return Parsed::Named(Definition {
+        return Ok(Definition {
             name,
             description: Span {
                 start: t.text,
@@ -197,5 +197,5 @@ pub(crate) fn says(t: Waiting) -> Parsed
             },
         });
     }
-    Parsed::Bad(Fault::NoPrefix)
+    Err(Fault::NoPrefix)
 }

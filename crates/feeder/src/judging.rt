@@ -6,7 +6,6 @@ ghost use Rattle.feeder.specs.Small.{SmallWaiting, SmallPhase, FitsIn};
 use crate::{Opened, Out, Phase, Settled, SoFar, Waiting, complete, opening, strict};
 use fitting::Rule;
 use lines::Line;
-use table::Stored;
 
 // A line of a record's sequence, which begins at `at`.
 fn judge_line(rule: Rule, d: Opened, so_far: SoFar, at: usize, x: Line, last: bool) -> Out
@@ -49,12 +48,12 @@ pub(crate) fn settle(out: Out, rows: usize, table: &mut [u8]) -> Settled
     match out {
         Out::Keeps(phase) => Settled { phase, rows },
         Out::Emits(x, next) => match table::bytes::store(table, rows, x) {
-            Stored::Kept => Settled {
+            Ok(()) => Settled {
                 phase: Phase::Definition(next),
                 rows: rows + 1,
             },
-            Stored::Refused(f) => Settled {
-                phase: Phase::Halted(f.numbers()),
+            Err(f) => Settled {
+                phase: Phase::Halted(refusal::Numbers::from(f)),
                 rows,
             },
         },

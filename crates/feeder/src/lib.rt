@@ -95,7 +95,7 @@ struct Turn {
     at: usize,
 }
 
-// The sequence of a record that lies whole in a piece: its first line, its bases, and where the next record begins; 0 if there is none.
+// The sequence of a record that lies whole in a piece: its first line, its bases, and where the next record begins.
 #[derive(Clone, Copy)]
 struct Sequence {
     line: Line,
@@ -122,15 +122,11 @@ pub struct Feeder {
 }
 
 // Does a feeder take bytes.
+#[tactic(auto, unfolding(crate::specs::Calls::live))]
 fn is_live(phase: Phase) -> bool
     ensures { result ≡ live phase }
 {
-    match phase {
-        Phase::Definition(_) => true,
-        Phase::Lines(_, _, _) => true,
-        Phase::Halted(_) => false,
-        Phase::Ended => false,
-    }
+    matches!(phase, Phase::Definition(_) | Phase::Lines(..))
 }
 
 // A feeder that takes no more bytes.
@@ -149,20 +145,16 @@ fn stopped(rule: Rule, rows: usize, phase: Phase) -> Feeder
 fn refused(f: Feeder, x: Refusal) -> Feeder
     ensures { result ≡ refused_by f x }
 {
-    let rule = f.rule;
-    stopped(rule, f.rows, Phase::Halted(x.numbers()))
+    stopped(f.rule, f.rows, Phase::Halted(refusal::Numbers::from(x)))
 }
 
 // A feeder that takes no bytes, given some, or the end.
 fn still_stopped(f: Feeder) -> Feeder
     ensures { result ≡ still_stopped f f.phase }
 {
-    let phase = f.phase;
-    match phase {
+    match f.phase {
         Phase::Ended => refused(f, Refusal::AlreadyEnded),
-        Phase::Halted(_) => f,
-        Phase::Definition(_) => f,
-        Phase::Lines(_, _, _) => f,
+        _ => f,
     }
 }
 
@@ -170,30 +162,14 @@ fn still_stopped(f: Feeder) -> Feeder
 fn kept(rule: Rule, total: usize, f: Fed) -> Feeder
     ensures { result ≡ kept_by rule total f.phase f.rows f.waiting }
 {
-    let phase = f.phase;
-    let waiting = f.waiting;
-    match phase {
+    match f.phase {
         Phase::Halted(n) => stopped(rule, f.rows, Phase::Halted(n)),
-        Phase::Definition(at) => Feeder {
+        _ => Feeder {
             rule,
             total,
             rows: f.rows,
-            phase: Phase::Definition(at),
-            waiting,
-        },
-        Phase::Lines(d, so_far, at) => Feeder {
-            rule,
-            total,
-            rows: f.rows,
-            phase: Phase::Lines(d, so_far, at),
-            waiting,
-        },
-        Phase::Ended => Feeder {
-            rule,
-            total,
-            rows: f.rows,
-            phase: Phase::Ended,
-            waiting,
+            phase: f.phase,
+            waiting: f.waiting,
         },
     }
 }
@@ -202,16 +178,13 @@ fn kept(rule: Rule, total: usize, f: Fed) -> Feeder
 fn closed(rule: Rule, s: Settled) -> Feeder
     ensures { result ≡ closed_by rule s.phase s.rows }
 {
-    let phase = s.phase;
-    match phase {
+    match s.phase {
         Phase::Halted(n) => stopped(rule, s.rows, Phase::Halted(n)),
-        Phase::Definition(_) => stopped(rule, s.rows, Phase::Ended),
-        Phase::Lines(_, _, _) => stopped(rule, s.rows, Phase::Ended),
-        Phase::Ended => stopped(rule, s.rows, Phase::Ended),
+        _ => stopped(rule, s.rows, Phase::Ended),
     }
 }
 
-// No refusal.
+// No refusal: its number is 0 for C.
 fn no_refusal() -> refusal::Numbers
     ensures { result ≡ record { refusal = 0; first = 0; second = 0 } }
 {
@@ -243,8 +216,7 @@ impl Feeder {
         if p.len() == 0 {
             return self;
         }
-        let phase = self.phase;
-        if !is_live(phase) {
+        if !is_live(self.phase) {
             return still_stopped(self);
         }
         if !sound::is_sound(self) {
@@ -253,53 +225,43 @@ impl Feeder {
         if refusal::LIMIT - self.total < p.len() {
             return refused(self, Refusal::TooLong);
         }
-        let rule = self.rule;
-        let waiting = self.waiting;
         let f = Fed {
-            phase,
+            phase: self.phase,
             rows: self.rows,
-            waiting,
+            waiting: self.waiting,
         };
-        let g = taking::absorb_lines(rule, f, p, table);
-        kept(rule, self.total + p.len(), g)
+        let g = taking::absorb_lines(self.rule, f, p, table);
+        kept(self.rule, self.total + p.len(), g)
     }
 
     // The end of the file.
     pub fn end(self, table: &mut [u8]) -> Self
         ensures { CallDone (end_of self (numbers_in table.old)) table.old result table.new }
     {
-        let phase = self.phase;
-        if !is_live(phase) {
+        if !is_live(self.phase) {
             return still_stopped(self);
         }
         if !sound::is_sound(self) {
             return refused(self, Refusal::TooLong);
         }
-        let rule = self.rule;
-        let waiting = self.waiting;
-        if waiting.width == 0 {
-            return closed(
-                rule,
-                Settled {
-                    phase,
-                    rows: self.rows,
-                },
-            );
+        if self.waiting.width == 0 {
+            let left = Settled {
+                phase: self.phase,
+                rows: self.rows,
+            };
+            return closed(self.rule, left);
         }
-        let out = judging::judge(rule, phase, waiting, true);
-        closed(rule, judging::settle(out, self.rows, table))
+        let out = judging::judge(self.rule, self.phase, self.waiting, true);
+        closed(self.rule, judging::settle(out, self.rows, table))
     }
 
     // The refusal that stands; its number is 0 for none.
     pub fn refusal(self) -> refusal::Numbers
         ensures { result ≡ refusal_in self.phase }
     {
-        let phase = self.phase;
-        match phase {
+        match self.phase {
             Phase::Halted(n) => n,
-            Phase::Definition(_) => no_refusal(),
-            Phase::Lines(_, _, _) => no_refusal(),
-            Phase::Ended => no_refusal(),
+            _ => no_refusal(),
         }
     }
 }

@@ -5,56 +5,56 @@ ghost use Rattle.refusal.specs.Numbers as told;
 ghost use Rattle.indexer.specs.LineSums.{sum_says};
 ghost use Rattle.feeder.specs.Waiting.{unpack};
 ghost use Rattle.feeder.specs.Machine.{row_of, close_alone, definition_out};
-ghost use Rattle.feeder.specs.Small.{SmallWaiting};
+ghost use Rattle.feeder.specs.Small.{SmallWaiting, RowFits};
 
 use crate::{Opened, Out, Phase, SoFar, Waiting, growing};
-use definition::Parsed;
 use fitting::{Numbers, Rule};
-use record::{Offset, Record};
+use lines::Line;
+use record::Record;
 use refusal::Refusal;
 
 // The row of a record with so many bases, by its numbers.
 pub(crate) fn row(d: Opened, n: Numbers, count: usize) -> Record
-    requires { (d.at + d.said.name.start < 2 ^ 63) × (d.at + d.said.description.start < 2 ^ 63) }
+    requires { RowFits d }
     ensures { result ≡ row_of d n count }
 {
-    let said = d.said;
-    let name = said.name;
-    let text = said.description;
-    let x = Record::unnamed(
-        count as u64,
-        Offset(n.position as u64),
-        n.bases as u64,
-        n.width as u64,
-    );
-    let y = x.named((d.at + name.start) as u64, name.length as u64);
-    y.described((d.at + text.start) as u64, text.length as u64)
+    let line = Line {
+        width: n.width,
+        bases: n.bases,
+    };
+    indexer::row_for(d.at, d.said, count, n.position, line)
+}
+
+// The row of a record without bases.
+pub(crate) fn row_alone(d: Opened) -> Record
+    requires { RowFits d }
+    ensures { result ≡ row_of d (record { position = d.end; bases = 1; width = 2 }) 0 }
+{
+    let n = Numbers {
+        position: d.end,
+        bases: 1,
+        width: 2,
+    };
+    row(d, n, 0)
 }
 
 // Nothing more, but a refusal.
 pub(crate) fn halted(f: Refusal) -> Out
     ensures { result ≡ Out.Keeps (Phase.Halted (told.numbers_of f)) }
 {
-    Out::Keeps(Phase::Halted(f.numbers()))
+    Out::Keeps(Phase::Halted(refusal::Numbers::from(f)))
 }
 
 // A record without sequence lines.
 fn close_alone(rule: Rule, d: Opened) -> Out
-    requires { (d.at + d.said.name.start < 2 ^ 63) × (d.at + d.said.description.start < 2 ^ 63) }
+    requires { RowFits d }
     ensures { result ≡ close_alone rule d }
 {
     match rule {
         Rule::Strict => halted(Refusal::NoBases {
             offset: d.end as u64,
         }),
-        Rule::Complete => {
-            let n = Numbers {
-                position: d.end,
-                bases: 1,
-                width: 2,
-            };
-            Out::Emits(row(d, n, 0), d.end)
-        }
+        Rule::Complete => Out::Emits(row_alone(d), d.end),
     }
 }
 
@@ -64,8 +64,8 @@ pub(crate) fn judge_definition(rule: Rule, at: usize, t: Waiting, last: bool) ->
     ensures { result ≡ definition_out rule at t.width last (sum_says (unpack t)) }
 {
     match growing::says(t) {
-        Parsed::Bad(f) => halted(f.refusal((at + f.place()) as u64, 0)),
-        Parsed::Named(said) => {
+        Err(f) => halted(f.refusal((at + f.place()) as u64, 0)),
+        Ok(said) => {
             let d = Opened {
                 at,
                 end: at + t.width,

@@ -52,30 +52,23 @@ pub(crate) fn pass_alike(f: Fed, p: &[u8], i: usize) -> Turn
     requires { (i ≤ length p.now) × (length p.now ≤ 2 ^ 40) × Fits (2 ^ 41 + i) f }
     ensures { PassDone f p.now i result.fed result.at }
 {
-    let phase = f.phase;
-    let waiting = f.waiting;
-    match phase {
-        Phase::Lines(d, so_far, at) => match so_far {
-            SoFar::Rows(n, count) => {
-                let k = even_lines(n, count, at, waiting, p, i);
-                if k == 0 {
-                    return Turn { fed: f, at: i };
-                }
-                let fed = Fed {
-                    phase: Phase::Lines(d, SoFar::Rows(n, count + k * n.bases), at + k * n.width),
-                    rows: f.rows,
-                    waiting,
-                };
-                Turn {
-                    fed,
-                    at: i + k * n.width,
-                }
-            }
-            SoFar::Run(_) => Turn { fed: f, at: i },
-            SoFar::Blank => Turn { fed: f, at: i },
-        },
-        Phase::Definition(_) => Turn { fed: f, at: i },
-        Phase::Halted(_) => Turn { fed: f, at: i },
-        Phase::Ended => Turn { fed: f, at: i },
+    let Phase::Lines(d, so_far, at) = f.phase else {
+        return Turn { fed: f, at: i };
+    };
+    let SoFar::Rows(n, count) = so_far else {
+        return Turn { fed: f, at: i };
+    };
+    let k = even_lines(n, count, at, f.waiting, p, i);
+    if k == 0 {
+        return Turn { fed: f, at: i };
+    }
+    let rows = SoFar::Rows(n, count + k * n.bases);
+    let fed = Fed {
+        phase: Phase::Lines(d, rows, at + k * n.width),
+        ..f
+    };
+    Turn {
+        fed,
+        at: i + k * n.width,
     }
 }

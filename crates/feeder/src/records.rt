@@ -1,26 +1,13 @@
 // Records that lie whole in a piece, with the first byte of the next: their rows are written at once, with no state between their lines. The
 // lines are alike, except the last, which may be shorter; both rules give such a record the same row. Any other record goes line by line,
 // and so does one for which the table has no room.
-ghost use Rattle.std.specs.Prelude.{◌+◌, ◌≤◌, ◌<◌, ◌^◌, ◌≡◌, length};
+ghost use Rattle.std.specs.Prelude.{◌+◌, ◌≤◌, ◌<◌, ◌^◌, ◌≡◌, length, IfSome};
 ghost use Rattle.feeder.specs.Records.{may_end, SequenceAt};
 ghost use Rattle.feeder.specs.Turns.{RecordDone, RecordsDone};
 
 use crate::{Opened, Reached, Sequence, opening};
-use definition::Parsed;
 use fitting::Numbers;
 use lines::Line;
-use table::Stored;
-
-// No such sequence.
-fn no_sequence() -> Sequence
-    ensures { result.next ≡ 0 }
-{
-    Sequence {
-        line: Line { width: 0, bases: 0 },
-        bases: 0,
-        next: 0,
-    }
-}
 
 // May a line be the last of some lines that are alike.
 fn may_end(l: Line, first: Line) -> bool
@@ -54,75 +41,72 @@ fn is_long(p: &[u8], i: usize, first: Line) -> bool
 }
 
 // The sequence from `e` on.
-fn whole_sequence(p: &[u8], e: usize) -> Sequence
+fn whole_sequence(p: &[u8], e: usize) -> Option<Sequence>
     requires { (e ≤ length p.now) × (length p.now ≤ 2 ^ 40) }
-    ensures { 0 < result.next → SequenceAt p.now e result }
+    ensures { IfSome result (SequenceAt p.now e) }
 {
     let first = lines::sequence_line(p, e);
     if first.bases == 0 {
-        return no_sequence();
+        return None;
     }
     let i = e + first.width;
     if is_long(p, i, first) {
-        return no_sequence();
+        return None;
     }
     let k = lines::alike::lines_like(p, i, first);
     let j = i + k * first.width;
     let n = first.bases + k * first.bases;
     if p.len() <= j {
-        return no_sequence();
+        return None;
     }
     if p[j] == b'>' {
-        return Sequence {
+        return Some(Sequence {
             line: first,
             bases: n,
             next: j,
-        };
+        });
     }
     let last = lines::sequence_line(p, j);
     let m = j + last.width;
     if p.len() <= m {
-        return no_sequence();
+        return None;
     }
     if p[m] != b'>' {
-        return no_sequence();
+        return None;
     }
     if may_end(last, first) {
-        return Sequence {
+        return Some(Sequence {
             line: first,
             bases: n + last.bases,
             next: m,
-        };
+        });
     }
-    no_sequence()
+    None
 }
 
 // Takes the record from `i` on, which begins at `at` in the file: writes its row, and answers where the next begins. Or leaves it: `i`.
+// No Option is plainer: `RecordDone` speaks of the place in both cases, and the one caller compares places.
 fn take_record(at: usize, rows: usize, p: &[u8], i: usize, table: &mut [u8]) -> usize
     requires { (i < length p.now) × (length p.now ≤ 2 ^ 40) × (at ≤ 2 ^ 42) }
     ensures { RecordDone at rows p.now i table.old result table.new }
 {
     let e = lines::ends::line_end(p, i);
-    match definition::parse_line(&p[i..e]) {
-        Parsed::Bad(_) => i,
-        Parsed::Named(said) => {
-            let s = whole_sequence(p, e);
-            if s.next == 0 {
-                return i;
-            }
-            let end = at + (e - i);
-            let line = s.line;
-            let n = Numbers {
-                position: end,
-                bases: line.bases,
-                width: line.width,
-            };
-            let x = opening::row(Opened { at, end, said }, n, s.bases);
-            match table::bytes::store(table, rows, x) {
-                Stored::Kept => s.next,
-                Stored::Refused(_) => i,
-            }
-        }
+    let Ok(said) = definition::parse_line(&p[i..e]) else {
+        return i;
+    };
+    let Some(s) = whole_sequence(p, e) else {
+        return i;
+    };
+    let end = at + (e - i);
+    let n = Numbers {
+        position: end,
+        bases: s.line.bases,
+        width: s.line.width,
+    };
+    let x = opening::row(Opened { at, end, said }, n, s.bases);
+    match table::bytes::store(table, rows, x) {
+        Ok(()) => s.next,
+        Err(_) => i,
     }
 }
 
@@ -136,6 +120,7 @@ pub(crate) fn take_records(at: usize, rows: usize, p: &[u8], i: usize, table: &m
         rows,
         at: i,
     };
+    // no index is counted: a turn goes on behind its record
     loop {
         let e = take_record(r.next, r.rows, p, r.at, table);
         if e == r.at {

@@ -1,29 +1,16 @@
 // A line of a sequence by the ported rule. Refuses a first line without bases (5), and lines that are not like the first (6, 7).
 ghost use Rattle.std.specs.Prelude.{◌≡◌, ◌+◌, ◌<◌, ◌^◌};
-ghost use Rattle.indexer.specs.Index.{fits_last};
 ghost use Rattle.feeder.specs.Machine.{first_out, further_out, strict_out};
-ghost use Rattle.feeder.specs.Small.{FitsIn};
+ghost use Rattle.feeder.specs.Small.{FitsIn, RowFits};
 
 use crate::{Opened, Out, Phase, SoFar, opening};
 use fitting::Numbers;
 use lines::Line;
 use refusal::Refusal;
 
-// May a line be a record's last: none follows, and neither width nor bases exceed the first line's.
-fn fits(last: bool, l: Line, first: Line) -> bool
-    ensures { result ≡ fits_last last l first }
-{
-    if last {
-        if l.width <= first.width {
-            return l.bases <= first.bases;
-        }
-    }
-    false
-}
-
 // The ported rule: a record's first sequence line.
 fn judge_first(d: Opened, at: usize, x: Line, last: bool) -> Out
-    requires { (d.at + d.said.name.start < 2 ^ 63) × (d.at + d.said.description.start < 2 ^ 63) × (at + x.width < 2 ^ 63) }
+    requires { RowFits d × (at + x.width < 2 ^ 63) }
     ensures { result ≡ first_out d at x last }
 {
     let next = at + x.width;
@@ -45,14 +32,14 @@ fn judge_first(d: Opened, at: usize, x: Line, last: bool) -> Out
 
 // A further one, behind so many bases.
 fn judge_further(d: Opened, n: Numbers, count: usize, at: usize, x: Line, last: bool) -> Out
-    requires { (d.at + d.said.name.start < 2 ^ 63) × (d.at + d.said.description.start < 2 ^ 63) × (at + x.width < 2 ^ 63) × (count + x.bases < 2 ^ 63) }
+    requires { RowFits d × (at + x.width < 2 ^ 63) × (count + x.bases < 2 ^ 63) }
     ensures { result ≡ further_out d n count at x last }
 {
     let first = Line {
         width: n.width,
         bases: n.bases,
     };
-    if fits(last, x, first) {
+    if indexer::fits(last, x, first) {
         return Out::Emits(opening::row(d, n, count + x.bases), at + x.width);
     }
     if x.bases != n.bases {
@@ -71,6 +58,7 @@ fn judge_further(d: Opened, n: Numbers, count: usize, at: usize, x: Line, last: 
 }
 
 // The ported rule.
+// It stands beside `judge_complete`: two rules with refusals of their own, chosen by the rule that a host named.
 pub(crate) fn judge_strict(d: Opened, so_far: SoFar, at: usize, x: Line, last: bool) -> Out
     requires { FitsIn d so_far at x }
     ensures { result ≡ strict_out d so_far at x last }

@@ -14,25 +14,18 @@ fn absorb(rule: Rule, f: Fed, p: &[u8], i: usize, e: usize, table: &mut [u8]) ->
     requires { (i < e) × (e ≤ length p.now) × (length p.now ≤ 2 ^ 41) × SmallPhase (2 ^ 60) f.phase × SmallWaiting f.waiting × (f.waiting.width < 2 ^ 60) }
     ensures { AbsorbDone rule f (part p.now i e) table.old result table.new }
 {
-    let waiting = f.waiting;
-    let phase = f.phase;
-    if waiting.whole {
-        let out = judging::judge(rule, phase, waiting, p[i] == b'>');
+    if f.waiting.whole {
+        let out = judging::judge(rule, f.phase, f.waiting, p[i] == b'>');
         let s = judging::settle(out, f.rows, table);
-        let next = s.phase;
-        let line = growing::grown(growing::no_line(), &p[i..e]);
+        let waiting = growing::grown(growing::no_line(), &p[i..e]);
         return Fed {
-            phase: next,
+            phase: s.phase,
             rows: s.rows,
-            waiting: line,
+            waiting,
         };
     }
-    let line = growing::grown(waiting, &p[i..e]);
-    Fed {
-        phase,
-        rows: f.rows,
-        waiting: line,
-    }
+    let waiting = growing::grown(f.waiting, &p[i..e]);
+    Fed { waiting, ..f }
 }
 
 // The line from `i` on, and the lines behind it that are like it.
@@ -50,14 +43,11 @@ fn ready(rule: Rule, f: Fed, table: &mut [u8]) -> Fed
     requires { SmallPhase (2 ^ 60) f.phase × SmallWaiting f.waiting × (f.waiting.width < 2 ^ 60) }
     ensures { ReadyDone rule f table.old result table.new }
 {
-    let waiting = f.waiting;
-    let phase = f.phase;
-    if waiting.whole {
-        let out = judging::judge(rule, phase, waiting, true);
+    if f.waiting.whole {
+        let out = judging::judge(rule, f.phase, f.waiting, true);
         let s = judging::settle(out, f.rows, table);
-        let next = s.phase;
         return Fed {
-            phase: next,
+            phase: s.phase,
             rows: s.rows,
             waiting: growing::no_line(),
         };
@@ -83,25 +73,19 @@ fn take_whole(f: Fed, p: &[u8], i: usize, table: &mut [u8]) -> Turn
     requires { (i < length p.now) × (length p.now ≤ 2 ^ 40) × Fits (2 ^ 41 + i) f }
     ensures { WholeDone f p.now i table.old result.fed result.at table.new }
 {
-    let phase = f.phase;
-    let waiting = f.waiting;
-    if !is_clear(waiting) {
+    if !is_clear(f.waiting) {
         return Turn { fed: f, at: i };
     }
-    match phase {
-        Phase::Definition(at) => {
-            let r = records::take_records(at, f.rows, p, i, table);
-            let fed = Fed {
-                phase: Phase::Definition(r.next),
-                rows: r.rows,
-                waiting,
-            };
-            Turn { fed, at: r.at }
-        }
-        Phase::Lines(_, _, _) => Turn { fed: f, at: i },
-        Phase::Halted(_) => Turn { fed: f, at: i },
-        Phase::Ended => Turn { fed: f, at: i },
-    }
+    let Phase::Definition(at) = f.phase else {
+        return Turn { fed: f, at: i };
+    };
+    let r = records::take_records(at, f.rows, p, i, table);
+    let fed = Fed {
+        phase: Phase::Definition(r.next),
+        rows: r.rows,
+        ..f
+    };
+    Turn { fed, at: r.at }
 }
 
 // Whole records from `i` on; or else a line, and those that are like it.
@@ -117,8 +101,7 @@ fn turn(rule: Rule, f: Fed, p: &[u8], i: usize, table: &mut [u8]) -> Turn
     if i < t.at {
         return t;
     }
-    let fed = t.fed;
-    take_line(rule, fed, p, i, table)
+    take_line(rule, t.fed, p, i, table)
 }
 
 // A piece, from its first byte to its last.
@@ -128,6 +111,7 @@ pub(crate) fn absorb_lines(rule: Rule, f: Fed, p: &[u8], table: &mut [u8]) -> Fe
 {
     let mut fed = f;
     let mut i = 0;
+    // no index is counted: a turn goes on behind its lines or its records
     while i < p.len() {
         let t = turn(rule, fed, p, i, table);
         fed = t.fed;

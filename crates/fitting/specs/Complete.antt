@@ -1,7 +1,9 @@
 -- The complete rule for one record. By the line rule its bases lie at some offsets. Its position is the first of them, its line bases are
 -- how many lie side by side from there, and its line width is how far the first base behind those is from the first of all; where no
 -- base is behind them, the width of their line. If these numbers lead to every base, they are the row. Else no numbers do (Leads.antt).
-use Rattle.std.specs.Prelude.{ℕ, suc, ◌+◌, ◌-◌, List, [], ◌∷◌, cond, length, drop, eqb}
+use Rattle.std.specs.Prelude.{ℕ, suc, ◌+◌, ◌-◌, List, [], ◌∷◌, cond, length, drop, eqb, Option, Some, None}
+use Rattle.record.specs.declared.Offset.{Offset}
+use Rattle.record.specs.declared.Position.{Position}
 use Rattle.refusal.specs.declared.Refusal.TheVariants.{NoIndexFits}
 use Rattle.definition.specs.declared.Definition.{Definition}
 use Rattle.lines.specs.Lines.{bases_of, first_line, sum_bases, bases_at}
@@ -9,8 +11,6 @@ use Rattle.record.specs.Place.{place_of}
 use Rattle.record.specs.declared.Record.{Record}
 use Rattle.indexer.specs.Rule.{Verdict, good, bad, SequenceRule, row_for}
 use Rattle.walking.specs.Places.{first_elsewhere}
-use Rattle.walking.specs.declared.Placed.{Placed}
-use Rattle.walking.specs.declared.Placed.TheVariants.{There, Elsewhere}
 use Rattle.fitting.specs.declared.Numbers.{Numbers}
 
 -- ---- the numbers
@@ -46,9 +46,9 @@ abbrev pub place_by : Numbers → ℕ → ℕ
 place_by n i = place_of n.position n.bases n.width i
 
 -- 42: every base is there, or the first that is not, with its offset and its position
-abbrev pub places_say : Placed → Verdict
-places_say There = good
-places_say (Elsewhere p o) = bad (NoIndexFits o.0 p.0)
+abbrev pub places_say : Option (Position × Offset) → Verdict
+places_say None = good
+places_say (Some (p, o)) = bad (NoIndexFits o.0 p.0)
 
 -- the verdict on sequence lines, which begin at an offset
 unfoldable pub fit : ℕ → List (List ℕ) → Verdict

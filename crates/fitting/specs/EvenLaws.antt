@@ -1,6 +1,6 @@
 -- The fast way over even lines: the lines like the first are passed at once, one line that has no more bases may follow, then blank lines.
 use Prim.Native.Nat.{ℕ, suc, ◌+◌, ◌-◌, ◌*◌, ◌≤◌}
-use Rattle.std.specs.Prelude.{◌≡◌, Bool, true, length}
+use Rattle.std.specs.Prelude.{◌≡◌, Bool, true, length, Option, Some, None, Ok}
 use Rattle.std.proofs.Math.Path.{refl, sym}
 use Rattle.std.proofs.Common.{ap, ◌∙◌, true≢false, arith, add-zero, zero-mul}
 use mathlib.Core.List.{List, [], ◌∷◌}
@@ -13,11 +13,8 @@ use Rattle.lines.specs.Laws.{seq_at-next, first-within, bases-le}
 use Rattle.lines.specs.Alike.{alike, alike-passes, LineLike}
 use Rattle.record.specs.EvenLines.{EvenLines, length-bases_at}
 use Rattle.record.specs.EvenLines.EvenLines.{none as no_more, last as last_Line, more as line-more}
-use Rattle.indexer.specs.declared.Indexed.TheVariants as indexed
 use Rattle.indexer.specs.Laws.{like-room}
 use Rattle.fitting.specs.declared.LineAt.{LineAt}
-use Rattle.fitting.specs.declared.Even.{Even}
-use Rattle.fitting.specs.declared.Even.TheVariants.{Lines, Not}
 use Rattle.indexer.specs.Rule.{row_for, sequence_by}
 use Rattle.fitting.specs.Complete.{from_bases, complete}
 use Rattle.fitting.specs.FirstLine.{terminated-here}
@@ -25,9 +22,9 @@ use Rattle.fitting.specs.Even.{FirstLineFits, even-fits}
 use Rattle.fitting.specs.BlankLines.{PastBlank, same_start, no-bases, no_lines}
 
 -- what is said of the sequence from an offset on: its lines are even, it has so many bases, and it ends there; or nothing
-pub data EvenLinesAt (s : List ℕ) (at : ℕ) : Even → Type 0 where
-  even : {n e : ℕ} → FirstLineFits at (seq_at s at) → n ≡ sum_bases (seq_at s at) → e ≡ at + sum_widths (seq_at s at) → EvenLinesAt s at (Lines n e)
-  nothing : EvenLinesAt s at Not
+pub data EvenLinesAt (s : List ℕ) (at : ℕ) : Option (ℕ × ℕ) → Type 0 where
+  even : {n e : ℕ} → FirstLineFits at (seq_at s at) → n ≡ sum_bases (seq_at s at) → e ≡ at + sum_widths (seq_at s at) → EvenLinesAt s at (Some (n, e))
+  nothing : EvenLinesAt s at None
 
 none_left : (ls : List (List ℕ)) → none ls ≡ true → ls ≡ []
 none_left [] e = refl
@@ -71,14 +68,14 @@ module _ (s : List ℕ) (at : ℕ) (h : at ≤ length s) (x : Line) (hx : x ≡ 
   module _ (z : x.bases ≡ 0 → ⊥) where
     -- by the lines behind the first
     even-from : (n j : ℕ) → EvenLines x.bases x.width (seq_at s (at + x.width)) → n ≡ x.bases + sum_bases (seq_at s (at + x.width))
-        → j ≡ at + x.width + sum_widths (seq_at s (at + x.width)) → EvenLinesAt s at (Lines n j)
+        → j ≡ at + x.width + sum_widths (seq_at s (at + x.width)) → EvenLinesAt s at (Some (n, j))
     unfolding sum_bases sum_widths
     even-from n j c hn hj = go (seq_at s at) refl hx
       where
         next : seq_at s (at + x.width) ≡ tail_of (seq_at s at)
         next = rw hx (seq_at-next s at h)
 
-        go : (ls : List (List ℕ)) → seq_at s at ≡ ls → x ≡ first_line ls → EvenLinesAt s at (Lines n j)
+        go : (ls : List (List ℕ)) → seq_at s at ≡ ls → x ≡ first_line ls → EvenLinesAt s at (Some (n, j))
         go [] e q = absurd (z (ap (λ (l : Line). l.bases) q))
         go (l ∷ ls) e q =
             let b : length (bases_of l) ≡ x.bases = sym (ap (λ (v : Line). v.bases) q) in
@@ -93,7 +90,7 @@ module _ (s : List ℕ) (at : ℕ) (h : at ≤ length s) (x : Line) (hx : x ≡ 
             even (rw e v) m k
 
     -- none follows it
-    pub one-even : (t : Bool) → t ≡ none (seq_at s (at + x.width)) → t ≡ true → EvenLinesAt s at (Lines x.bases (at + x.width))
+    pub one-even : (t : Bool) → t ≡ none (seq_at s (at + x.width)) → t ≡ true → EvenLinesAt s at (Some (x.bases, (at + x.width)))
     unfolding sum_bases sum_widths
     one-even t ht y =
         let q : seq_at s (at + x.width) ≡ [] = none_left (seq_at s (at + x.width)) (sym ht ∙ y) in
@@ -148,15 +145,15 @@ module _ (s : List ℕ) (at : ℕ) (h : at ≤ length s) (x : Line) (hx : x ≡ 
         onto : Onto s x (at + x.width) k (at + x.width + k * x.width)
         onto = rw hk (onto-all s x (at + x.width) first_fits.0)
 
-        pub even-said : EvenLinesAt s at (Lines (x.bases + k * x.bases + y.bases) r.at)
+        pub even-said : EvenLinesAt s at (Some ((x.bases + k * x.bases + y.bases), r.at))
         even-said =
             even-from z (x.bases + k * x.bases + y.bases) r.at (onto.even left.even) (omega (arith, onto.bases, left.bases))
             (omega (arith, onto.widths, left.widths))
 
 -- ---- a record whose lines are even, by its first line x
 
-pub even-record : (s : List ℕ) (at e : ℕ) (d : Definition) → at ≤ e → (x : Line) → x ≡ first_line (seq_at s e) → (n j : ℕ) → EvenLinesAt s e (Lines n j)
-    → record { answer = indexed.Row (row_for at d n e x.bases x.width); next = record { at = j } } ≡ sequence_by complete at (e - at) d (seq_at s e)
+pub even-record : (s : List ℕ) (at e : ℕ) (d : Definition) → at ≤ e → (x : Line) → x ≡ first_line (seq_at s e) → (n j : ℕ) → EvenLinesAt s e (Some (n, j))
+    → record { answer = Ok (Some (row_for at d n e x.bases x.width)); next = record { at = j } } ≡ sequence_by complete at (e - at) d (seq_at s e)
 unfolding sequence_by
 even-record s at e d le x hx n j (even same hn hj) =
     let split : at + (e - at) ≡ e = omega arith in

@@ -1,5 +1,5 @@
 -- Laws of one record by the complete rule: its numbers, and the walk over its lines.
-use Rattle.std.specs.Prelude.{ℕ, ◌+◌, ◌-◌, ◌≤◌, ◌≡◌, List}
+use Rattle.std.specs.Prelude.{ℕ, ◌+◌, ◌-◌, ◌≤◌, ◌≡◌, List, Some, None, Ok, Err}
 use Rattle.std.proofs.Math.Path.{ap, sym}
 use Rattle.std.proofs.Common.{◌∙◌, arith}
 use Rattle.std.proofs.Math.ListN.{length}
@@ -9,10 +9,8 @@ use Rattle.lines.specs.Lines.{seq_at, sum_bases, sum_widths}
 use Rattle.record.specs.EvenLines.{length-bases_at}
 use Rattle.record.specs.declared.Position.{Position}
 use Rattle.record.specs.declared.Offset.{Offset}
-use Rattle.indexer.specs.declared.Indexed.TheVariants as indexed
 use Rattle.indexer.specs.Rule.{row_for, sequence_by}
 use Rattle.walking.specs.Places.{walked_as}
-use Rattle.walking.specs.declared.Placed.TheVariants.{There, Elsewhere}
 use Rattle.walking.specs.declared.Walked.{Walked}
 use Rattle.fitting.specs.declared.Numbers.{Numbers}
 use Rattle.fitting.specs.Complete.{place_by, places_say, fit, complete}
@@ -37,12 +35,12 @@ module _ (s : List ℕ) (at e : ℕ) (d : Definition) (le : at ≤ e) (r : Numbe
     unfolding fit walked_as
     verdict = rw (← n.numbers, ← n.same.offsets, h)
 
-    pub fit-there : v.placed ≡ There
-        → record { answer = indexed.Row (row_for at d v.bases r.position r.bases r.width); next = record { at = v.next } } ≡ sequence_by complete at (e - at) d (seq_at s e)
+    pub fit-there : v.placed ≡ None
+        → record { answer = Ok (Some (row_for at d v.bases r.position r.bases r.width)); next = record { at = v.next } } ≡ sequence_by complete at (e - at) d (seq_at s e)
     unfolding sequence_by
     fit-there t = rw (split, verdict, t, same-bases, same_next, n.numbers, split)
 
-    pub fit-elsewhere : (p : Position) (o : Offset) → v.placed ≡ Elsewhere p o
-        → record { answer = indexed.Refused (NoIndexFits o.0 p.0); next = record { at = at } } ≡ sequence_by complete at (e - at) d (seq_at s e)
+    pub fit-elsewhere : (p : Position) (o : Offset) → v.placed ≡ Some (p, o)
+        → record { answer = Err (NoIndexFits o.0 p.0); next = record { at = at } } ≡ sequence_by complete at (e - at) d (seq_at s e)
     unfolding sequence_by
     fit-elsewhere p o t = rw (split, verdict, t)

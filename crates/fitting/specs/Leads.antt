@@ -2,9 +2,11 @@
 -- line width can lead to them: those of the complete rule. Where there is none, its numbers lead to them anyway. So if any numbers lead to
 -- the first m bases, the rule's do (`any-leads-first`); and where the rule's don't lead to a base, but to all before it, no numbers lead to
 -- that base and those before it (`misfit-means`).
-use Rattle.std.specs.Prelude.{ℕ, zero, suc, ◌+◌, ◌≤◌, ◌<◌, ◌≡◌, refl, List, [], ◌∷◌, Bool, true, false, cond, length, get_or, eqb, ltb}
+use Rattle.std.specs.Prelude.{ℕ, zero, suc, ◌+◌, ◌≤◌, ◌<◌, ◌≡◌, refl, List, [], ◌∷◌, Bool, true, false, cond, length, get_or, eqb, ltb, Option}
 use Rattle.std.proofs.Common.{ap, sym, ◌∙◌, drop-cons, eqb-true, ltb-true, ltb-false, arith, add-zero, zero-add}
 use Rattle.std.proofs.lemmas.Bool.{eqb-false}
+use Rattle.record.specs.declared.Offset.{Offset}
+use Rattle.record.specs.declared.Position.{Position}
 use Rattle.record.specs.Place.{place_of}
 use Rattle.record.specs.Laws.{place-first, place-row, place-line}
 use Rattle.refusal.specs.declared.Refusal.{Refusal}
@@ -14,7 +16,6 @@ use Rattle.indexer.specs.Rule.{good, bad}
 use Rattle.walking.specs.Places.{first_elsewhere}
 use Rattle.walking.specs.PlaceLaws.{PlacesSaid, all_there, places-said}
 use Rattle.walking.specs.PlaceLaws.PlacesSaid.{all, one}
-use Rattle.walking.specs.declared.Placed.{Placed}
 use Rattle.fitting.specs.Complete.{besides, distance, numbers_for, numbers_at, place_by, places_say, fit}
 use Rattle.fitting.specs.declared.Numbers.{Numbers}
 
@@ -148,7 +149,7 @@ leads-good n os h = ap places_say (sym (all_there (place_by n) 0 os (λ j m. rw 
 pub good-leads : (n : Numbers) (os : List ℕ) → places_say (first_elsewhere (place_by n) 0 os) ≡ good → Leads n os
 good-leads n os h = go (first_elsewhere (place_by n) 0 os) (places-said (place_by n) 0 os) h
   where
-    go : (p : Placed) → PlacesSaid (place_by n) 0 os p → places_say p ≡ good → Leads n os
+    go : (p : Option (Position × Offset)) → PlacesSaid (place_by n) 0 os p → places_say p ≡ good → Leads n os
     go p (all k) e = λ j m. rw zero-add at (k j m)
     go p (one q o j a b c d f) e = let z : ◌≡◌ {A = ℕ} 0 1 = cc in absurd (omega arith)
 
@@ -164,7 +165,7 @@ pub misfit-means : (start : ℕ) (ls : List (List ℕ)) (x : Refusal) → fit st
 unfolding fit numbers_at
 misfit-means start ls x h = go (first_elsewhere (place_by (numbers_at start ls)) 0 (bases_at start ls)) (places-said (place_by (numbers_at start ls)) 0 (bases_at start ls)) h
   where
-    go : (p : Placed) → PlacesSaid (place_by (numbers_at start ls)) 0 (bases_at start ls) p → places_say p ≡ bad x → Misfit start ls x
+    go : (p : Option (Position × Offset)) → PlacesSaid (place_by (numbers_at start ls)) 0 (bases_at start ls) p → places_say p ≡ bad x → Misfit start ls x
     go p (all k) e = let z : ◌≡◌ {A = ℕ} 0 1 = cc in absurd (omega arith)
     go p (one q o j a b c d f) e =
         let y : NoIndexFits o.0 q.0 ≡ x = cc in

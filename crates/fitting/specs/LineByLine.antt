@@ -1,11 +1,13 @@
 -- The complete rule line by line, for a feeder: a small value takes the lines one by one, by where each begins, its width and its bases,
 -- and tells at the end what the rule says of all of them.
-use Rattle.std.specs.Prelude.{ℕ, zero, suc, ◌+◌, ◌-◌, ◌≤◌, ◌<◌, ◌≡◌, refl, List, [], ◌∷◌, ◌++◌, Bool, true, cond, eqb}
+use Rattle.std.specs.Prelude.{ℕ, zero, suc, ◌+◌, ◌-◌, ◌≤◌, ◌<◌, ◌≡◌, refl, List, [], ◌∷◌, ◌++◌, Bool, true, cond, eqb, Option, Some, None}
 use Rattle.std.proofs.Common.{ap, sym, ◌∙◌, ne_eqb, eqb-true, arith, add-zero, add_assoc}
 use Rattle.std.proofs.Math.Bool.{false}
 use Rattle.std.proofs.Math.ListN.{length}
 use Rattle.std.proofs.lemmas.Bool.{eqb-false}
 use Rattle.std.proofs.Math.Nat.{zero-add}
+use Rattle.record.specs.declared.Offset.{Offset}
+use Rattle.record.specs.declared.Position.{Position}
 use Rattle.lines.specs.Lines.{bases_of, seq_at, first_line, sum_bases, up_from, bases_at}
 use Rattle.lines.specs.Laws.{seq_at-next, first-within}
 use Rattle.record.specs.Place.{place_of}
@@ -14,8 +16,6 @@ use Rattle.record.specs.EvenLines.{length-up_from, get_or-up_from, length-bases_
 use Rattle.indexer.specs.Rule.{Verdict, good}
 use Rattle.walking.specs.Places.{first_elsewhere}
 use Rattle.walking.specs.PlaceLaws.{first_of, all_there, elsewhere-append}
-use Rattle.walking.specs.declared.Placed.{Placed}
-use Rattle.walking.specs.declared.Placed.TheVariants.{There, Elsewhere}
 use Rattle.fitting.specs.declared.Numbers.{Numbers}
 use Rattle.fitting.specs.Complete.{distance, numbers_for, from_bases, numbers_at, place_by, places_say, fit}
 use Rattle.fitting.specs.FirstLine.{Terminated, terminated-here, numbers-line}
@@ -27,16 +27,16 @@ use Rattle.fitting.specs.FirstLine.{Terminated, terminated-here, numbers-line}
 pub data SoFar : Type 0 where
   blank : SoFar
   run : (p b line : ℕ) → SoFar
-  rows : (n : Numbers) (bases : ℕ) (placed : Placed) → SoFar
+  rows : (n : Numbers) (bases : ℕ) (placed : Option (Position × Offset)) → SoFar
 
 -- bases from an offset on, behind i others
-unfoldable pub more : Numbers → ℕ → Placed → ℕ → ℕ → SoFar
+unfoldable pub more : Numbers → ℕ → Option (Position × Offset) → ℕ → ℕ → SoFar
 more n i v at b = rows n (i + b) (first_of v (first_elsewhere (place_by n) i (up_from at b)))
 
 -- a line with a base, which begins at an offset
 unfoldable pub take_bases : SoFar → ℕ → ℕ → ℕ → SoFar
 take_bases blank at w b = run at b w
-take_bases (run p k line) at w b = more (record { position = p; bases = k; width = at - p }) k There at b
+take_bases (run p k line) at w b = more (record { position = p; bases = k; width = at - p }) k None at b
 take_bases (rows n i v) at w b = more n i v at b
 
 -- a line: without a base it changes nothing
@@ -66,23 +66,23 @@ verdict_told (rows n i v) = places_say v
 
 -- ---- lines behind a gap
 
-more-on : (n : Numbers) (i : ℕ) (v : Placed) (at : ℕ) (b : ℕ) (rest : List ℕ)
+more-on : (n : Numbers) (i : ℕ) (v : Option (Position × Offset)) (at : ℕ) (b : ℕ) (rest : List ℕ)
     → first_of (first_of v (first_elsewhere (place_by n) i (up_from at b))) (first_elsewhere (place_by n) (i + b) rest) ≡ first_of v (first_elsewhere (place_by n) i (up_from at b ++ rest))
-more-on n i There at b rest = sym (elsewhere-append (place_by n) i (up_from at b) rest ∙ rw (length-up_from at b))
-more-on n i (Elsewhere p o) at b rest = refl
+more-on n i None at b rest = sym (elsewhere-append (place_by n) i (up_from at b) rest ∙ rw (length-up_from at b))
+more-on n i (Some (p, o)) at b rest = refl
 
-rows-told : (ls : List (List ℕ)) (n : Numbers) (i : ℕ) (v : Placed) (at : ℕ)
+rows-told : (ls : List (List ℕ)) (n : Numbers) (i : ℕ) (v : Option (Position × Offset)) (at : ℕ)
     → take_lines (rows n i v) at ls ≡ rows n (i + sum_bases ls) (first_of v (first_elsewhere (place_by n) i (bases_at at ls)))
 unfolding take_lines take_line take_bases more sum_bases bases_at first_elsewhere
 rows-told [] n i v at = rw (add-zero i) (ap (rows n i) (go v))
   where
-    go : (v : Placed) → v ≡ first_of v There
-    go There = refl
-    go (Elsewhere p o) = refl
+    go : (v : Option (Position × Offset)) → v ≡ first_of v None
+    go None = refl
+    go (Some (p, o)) = refl
 rows-told (l ∷ ls) n i v at = go (eqb (length (bases_of l)) 0) refl (λ k u. rows-told ls n k u (at + length l))
   where
     go : (t : Bool) → eqb (length (bases_of l)) 0 ≡ t
-        → ((k : ℕ) (u : Placed) → take_lines (rows n k u) (at + length l) ls ≡ rows n (k + sum_bases ls) (first_of u (first_elsewhere (place_by n) k (bases_at (at + length l) ls))))
+        → ((k : ℕ) (u : Option (Position × Offset)) → take_lines (rows n k u) (at + length l) ls ≡ rows n (k + sum_bases ls) (first_of u (first_elsewhere (place_by n) k (bases_at (at + length l) ls))))
         → take_lines (cond t (rows n i v) (rows n (i + length (bases_of l)) (first_of v (first_elsewhere (place_by n) i (up_from at (length (bases_of l))))))) (at + length l) ls
         ≡ rows n (i + (length (bases_of l) + sum_bases ls)) (first_of v (first_elsewhere (place_by n) i (up_from at (length (bases_of l)) ++ bases_at (at + length l) ls)))
     go true e r = rw (eqb-true (length (bases_of l)) 0 e) (unfold up_from in rw zero-add (r i v))
@@ -106,7 +106,7 @@ run-told (l ∷ ls) p k line at = go (length (bases_of l)) (run-told ls p k line
         let n : Numbers = record { position = p; bases = k; width = at - p } in
         rw (ne_eqb (suc b) 0 (λ e. omega arith))
         (rows-told ls n (k + suc b) (first_elsewhere (place_by n) k (up_from at (suc b))) (at + length l)
-        ∙ rw (add_assoc, more-on n k There at (suc b) (bases_at (at + length l) ls)))
+        ∙ rw (add_assoc, more-on n k None at (suc b) (bases_at (at + length l) ls)))
 
 -- ---- all lines
 
@@ -126,7 +126,7 @@ pub record Told (start at : ℕ) (ls : List (List ℕ)) (t : SoFar) : Type 0 whe
   pub bases : bases_told t ≡ sum_bases ls
 
 -- a first run is at its places
-run-there : (p b w : ℕ) → There ≡ first_elsewhere (place_of p b w) 0 (up_from p b)
+run-there : (p b w : ℕ) → None ≡ first_elsewhere (place_of p b w) 0 (up_from p b)
 run-there p b w =
     all_there (place_of p b w) 0 (up_from p b)
     (λ j m.
@@ -136,7 +136,7 @@ run-there p b w =
 run-then : (p b w : ℕ) (rest : List ℕ) → first_elsewhere (place_of p b w) 0 (up_from p b ++ rest) ≡ first_elsewhere (place_of p b w) b rest
 run-then p b w rest = elsewhere-append (place_of p b w) 0 (up_from p b) rest ∙ rw (← run-there p b w, length-up_from p b, zero-add b)
 
-none_elsewhere : (f : ℕ → ℕ) (i : ℕ) → first_elsewhere f i [] ≡ There
+none_elsewhere : (f : ℕ → ℕ) (i : ℕ) → first_elsewhere f i [] ≡ None
 unfolding first_elsewhere
 none_elsewhere f i = refl
 

@@ -1,6 +1,6 @@
 -- Laws of a line that reads as a name and n numbers, whatever n is: FASTA's index lines have four numbers, FASTQ's five.
-use Rattle.std.specs.Prelude.{ℕ, ◌^◌, ◌≤◌, ◌<◌, ◌≡◌, refl, Bool, true, false, ◌&&◌, take, eqb}
-use Rattle.std.proofs.Common.{sym, ◌∙◌, true≢false, arith, length-append, take_at, take-take}
+use Rattle.std.specs.Prelude.{ℕ, ◌^◌, ◌≤◌, ◌<◌, ◌≡◌, refl, Bool, true, false, ◌&&◌, take, drop, eqb}
+use Rattle.std.proofs.Common.{sym, ◌∙◌, true≢false, arith, length-append, length-take-le, take_at, take-take}
 use Rattle.std.proofs.Math.Path.{ap}
 use mathlib.Core.List.{List, [], ◌∷◌, ◌++◌, map, append_assoc}
 use Rattle.std.proofs.Math.ListN.{length}
@@ -9,11 +9,24 @@ use Rattle.lines.specs.Lines.{content_of}
 use Rattle.lines.specs.Laws.{content-le, content-front}
 use Rattle.record.specs.declared.Record.{Record}
 use Rattle.columns.specs.Decimal.{decimal_of}
-use Rattle.columns.specs.Fields.{cut_at, tabbed, text_of}
+use Rattle.columns.specs.Fields.{cut_at, tabbed, text_of, numbers_from}
+use Rattle.columns.specs.Reading.{field_len, field_len-le, behind, cut-first}
+use Rattle.index_line.specs.Columns.{entry_read, content_says}
 use Rattle.columns.specs.Numbers.{Reads, both, reads-allowed, reads-text}
 use Rattle.columns.specs.Cut.{cut-text, cut_most}
 use Rattle.index_line.specs.IndexLine.{record_of, plain_end}
 use Rattle.index_line.specs.Ends.{plain-content}
+
+-- ---- the content of a line, by its first field
+
+pub content-says : {Entry : Type 0} (entry : ℕ → List ℕ → Bool → Entry) (n line : ℕ) (l : List ℕ) → (length l ≡ 0 → ⊥)
+    → content_says entry n line l ≡ entry_read entry (field_len n l) (numbers_from line 2 n (behind n (drop (field_len n l) l)))
+content-says entry n line [] h = absurd (h refl)
+content-says entry n line (b ∷ l) h =
+    rw (cut-first n (b ∷ l))
+    (ap (λ (k : ℕ). entry_read entry k (numbers_from line 2 n (behind n (drop (field_len n (b ∷ l)) (b ∷ l))))) (length-take-le _ _ (field_len-le n (b ∷ l))))
+
+-- ---- its numbers
 
 -- a record whose numbers can stand in a line: they fit 64 bits, and line bases and line width are not 0
 pub record Lined (x : Record) : Type 0 where

@@ -1,3 +1,4 @@
+pub mod Columns
 pub mod IndexLine
 pub mod Ends
 pub mod OneLine

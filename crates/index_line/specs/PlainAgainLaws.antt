@@ -1,12 +1,12 @@
 -- Laws for PlainAgain.antt: what a line that reads alone says, and a record that lies in a row.
-use Rattle.std.specs.Prelude.{ℕ, ◌+◌, ◌≤◌, ◌<◌, ◌≡◌, refl, List, [], ◌∷◌, ◌++◌, Bool, true, false, cond, ◌&&◌, length}
+use Rattle.std.specs.Prelude.{ℕ, ◌+◌, ◌≤◌, ◌<◌, ◌≡◌, refl, List, [], ◌∷◌, ◌++◌, Bool, true, false, cond, ◌&&◌, length, Result, Ok, Err}
 use Rattle.std.proofs.Common.{sym, ap, ◌∙◌, arith}
 use Rattle.std.proofs.Math.ListN.{take}
+use Rattle.refusal.specs.declared.Refusal.{Refusal}
 use Rattle.refusal.specs.Numbers.{over_limit}
 use Rattle.refusal.specs.declared.Refusal.TheVariants.{TooLong}
 use Rattle.lines.specs.Lines.{content_of}
 use Rattle.record.specs.declared.Record.{Record}
-use Rattle.table.specs.declared.Held.TheVariants as held
 use Rattle.table.specs.Rows.{named_at, row_count, row_at}
 use Rattle.table.specs.RowLaws.{held-row, named-row, name-inside}
 use Rattle.columns.specs.Bytes.{is, first_where}
@@ -19,28 +19,26 @@ use Rattle.index_line.specs.OneLine.{one-lacks}
 use Rattle.index_line.specs.IndexLine.{plain_end, one_line, only_if, name_of, index_line_says, read_line}
 use Rattle.index_line.specs.Laws.{Lined, line_known, line-sound, fields-cut}
 use Rattle.index_line.specs.declared.Entry.{Entry}
-use Rattle.index_line.specs.declared.LineRead.{LineRead}
-use Rattle.index_line.specs.declared.LineRead.TheVariants as read
 
 -- a line that the call reads is within the limit, and plain only if it is one line
 pub record ReadAlone (l : List ℕ) (e : Entry) : Type 0 where
   pub small : over_limit (length l) ≡ false
   pub entry : Entry
-  pub says : index_line_says 1 l ≡ read.Row entry
+  pub says : index_line_says 1 l ≡ Ok entry
   pub same : e.«record» ≡ entry.«record»
   pub plain : e.plain ≡ (one_line l && entry.plain)
 
-pub read-alone : (l : List ℕ) (e : Entry) → read_line l ≡ read.Row e → ReadAlone l e
+pub read-alone : (l : List ℕ) (e : Entry) → read_line l ≡ Ok e → ReadAlone l e
 unfolding read_line
 read-alone l e h = go (over_limit (length l)) refl (index_line_says 1 l) refl h
   where
-    go : (t : Bool) → over_limit (length l) ≡ t → (r : LineRead) → index_line_says 1 l ≡ r → cond t (read.Refused TooLong) (only_if (one_line l) r) ≡ read.Row e → ReadAlone l e
+    go : (t : Bool) → over_limit (length l) ≡ t → (r : Result Entry Refusal) → index_line_says 1 l ≡ r → cond t (Err TooLong) (only_if (one_line l) r) ≡ Ok e → ReadAlone l e
     go true q r s k = let z : ◌≡◌ {A = ℕ} 0 1 = cc in absurd (omega arith)
-    go false q (read.Refused f) s k = let z : ◌≡◌ {A = ℕ} 0 1 = cc in absurd (omega arith)
-    go false q (read.Row x) s k = record { small = q; entry = x; says = s; same = cc; plain = cc }
+    go false q (Err f) s k = let z : ◌≡◌ {A = ℕ} 0 1 = cc in absurd (omega arith)
+    go false q (Ok x) s k = record { small = q; entry = x; says = s; same = cc; plain = cc }
 
 -- the name of a plain line that is one line has no tab, since it is cut off at the first, and no LF
-module _ (l : List ℕ) (e : Entry) (h : index_line_says 1 l ≡ read.Row e) where
+module _ (l : List ℕ) (e : Entry) (h : index_line_says 1 l ≡ Ok e) where
   name-front : take e.«record».name_length l ≡ take (first_where (is 9) (content_of l)) (content_of l)
   unfolding field_len name_of
   name-front =
@@ -60,6 +58,6 @@ module _ (l : List ℕ) (e : Entry) (h : index_line_says 1 l ≡ read.Row e) whe
 
 -- a record that is in a row in use is held there
 module _ (t : List ℕ) (n r : ℕ) (x : Record) (some : n ≤ row_count t) (used : r < n) (row : row_at t r ≡ x) (bytes : ℕ) where
-  pub row-named : Lined x → x.name_start + x.name_length ≤ bytes → x.description_start + x.description_length ≤ bytes → named_at t n r bytes ≡ held.Row x
+  pub row-named : Lined x → x.name_start + x.name_length ≤ bytes → x.description_start + x.description_length ≤ bytes → named_at t n r bytes ≡ Ok x
   row-named lined inside described =
-      named-row t n r bytes x (held-row t n r some used (rw row lined.some-bases) (rw row lined.some-width) ∙ ap held.Row row) ∙ sym (name-inside r x bytes inside described)
+      named-row t n r bytes x (held-row t n r some used (rw row lined.some-bases) (rw row lined.some-width) ∙ ap Ok row) ∙ sym (name-inside r x bytes inside described)

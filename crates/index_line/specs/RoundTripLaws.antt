@@ -1,13 +1,12 @@
 -- Laws for RoundTrip.antt: the content of a written line, what the call wrote, and the text of what was read.
-use Rattle.std.specs.Prelude.{ℕ, zero, suc, ◌+◌, ◌^◌, ◌≤◌, ◌<◌, ◌≡◌, refl, List, [], ◌∷◌, ◌++◌, Bool, true, false, cond, length, get_or, take, eqb}
+use Rattle.std.specs.Prelude.{ℕ, zero, suc, ◌+◌, ◌^◌, ◌≤◌, ◌<◌, ◌≡◌, refl, List, [], ◌∷◌, ◌++◌, Bool, true, false, cond, length, get_or, take, eqb, Result, Ok, Err}
 use Rattle.std.proofs.Common.{sym, ap, ◌∙◌, arith, length-append, length-take, length-drop, take_at, take-take, length-take-le, ne_eqb}
 use Rattle.std.proofs.Math.Bool.{and-false}
+use Rattle.refusal.specs.declared.Refusal.{Refusal}
 use Rattle.refusal.specs.Numbers.{over_limit}
 use Rattle.refusal.specs.declared.Refusal.TheVariants.{TooLong}
 use Rattle.lines.specs.Lines.{ends}
 use Rattle.record.specs.declared.Record.{Record}
-use Rattle.table.specs.declared.Held.{Held}
-use Rattle.table.specs.declared.Held.TheVariants as held
 use Rattle.table.specs.Rows.{named_at, row_at}
 use Rattle.table.specs.RowLaws.{HeldRow, named-known}
 use Rattle.columns.specs.Bytes.{is}
@@ -22,8 +21,6 @@ use Rattle.columns.specs.Cut.{text-cut}
 use Rattle.index_line.specs.Ends.{ends-behind}
 use Rattle.index_line.specs.IndexLine.{entry_of, fields_of, record_of, content_says, columns_of, name_in, row_written, line_written, written_as}
 use Rattle.index_line.specs.Laws.{Lined}
-use Rattle.index_line.specs.declared.LineRead.TheVariants as read
-use Rattle.output.specs.declared.Written.TheVariants as written
 
 pub lined-allowed : (x : Record) → Lined x → (i : ℕ) → i < 4 → Allowed (2 + i) (get_or (columns_of x) i 0)
 lined-allowed x p zero h = (p.fits-length, and-false (eqb x.length 0))
@@ -38,7 +35,7 @@ unfolding fields_of
 fields-some [] h = absurd (omega arith)
 fields-some (b ∷ l) h = refl
 
-pub content-written : (line : ℕ) (name : List ℕ) (x : Record) → Lacks (is 9) name → Lined x → content_says line (name ++ numbers_text (columns_of x)) ≡ read.Row (entry_of (length name) x)
+pub content-written : (line : ℕ) (name : List ℕ) (x : Record) → Lacks (is 9) name → Lined x → content_says line (name ++ numbers_text (columns_of x)) ≡ Ok (entry_of (length name) x)
 unfolding content_says entry_of tabbed
 content-written line name x h p =
     rw (fields-some (name ++ numbers_text (columns_of x)) (simp length-append (omega arith)), text-cut name (columns_of x) h, reads_say line (text-reads (columns_of x) 2 (lined-allowed x p)))
@@ -57,20 +54,20 @@ name-long names x h = length-take-le _ _ (simp length-drop (omega arith))
 -- what is known of a line that the call wrote: the row's, in k bytes at the front of the output
 pub record LineWritten (names t : List ℕ) (n r : ℕ) (out : List ℕ) (k : ℕ) (after : List ℕ) : Type 0 where
   pub row : Record
-  pub held : named_at t n r (length names) ≡ held.Row row
+  pub held : named_at t n r (length names) ≡ Ok row
   pub name : length (name_in names row) ≡ row.name_length
   pub put : TextPut (name_in names row) (columns_of row) out k after
 
-pub line-written : (names t : List ℕ) (n r : ℕ) (out : List ℕ) (k : ℕ) (after : List ℕ) → written_as names t n r out ≡ leaves (written.Bytes k) after
+pub line-written : (names t : List ℕ) (n r : ℕ) (out : List ℕ) (k : ℕ) (after : List ℕ) → written_as names t n r out ≡ leaves (Ok k) after
     → LineWritten names t n r out k after
 unfolding written_as line_written
 line-written names t n r out k after h = go (over_limit (length names)) (named_at t n r (length names)) refl h
   where
-    go : (u : Bool) (o : Held) → named_at t n r (length names) ≡ o → cond u (refuses TooLong out) (row_written names out o) ≡ leaves (written.Bytes k) after
+    go : (u : Bool) (o : Result Record Refusal) → named_at t n r (length names) ≡ o → cond u (refuses TooLong out) (row_written names out o) ≡ leaves (Ok k) after
         → LineWritten names t n r out k after
     go true o e q = absurd (no-bytes _ out k after q)
-    go false (held.Refused f) e q = absurd (no-bytes _ out k after q)
-    go false (held.Row x) e q =
+    go false (Err f) e q = absurd (no-bytes _ out k after q)
+    go false (Ok x) e q =
         record { row = x; held = e; name = name-long names x (named-known t n r (length names) x e).1; put = text-known (name_in names x) (columns_of x) out k after q }
 
 -- the numbers of a table, which is one of 64-bit numbers

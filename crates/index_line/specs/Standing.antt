@@ -1,24 +1,25 @@
 -- A line as it is written, where it stands in a text: where it ends, whatever its numbers are, and what it says.
-use Prim.Native.Nat.{ℕ, suc, ◌-◌, ◌≤◌}
-use Rattle.std.specs.Prelude.{◌≡◌, true}
+use Rattle.std.specs.Prelude.{ℕ, suc, ◌+◌, ◌-◌, ◌≤◌, ◌<◌, ◌≡◌, Bool, true, false, ◌&&◌, get_or, Ok, Err}
 use Rattle.std.proofs.Math.Path.{refl, sym, ap}
 use Rattle.std.proofs.Common.{◌∙◌, arith, take-append-drop, drop_of_length-le}
-use mathlib.Core.List.{List, [], ◌∷◌, ◌++◌, append_assoc}
+use mathlib.Core.List.{List, [], ◌∷◌, ◌++◌, map, append_assoc}
 use Rattle.std.proofs.Math.ListN.{length, take, drop, length-append, length-drop}
 use Rattle.std.proofs.Math.Seq.{length-take-le}
 use borrow.Author.Tests.{ne_eqb}
 use Rattle.lines.specs.Lines.{part, line_len, line_end, content_of, ends, chop}
 use Rattle.refusal.specs.declared.Refusal.TheVariants.{EmptyIndexLine}
-use Rattle.record.specs.declared.Record.{Record}
 use Rattle.columns.specs.Bytes.{is}
-use Rattle.columns.specs.Fields.{numbers_text, text_of}
+use Rattle.columns.specs.Decimal.{decimal_of}
+use Rattle.columns.specs.Fields.{cut_at, tabbed, numbers_text, text_of}
 use Rattle.columns.specs.Lacks.{Lacks, lacks-head, lacks-tail, lacks-append, text-lacks, splits-lf, splits-tab}
+use Rattle.columns.specs.Numbers.{Allowed, text-reads, reads_say}
+use Rattle.columns.specs.Cut.{text-cut}
 use Rattle.columns.specs.Standing.{LineAt}
-use Rattle.index_line.specs.IndexLine.{record_of, fields_of, content_says, plain_end, index_line_says, SaidAt, line_of, entry_of}
-use Rattle.index_line.specs.AnyColumns.{Lined}
-use Rattle.index_line.specs.RoundTripLaws.{four}
-use Rattle.index_line.specs.RoundTrip.{written-reads}
-use Rattle.index_line.specs.declared.LineRead.TheVariants as read
+use Rattle.index_line.specs.Columns.{plain_end, fields_in, content_says, line_says, SaidAt}
+use Rattle.index_line.specs.IndexLine as index_line
+use Rattle.index_line.specs.IndexLine.{record_of, entry_for, plain_only, fields_of, index_line_says}
+use Rattle.index_line.specs.Ends.{content-lf, plain-lf}
+use Rattle.index_line.specs.RoundTripLaws.{ends-digit}
 
 -- ---- where it ends
 
@@ -43,32 +44,58 @@ module _ (text : List ℕ) (at n e : ℕ) (ns : List ℕ) (h : LineAt text at n 
   pub standing-name : length (take n (drop at text)) ≡ n
   standing-name = length-take-le n (drop at text) (omega (arith, length-drop at text, h.inside))
 
-  -- the first four of its numbers can stand in a line
-  pub standing-lined : 4 ≤ length ns → Lined (record_of n ns)
-  standing-lined k = record {
-    some-bases = (h.some 2 (omega arith)).0;
-    some-width = (h.some 3 (omega arith)).0;
-    fits-length = (h.some 0 (omega arith)).1;
-    fits-position = (h.some 1 (omega arith)).1;
-    fits-bases = (h.some 2 (omega arith)).1;
-    fits_width = (h.some 3 (omega arith)).1;
-  }
+-- ---- what it says, by what a name and its numbers make
 
-  -- ---- what it says
+module _ {Entry : Type 0} (entry : ℕ → List ℕ → Bool → Entry) (only : Bool → Entry → Entry)
+    (both : (p q : Bool) (k : ℕ) (vs : List ℕ) → only p (entry k vs q) ≡ entry k vs (p && q)) where
+  -- numbers that can stand in a line, behind a name without tabs
+  content-numbers : (line : ℕ) (name : List ℕ) (a : ℕ) (ns : List ℕ) → Lacks (is 9) name
+      → ((i : ℕ) → i < length (a ∷ ns) → Allowed (2 + i) (get_or (a ∷ ns) i 0))
+      → content_says entry (length (a ∷ ns)) line (name ++ numbers_text (a ∷ ns)) ≡ Ok (entry (length name) (a ∷ ns) true)
+  unfolding tabbed
+  content-numbers line name a ns h k =
+      let e : fields_in (length (a ∷ ns)) (name ++ numbers_text (a ∷ ns)) ≡ name ∷ map decimal_of (a ∷ ns) = fields-some name a ns ∙ text-cut name (a ∷ ns) h in
+      rw (e, reads_say line (text-reads (a ∷ ns) 2 k))
+    where
+      fields-some : (f : List ℕ) (b : ℕ) (vs : List ℕ) → fields_in (length (b ∷ vs)) (f ++ numbers_text (b ∷ vs)) ≡ cut_at (length (b ∷ vs)) (f ++ numbers_text (b ∷ vs))
+      fields-some [] b vs = refl
+      fields-some (c ∷ f) b vs = refl
 
-  pub standing-says : (line : ℕ) → length ns ≡ 4 → SaidAt line text at (read.Row (record { «record» = record_of n ns; plain = true })) e
-  unfolding line_of entry_of
-  standing-says line k =
-      let name : List ℕ = take n (drop at text) in
-      let x : Record = record_of n ns in
-      let says = ap (index_line_says line) (h.text ∙ ap (text_of name) (sym (four ns n k))) ∙ written-reads line name x (splits-tab name h.whole) (standing-lined (omega arith)) in
-      record { end = standing-end; read = sym (rw standing-name at says) }
+  module _ (text : List ℕ) (at n e : ℕ) where
+    pub line-standing : (ns : List ℕ) → LineAt text at n e ns → (line : ℕ) → 0 < length ns
+        → SaidAt (line_says entry only (length ns)) line text at (Ok (entry n ns true)) e
+    unfolding text_of
+    line-standing [] h line k = absurd (omega arith)
+    line-standing (a ∷ ns) h line k = record { end = standing-end text at n e (a ∷ ns) h; read = sym said }
+      where
+        name : List ℕ
+        name = take n (drop at text)
 
--- ---- where there is no line
+        clear : ends 13 (name ++ numbers_text (a ∷ ns)) ≡ false
+        clear = ends-digit name a ns
 
-pub none-says : (line : ℕ) (text : List ℕ) (at : ℕ) → length text ≤ at → SaidAt line text at (read.Refused (EmptyIndexLine line)) at
-unfolding index_line_says content_says content_of fields_of plain_end ends chop line_len
-none-says line text at h =
-    let z : at - at ≡ 0 = omega arith in
-    let d : drop at text ≡ [] = drop_of_length-le text h in
-    record { end = rw d (omega arith); read = rw z }
+        allowed : (i : ℕ) → i < length (a ∷ ns) → Allowed (2 + i) (get_or (a ∷ ns) i 0)
+        allowed i m = ((h.some i m).1, rw (ne_eqb (get_or (a ∷ ns) i 0) 0 (λ z. omega (arith, (h.some i m).0))))
+
+        content : content_says entry (length (a ∷ ns)) line (name ++ numbers_text (a ∷ ns)) ≡ Ok (entry n (a ∷ ns) true)
+        content = content-numbers line name a ns (splits-tab name h.whole) allowed ∙ ap (λ (m : ℕ). Ok (entry m (a ∷ ns) true)) (standing-name text at n e (a ∷ ns) h)
+
+        said : line_says entry only (length (a ∷ ns)) line (part text at e) ≡ Ok (entry n (a ∷ ns) true)
+        said =
+            ap (line_says entry only (length (a ∷ ns)) line) (h.text ∙ sym (append_assoc name (numbers_text (a ∷ ns)) (10 ∷ [])))
+            ∙ rw (plain-lf _ clear, content-lf _ clear, content) (ap Ok (both true true n (a ∷ ns)))
+
+  -- where there is no line
+  pub none-says : (n line : ℕ) (text : List ℕ) (at : ℕ) → length text ≤ at → SaidAt (line_says entry only n) line text at (Err (EmptyIndexLine line)) at
+  unfolding content_of plain_end ends chop line_len
+  none-says n line text at h =
+      let z : at - at ≡ 0 = omega arith in
+      let d : drop at text ≡ [] = drop_of_length-le text h in
+      record { end = rw d (omega arith); read = rw z }
+
+-- ---- a line of four numbers
+
+pub standing-says : (text : List ℕ) (at n e : ℕ) (ns : List ℕ) → LineAt text at n e ns → (line : ℕ) → length ns ≡ 4
+    → index_line.SaidAt line text at (Ok (record { «record» = record_of n ns; plain = true })) e
+unfolding index_line_says index_line.content_says fields_of
+standing-says text at n e ns h line k = rw k at (line-standing entry_for plain_only (λ p q m vs. refl) text at n e ns h line (omega (arith, k)))

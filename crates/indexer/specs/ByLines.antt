@@ -1,7 +1,7 @@
 -- The indexer as a machine over lines. With each line it learns whether the sequence ends behind it: the next byte is '>', or the file ends.
 -- Over the lines of a whole file it finds what indexing the file finds: `by_lines`. So it finds the same in any pieces: `by-pieces`.
 use Prim.Native.Nat.{ℕ, zero, suc, ◌+◌}
-use Rattle.std.specs.Prelude.{◌≡◌, Bool, cond}
+use Rattle.std.specs.Prelude.{◌≡◌, Bool, cond, Some, Result, Ok, Err, ⊤}
 use Rattle.std.proofs.Math.Path.{refl, ap}
 use Rattle.std.proofs.Common.{sym, ◌∙◌, true≢false, eqb-true, le-leb, arith}
 use mathlib.Core.List.{List, [], ◌∷◌, ◌++◌, append_assoc, append-nil}
@@ -10,6 +10,8 @@ use Rattle.std.proofs.Math.ListN.{length}
 use Rattle.std.proofs.Math.Dec.{eqb}
 use Rattle.std.proofs.lemmas.Bool.{eqb-false}
 use Rattle.std.proofs.Math.Nat.{add-zero}
+use Rattle.refusal.specs.declared.Refusal.{Refusal}
+use Rattle.definition.specs.declared.Fault.{Fault}
 use Rattle.refusal.specs.declared.Refusal.TheVariants.{NoBases, LineBases, LineWidth, TableFull}
 use Rattle.lines.specs.declared.Line.{Line}
 use Rattle.definition.specs.declared.Definition.{Definition}
@@ -17,17 +19,11 @@ use Rattle.lines.specs.Lines.{lines, bases_of, begins, seq_of, none, sum_bases, 
 use Rattle.lines.specs.Groups.{groups}
 use Rattle.lines.specs.GroupLaws.{after_seq, groups-cut}
 use Rattle.lines.specs.Feeding.{joined, judge_all, feed_all, finish, fresh, fed-whole}
-use Rattle.definition.specs.declared.Parsed.{Parsed}
-use Rattle.definition.specs.declared.Parsed.TheVariants.{Named, Bad}
 use Rattle.definition.specs.Definition.{definition_says, refusal_at}
 use Rattle.record.specs.declared.Record.{Record}
-use Rattle.table.specs.declared.Stop.{Stop}
-use Rattle.table.specs.declared.Stop.TheVariants.{Ended, Refused}
 use Rattle.table.specs.Fill.{Found, nothing, with_first, held_in}
 use Rattle.table.specs.Laws.{held-nothing, held_none, held_first}
-use Rattle.indexer.specs.declared.Indexed.TheVariants as indexed
 use Rattle.indexer.specs.declared.Step.{Step}
-use Rattle.indexer.specs.declared.Rest.{Rest}
 use Rattle.indexer.specs.Rule.{row_for, defined_by, stepped, groups_by, file_by}
 use Rattle.indexer.specs.Index.{line_of, fits_last, rest_of, ported, sequence_says, rest_says}
 use Rattle.indexer.specs.File.{file_of, file_at}
@@ -46,7 +42,7 @@ pub data Phase : Type 0 where
   wants-definition : ℕ → Phase
   wants-first : Opened → Phase
   wants-line : Opened → Line → ℕ → ℕ → Phase
-  halted : Stop → Phase
+  halted : Result ⊤ Refusal → Phase
 
 -- what a line gives: the next phase, or a row and the offset behind its record
 pub data Out : Type 0 where
@@ -57,14 +53,14 @@ abbrev pub row_in : Opened → Line → ℕ → Record
 row_in d first m = row_for d.at d.said m (d.at + d.width) first.bases first.width
 
 -- a definition line of w bytes
-unfoldable pub definition_out : ℕ → ℕ → Bool → Parsed → Out
-definition_out at w last (Named d) = cond last (keeps (halted (Refused (NoBases (at + w))))) (keeps (wants-first (record { at = at; width = w; said = d })))
-definition_out at w last (Bad f) = keeps (halted (Refused (refusal_at f at)))
+unfoldable pub definition_out : ℕ → ℕ → Bool → Result Definition Fault → Out
+definition_out at w last (Ok d) = cond last (keeps (halted (Err (NoBases (at + w))))) (keeps (wants-first (record { at = at; width = w; said = d })))
+definition_out at w last (Err f) = keeps (halted (Err (refusal_at f at)))
 
 -- a first sequence line
 unfoldable pub first_out : Opened → Line → Bool → Out
 first_out d x last =
-    cond (eqb x.bases 0) (keeps (halted (Refused (NoBases (d.at + d.width + x.width)))))
+    cond (eqb x.bases 0) (keeps (halted (Err (NoBases (d.at + d.width + x.width)))))
     (cond last (emits (row_in d x x.bases) (d.at + d.width + x.width)) (keeps (wants-line d x x.bases (d.at + d.width + x.width))))
 
 -- a further one, with m bases before it, which begins at z
@@ -72,11 +68,11 @@ unfoldable pub line_out : Opened → Line → ℕ → ℕ → Line → Bool → 
 line_out d first m z x last =
     cond (fits_last last x first) (emits (row_in d first (m + x.bases)) (z + x.width))
     (cond (eqb x.bases first.bases)
-    (cond (eqb x.width first.width) (keeps (wants-line d first (m + x.bases) (z + x.width))) (keeps (halted (Refused (LineWidth x.width first.width)))))
-    (keeps (halted (Refused (LineBases x.bases first.bases)))))
+    (cond (eqb x.width first.width) (keeps (wants-line d first (m + x.bases) (z + x.width))) (keeps (halted (Err (LineWidth x.width first.width)))))
+    (keeps (halted (Err (LineBases x.bases first.bases)))))
 
 -- one line, by its width and bases, what it says as a definition, and whether its sequence ends behind it
-abbrev pub out_of : Phase → Line → Parsed → Bool → Out
+abbrev pub out_of : Phase → Line → Result Definition Fault → Bool → Out
 out_of (wants-definition at) x p last = definition_out at x.width last p
 out_of (wants-first d) x p last = first_out d x last
 out_of (wants-line d first m z) x p last = line_out d first m z x last
@@ -94,7 +90,7 @@ state p f rs = record { phase = p; free = f; rows = rs }
 module _ (all : ℕ) where
   -- a row of a good record, if one is free
   abbrev pub emitted : ℕ → List Record → Record → ℕ → State
-  emitted zero rs x z = state (halted (Refused (TableFull all))) zero rs
+  emitted zero rs x z = state (halted (Err (TableFull all))) zero rs
   emitted (suc k) rs x z = state (wants-definition z) k (rs ++ (x ∷ []))
 
   abbrev pub applied : ℕ → List Record → Out → State
@@ -104,10 +100,10 @@ module _ (all : ℕ) where
   abbrev pub step_line : State → List ℕ → Bool → State
   step_line st l last = applied st.free st.rows (out_of st.phase (line_of l) (definition_says l) last)
 
-abbrev pub stop_of : Phase → Stop
-stop_of (wants-definition at) = Ended
-stop_of (wants-first d) = Ended
-stop_of (wants-line d first m z) = Ended
+abbrev pub stop_of : Phase → Result ⊤ Refusal
+stop_of (wants-definition at) = Ok tt
+stop_of (wants-first d) = Ok tt
+stop_of (wants-line d first m z) = Ok tt
 stop_of (halted s) = s
 
 abbrev pub found : State → Found
@@ -168,7 +164,7 @@ module _ (all : ℕ) where
   abbrev run : State → List (List ℕ) → State
   run st ls = judge_all (step_line all) st ls
 
-  halted-stays : (s : Stop) (f : ℕ) (rs : List Record) (ls : List (List ℕ)) → found (run (state (halted s) f rs) ls) ≡ plus rs (nothing s)
+  halted-stays : (s : Result ⊤ Refusal) (f : ℕ) (rs : List Record) (ls : List (List ℕ)) → found (run (state (halted s) f rs) ls) ≡ plus rs (nothing s)
   unfolding judge_all
   halted-stays s f rs [] = rw (append-nil rs)
   halted-stays s f rs (l ∷ ls) = halted-stays s f rs ls
@@ -184,7 +180,7 @@ module _ (all : ℕ) where
   Claim ls (halted s) = Unit {0}
 
   -- a refusal, and a row
-  refused-step : (s : Stop) (f : ℕ) (rs : List Record) (ls : List (List ℕ)) → found (run (state (halted s) f rs) ls) ≡ plus rs (held_in f all (nothing s))
+  refused-step : (s : Result ⊤ Refusal) (f : ℕ) (rs : List Record) (ls : List (List ℕ)) → found (run (state (halted s) f rs) ls) ≡ plus rs (held_in f all (nothing s))
   refused-step s f rs ls = halted-stays s f rs ls ∙ ap (plus rs) (sym (held-nothing f all s))
 
   same_step : (rs : List Record) (f : ℕ) (g : ℕ → Found) {v w : Step} → v ≡ w → plus rs (held_in f all (stepped v g)) ≡ plus rs (held_in f all (stepped w g))
@@ -193,14 +189,14 @@ module _ (all : ℕ) where
   row_step : (ls : List (List ℕ)) (z : ℕ) → Claim ls (wants-definition z) → (f : ℕ) (rs : List Record) (x : Record)
       → found (run (emitted all f rs x z) ls) ≡ plus rs (held_in f all (with_first x (file_of (groups ls) z)))
   unfolding Claim
-  row_step ls z ih zero rs x = halted-stays (Refused (TableFull all)) zero rs ls ∙ ap (plus rs) (sym (held_none all x (file_of (groups ls) z)))
+  row_step ls z ih zero rs x = halted-stays (Err (TableFull all)) zero rs ls ∙ ap (plus rs) (sym (held_none all x (file_of (groups ls) z)))
   row_step ls z ih (suc k) rs x =
       ih k (rs ++ (x ∷ []))
       ∙ ap (λ (q : List Record). record { rows = q; stop = (held_in k all (file_of (groups ls) z)).stop }) (append_assoc rs (x ∷ []) (held_in k all (file_of (groups ls) z)).rows)
       ∙ ap (plus rs) (sym (held_first k all x (file_of (groups ls) z)))
 
   one-line : (d : Opened) (l : List ℕ) → (length (bases_of l) ≡ 0 → ⊥)
-      → record { answer = indexed.Row (row_in d (line_of l) (length (bases_of l))); next = record { at = d.at + d.width + length l } } ≡ sequence_says d.at d.width d.said (l ∷ [])
+      → record { answer = Ok (Some (row_in d (line_of l) (length (bases_of l)))); next = record { at = d.at + d.width + length l } } ≡ sequence_says d.at d.width d.said (l ∷ [])
   unfolding rest_says rest_of sum_bases sum_widths
   one-line d l h = rw (add-zero (length (bases_of l)), add-zero (d.at + d.width + length l)) at (judge-some d.at d.width d.said (l ∷ []) h)
 
@@ -209,24 +205,24 @@ module _ (all : ℕ) where
     unfolding Claim judge_all groups_by definition_out
     definition-step at f rs = rw (groups-cut l ls) (go (definition_says l) (none (seq_of ls)) refl)
       where
-        go : (p : Parsed) (t : Bool) → none (seq_of ls) ≡ t
+        go : (p : Result Definition Fault) (t : Bool) → none (seq_of ls) ≡ t
             → found (run (applied all f rs (definition_out at (length l) t p)) ls) ≡ plus rs (held_in f all (stepped (defined_by ported at (length l) (seq_of ls) p) (file_of (groups (after_seq ls)))))
-        go (Named d) true e =
-            refused-step (Refused (NoBases (at + length l))) f rs ls
+        go (Ok d) true e =
+            refused-step (Err (NoBases (at + length l))) f rs ls
             ∙ same_step rs f (file_of (groups (after_seq ls))) (rw (add-zero (at + length l)) at (judge-none at (length l) d [] refl) ∙ ap (sequence_says at (length l) d) (sym (none-seq ls e)))
-        go (Named d) false e = ih (wants-first (record { at = at; width = length l; said = d })) f rs e
-        go (Bad x) t e = refused-step (Refused (refusal_at x at)) f rs ls
+        go (Ok d) false e = ih (wants-first (record { at = at; width = length l; said = d })) f rs e
+        go (Err x) t e = refused-step (Err (refusal_at x at)) f rs ls
 
     first_step : (d : Opened) → Claim (l ∷ ls) (wants-first d)
     unfolding Claim judge_all first_out
     first_step d f rs h = rw (seq-front l ls h, after_front l ls h) (go (eqb (length (bases_of l)) 0) refl (none (seq_of ls)) refl)
       where
         go : (u : Bool) → eqb (length (bases_of l)) 0 ≡ u → (t : Bool) → none (seq_of ls) ≡ t
-            → found (run (applied all f rs (cond u (keeps (halted (Refused (NoBases (d.at + d.width + length l)))))
+            → found (run (applied all f rs (cond u (keeps (halted (Err (NoBases (d.at + d.width + length l)))))
             (cond t (emits (row_in d (line_of l) (length (bases_of l))) (d.at + d.width + length l)) (keeps (wants-line d (line_of l) (length (bases_of l)) (d.at + d.width + length l)))))) ls)
             ≡ plus rs (held_in f all (stepped (sequence_says d.at d.width d.said (l ∷ seq_of ls)) (file_of (groups (after_seq ls)))))
         go true u t e =
-            refused-step (Refused (NoBases (d.at + d.width + length l))) f rs ls
+            refused-step (Err (NoBases (d.at + d.width + length l))) f rs ls
             ∙ same_step rs f (file_of (groups (after_seq ls))) (judge-none d.at d.width d.said (l ∷ seq_of ls) (eqb-true _ _ u))
         go false u true e =
             rw (none_after ls e, none-seq ls e)
@@ -241,29 +237,29 @@ module _ (all : ℕ) where
     line_step d x m z f rs h = rw (seq-front l ls h, after_front l ls h)
         (go (fits_last (none (seq_of ls)) (line_of l) x) refl (eqb (length (bases_of l)) x.bases) refl (eqb (length l) x.width) refl)
       where
-        said : {v : Rest} → v ≡ rest_says x m z (l ∷ seq_of ls)
+        said : {v : Result (ℕ × ℕ) Refusal} → v ≡ rest_says x m z (l ∷ seq_of ls)
             → plus rs (held_in f all (stepped (answer_as d.at d.said (d.at + d.width) x v) (file_of (groups (after_seq ls)))))
             ≡ plus rs (held_in f all (stepped (answer_as d.at d.said (d.at + d.width) x (rest_says x m z (l ∷ seq_of ls))) (file_of (groups (after_seq ls)))))
         said e = same_step rs f (file_of (groups (after_seq ls))) (ap (answer_as d.at d.said (d.at + d.width) x) e)
 
         go : (u : Bool) → fits_last (none (seq_of ls)) (line_of l) x ≡ u → (v : Bool) → eqb (length (bases_of l)) x.bases ≡ v → (w : Bool) → eqb (length l) x.width ≡ w
             → found (run (applied all f rs (cond u (emits (row_in d x (m + length (bases_of l))) (z + length l))
-            (cond v (cond w (keeps (wants-line d x (m + length (bases_of l)) (z + length l))) (keeps (halted (Refused (LineWidth (length l) x.width)))))
-            (keeps (halted (Refused (LineBases (length (bases_of l)) x.bases))))))) ls)
+            (cond v (cond w (keeps (wants-line d x (m + length (bases_of l)) (z + length l))) (keeps (halted (Err (LineWidth (length l) x.width)))))
+            (keeps (halted (Err (LineBases (length (bases_of l)) x.bases))))))) ls)
             ≡ plus rs (held_in f all (stepped (answer_as d.at d.said (d.at + d.width) x (rest_says x m z (l ∷ seq_of ls))) (file_of (groups (after_seq ls)))))
         go true p v q w r =
             rw (none_after ls (fits-last _ _ _ p))
             (row_step ls (z + length l) (ih (wants-definition (z + length l))) f rs (row_in d x (m + length (bases_of l)))
             ∙ same_step rs f (file_of (groups ls)) (ap (answer_as d.at d.said (d.at + d.width) x) (rest-done x m z (l ∷ seq_of ls) p)))
-        go false p false q w r = refused-step (Refused (LineBases (length (bases_of l)) x.bases)) f rs ls ∙ said (rest-bases x m z (l ∷ seq_of ls) p (eqb-false _ _ q))
-        go false p true q false r = refused-step (Refused (LineWidth (length l) x.width)) f rs ls ∙ said (rest-width x m z (l ∷ seq_of ls) p (eqb-true _ _ q) (eqb-false _ _ r))
+        go false p false q w r = refused-step (Err (LineBases (length (bases_of l)) x.bases)) f rs ls ∙ said (rest-bases x m z (l ∷ seq_of ls) p (eqb-false _ _ q))
+        go false p true q false r = refused-step (Err (LineWidth (length l) x.width)) f rs ls ∙ said (rest-width x m z (l ∷ seq_of ls) p (eqb-true _ _ q) (eqb-false _ _ r))
         go false p true q true r =
             ih (wants-line d x (m + length (bases_of l)) (z + length l)) f rs (fits_more _ _ _ p (eqb-true _ _ q) (eqb-true _ _ r))
             ∙ said (rest-on x m z (l ∷ seq_of ls) p (eqb-true _ _ q) (eqb-true _ _ r))
 
   claims : (ls : List (List ℕ)) (c : Phase) → Claim ls c
   unfolding Claim judge_all groups_by groups seq_of
-  claims [] (wants-definition at) = λ f rs. rw (held-nothing f all Ended, append-nil rs)
+  claims [] (wants-definition at) = λ f rs. rw (held-nothing f all (Ok tt), append-nil rs)
   claims [] (wants-first d) = λ f rs h. absurd (true≢false h)
   claims [] (wants-line d x m z) = λ f rs h. absurd (true≢false h)
   claims [] (halted s) = tt

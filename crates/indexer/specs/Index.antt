@@ -1,5 +1,6 @@
 -- What indexing one record gives by the ported rule (docs/RULES.md, R20), over the lines of the file.
-use Rattle.std.specs.Prelude.{ℕ, ◌+◌, List, [], ◌∷◌, Bool, cond, ◌&&◌, length, eqb, leb}
+use Rattle.std.specs.Prelude.{ℕ, ◌+◌, List, [], ◌∷◌, Bool, cond, ◌&&◌, length, eqb, leb, Result, Ok, Err}
+use Rattle.refusal.specs.declared.Refusal.{Refusal}
 use Rattle.refusal.specs.Numbers.{over_limit}
 use Rattle.refusal.specs.declared.Refusal.TheVariants.{TooLong, NoBases, LineBases, LineWidth}
 use Rattle.lines.specs.declared.Line.{Line}
@@ -7,10 +8,7 @@ use Rattle.definition.specs.declared.Definition.{Definition}
 use Rattle.lines.specs.Lines.{bases_of, first_line, none, sum_bases, sum_widths}
 use Rattle.record.specs.declared.Record.{Record}
 use Rattle.indexer.specs.declared.Indexer.{Indexer}
-use Rattle.indexer.specs.declared.Indexed.TheVariants as indexed
 use Rattle.indexer.specs.declared.Step.{Step}
-use Rattle.indexer.specs.declared.Rest.{Rest}
-use Rattle.indexer.specs.declared.Rest.TheVariants as rest
 use Rattle.indexer.specs.Rule.{Verdict, good, bad, SequenceRule, row_for, sequence_by, record_by}
 
 -- width and bases of a line
@@ -53,12 +51,12 @@ record_at = record_by ported
 
 -- the call: the size limit first
 unfoldable pub record_read : List ℕ → Indexer → Step
-record_read s c = cond (over_limit (length s)) (record { answer = indexed.Refused TooLong; next = c }) (record_at s c.at)
+record_read s c = cond (over_limit (length s)) (record { answer = Err TooLong; next = c }) (record_at s c.at)
 
 -- the lines after the first: the bases with n before them, and the offset behind them
-abbrev pub rest_as : ℕ → ℕ → List (List ℕ) → Verdict → Rest
-rest_as n at ls good = rest.Done (n + sum_bases ls) (at + sum_widths ls)
-rest_as n at ls (bad x) = rest.Refused x
+abbrev pub rest_as : ℕ → ℕ → List (List ℕ) → Verdict → Result (ℕ × ℕ) Refusal
+rest_as n at ls good = Ok ((n + sum_bases ls), (at + sum_widths ls))
+rest_as n at ls (bad x) = Err x
 
-unfoldable pub rest_says : Line → ℕ → ℕ → List (List ℕ) → Rest
+unfoldable pub rest_says : Line → ℕ → ℕ → List (List ℕ) → Result (ℕ × ℕ) Refusal
 rest_says first n at ls = rest_as n at ls (rest_of first ls)

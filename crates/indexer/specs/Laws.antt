@@ -1,42 +1,32 @@
 -- Laws of one record by the ported rule: its lines after the first, turn by turn.
-use Rattle.std.specs.Prelude.{ℕ, suc, ◌+◌, ◌-◌, ◌*◌, ◌≤◌, ◌<◌, ◌≡◌, Bool, true, false, ◌&&◌, leb}
+use Rattle.std.specs.Prelude.{ℕ, suc, ◌+◌, ◌-◌, ◌*◌, ◌≤◌, ◌<◌, ◌≡◌, Bool, true, false, leb, Some, Result, Ok, Err}
 use Rattle.std.proofs.Math.Path.{refl}
 use Rattle.std.proofs.Common.{ap, sym, ◌∙◌, true≢false, arith, add-one, add_assoc, add-mul, one-mul, zero-mul, mul-le-mul_left}
 use mathlib.Core.List.{List, [], ◌∷◌}
 use Rattle.std.proofs.Math.ListN.{length}
 use Rattle.std.proofs.Math.Dec.{leb-zero}
-use borrow.Author.Tests.{eq-eqb, ne_eqb, le-leb, lt-leb}
+use borrow.Author.Tests.{eq-eqb, ne_eqb, le-leb}
 use Rattle.std.proofs.Math.Nat.{add-zero}
+use Rattle.refusal.specs.declared.Refusal.{Refusal}
 use Rattle.refusal.specs.declared.Refusal.TheVariants.{NoBases, LineBases, LineWidth}
 use Rattle.lines.specs.declared.Line.{Line}
 use Rattle.definition.specs.declared.Definition.{Definition}
 use Rattle.lines.specs.Lines.{bases_of, seq_at, first_line, tail_of, none, sum_bases, sum_widths}
-use Rattle.lines.specs.Laws.{seq_at-next}
+use Rattle.lines.specs.Laws.{seq_at-next, first-within, bases-le}
 use Rattle.lines.specs.Alike.{LineLike, first_like, alike, alike-passes, alike-within, alike-ends, unlike-last}
 use Rattle.indexer.specs.Rule.{Verdict, good, bad, row_for, judged_by, sequence_by}
 use Rattle.indexer.specs.Index.{fits_last, rest_of, judge, ported, sequence_says, rest_as, rest_says}
-use Rattle.indexer.specs.declared.Indexed.TheVariants as indexed
 use Rattle.indexer.specs.declared.Step.{Step}
-use Rattle.indexer.specs.declared.Rest.{Rest}
-use Rattle.indexer.specs.declared.Rest.TheVariants as rest
+
+-- the line at a place of a file ends in the file, and has no more bases than bytes
+pub line-fits : (s : List ℕ) (e : ℕ) → e ≤ length s → (x : Line) → x ≡ first_line (seq_at s e) → (e + x.width ≤ length s) × (x.bases ≤ x.width)
+line-fits s e h x hx = rw hx (first-within s e h, bases-le (seq_at s e))
 
 -- ---- may a line be the last
 
-pub fits-go : (last : Bool) (l first : Line) → last ≡ true → l.width ≤ first.width → leb l.bases first.bases ≡ fits_last last l first
+fits-go : (last : Bool) (l first : Line) → last ≡ true → l.width ≤ first.width → leb l.bases first.bases ≡ fits_last last l first
 unfolding fits_last
 fits-go last l first h k = rw (h, le-leb l.width first.width k)
-
-pub fits-wide : (last : Bool) (l first : Line) → first.width < l.width → false ≡ fits_last last l first
-unfolding fits_last
-fits-wide last l first k = rw (lt-leb l.width first.width k) (go last)
-  where
-    go : (t : Bool) → false ≡ (t && false && leb l.bases first.bases)
-    go true = refl
-    go false = refl
-
-pub fits_not : (last : Bool) (l first : Line) → last ≡ false → false ≡ fits_last last l first
-unfolding fits_last
-fits_not last l first h = rw h
 
 -- if there is no line at all, the end is good
 fits-none : (first : Line) → fits_last true (first_line []) first ≡ true
@@ -53,20 +43,20 @@ rest-shift n at l ls (bad x) = refl
 
 module _ (first : Line) (n at : ℕ) where
   pub rest-done : (ls : List (List ℕ)) → fits_last (none (tail_of ls)) (first_line ls) first ≡ true
-      → rest.Done (n + (first_line ls).bases) (at + (first_line ls).width) ≡ rest_says first n at ls
+      → Ok ((n + (first_line ls).bases), (at + (first_line ls).width)) ≡ rest_says first n at ls
   unfolding fits_last rest_says rest_of sum_bases sum_widths
   rest-done [] f = refl
   rest-done (l ∷ []) f = rw (f, add-zero (length l), add-zero (length (bases_of l)))
   rest-done (l ∷ m ∷ ls) f = absurd (true≢false (sym f))
 
   pub rest-bases : (ls : List (List ℕ)) → fits_last (none (tail_of ls)) (first_line ls) first ≡ false
-      → ((first_line ls).bases ≡ first.bases → ⊥) → rest.Refused (LineBases (first_line ls).bases first.bases) ≡ rest_says first n at ls
+      → ((first_line ls).bases ≡ first.bases → ⊥) → Err (LineBases (first_line ls).bases first.bases) ≡ rest_says first n at ls
   unfolding rest_says rest_of
   rest-bases [] f h = absurd (true≢false (sym (fits-none first) ∙ f))
   rest-bases (l ∷ ls) f h = rw (f, ne_eqb (length (bases_of l)) first.bases h)
 
   pub rest-width : (ls : List (List ℕ)) → fits_last (none (tail_of ls)) (first_line ls) first ≡ false
-      → (first_line ls).bases ≡ first.bases → ((first_line ls).width ≡ first.width → ⊥) → rest.Refused (LineWidth (first_line ls).width first.width) ≡ rest_says first n at ls
+      → (first_line ls).bases ≡ first.bases → ((first_line ls).width ≡ first.width → ⊥) → Err (LineWidth (first_line ls).width first.width) ≡ rest_says first n at ls
   unfolding rest_says rest_of
   rest-width [] f h k = absurd (true≢false (sym (fits-none first) ∙ f))
   rest-width (l ∷ ls) f h k = rw (f, eq-eqb (length (bases_of l)) first.bases h, ne_eqb (length l) first.width k)
@@ -84,13 +74,13 @@ module _ (s : List ℕ) (i n : ℕ) (first x : Line) (h : i ≤ length s) (hx : 
   fate : fits_last (none (tail_of (seq_at s i))) (first_line (seq_at s i)) first ≡ f
   fate = sym (hf ∙ rw (ht, hx, seq_at-next s i h))
 
-  pub turn-done : f ≡ true → rest.Done (n + x.bases) (i + x.width) ≡ rest_says first n i (seq_at s i)
+  pub turn-done : f ≡ true → Ok ((n + x.bases), (i + x.width)) ≡ rest_says first n i (seq_at s i)
   turn-done e = rw hx (rest-done first n i (seq_at s i) (fate ∙ e))
 
-  pub turn-bases : f ≡ false → (x.bases ≡ first.bases → ⊥) → rest.Refused (LineBases x.bases first.bases) ≡ rest_says first n i (seq_at s i)
+  pub turn-bases : f ≡ false → (x.bases ≡ first.bases → ⊥) → Err (LineBases x.bases first.bases) ≡ rest_says first n i (seq_at s i)
   turn-bases e k = rw hx (rest-bases first n i (seq_at s i) (fate ∙ e) (rw hx at k))
 
-  pub turn-width : f ≡ false → x.bases ≡ first.bases → (x.width ≡ first.width → ⊥) → rest.Refused (LineWidth x.width first.width) ≡ rest_says first n i (seq_at s i)
+  pub turn-width : f ≡ false → x.bases ≡ first.bases → (x.width ≡ first.width → ⊥) → Err (LineWidth x.width first.width) ≡ rest_says first n i (seq_at s i)
   turn-width e k m = rw hx (rest-width first n i (seq_at s i) (fate ∙ e) (rw hx at k) (rw hx at m))
 
   pub turn_on : f ≡ false → x.bases ≡ first.bases → x.width ≡ first.width
@@ -149,13 +139,13 @@ module _ (s : List ℕ) (at : ℕ) (first : Line) (h : at ≤ length s) where
 -- ---- a record from its first line on
 
 -- what the rest says, as the answer on the whole record
-abbrev pub answer_as : ℕ → Definition → ℕ → Line → Rest → Step
-answer_as at d p x (rest.Done m e) = record { answer = indexed.Row (row_for at d m p x.bases x.width); next = record { at = e } }
-answer_as at d p x (rest.Refused r) = record { answer = indexed.Refused r; next = record { at = at } }
+abbrev pub answer_as : ℕ → Definition → ℕ → Line → Result (ℕ × ℕ) Refusal → Step
+answer_as at d p x (Ok (m, e)) = record { answer = Ok (Some (row_for at d m p x.bases x.width)); next = record { at = e } }
+answer_as at d p x (Err r) = record { answer = Err r; next = record { at = at } }
 
 module _ (at n : ℕ) (d : Definition) where
   pub judge-none : (ls : List (List ℕ)) → (first_line ls).bases ≡ 0
-      → record { answer = indexed.Refused (NoBases (at + n + (first_line ls).width)); next = record { at = at } } ≡ sequence_says at n d ls
+      → record { answer = Err (NoBases (at + n + (first_line ls).width)); next = record { at = at } } ≡ sequence_says at n d ls
   unfolding judge sequence_by
   judge-none [] h = rw (add-zero (at + n))
   judge-none (l ∷ ls) h = rw (eq-eqb (length (bases_of l)) 0 h)
@@ -175,10 +165,10 @@ module _ (s : List ℕ) (at e : ℕ) (d : Definition) (le : at ≤ e) (h : e ≤
   split : at + (e - at) ≡ e
   split = omega arith
 
-  pub record-none : x.bases ≡ 0 → record { answer = indexed.Refused (NoBases (e + x.width)); next = record { at = at } } ≡ sequence_says at (e - at) d (seq_at s e)
+  pub record-none : x.bases ≡ 0 → record { answer = Err (NoBases (e + x.width)); next = record { at = at } } ≡ sequence_says at (e - at) d (seq_at s e)
   record-none z = rw hx (rw split at (judge-none at (e - at) d (seq_at s e) (rw hx at z)))
 
-  pub record-some : (x.bases ≡ 0 → ⊥) → (r v : Rest) → r ≡ rest_says x x.bases (e + x.width) (seq_at s (e + x.width)) → r ≡ v
+  pub record-some : (x.bases ≡ 0 → ⊥) → (r v : Result (ℕ × ℕ) Refusal) → r ≡ rest_says x x.bases (e + x.width) (seq_at s (e + x.width)) → r ≡ v
       → answer_as at d e x v ≡ sequence_says at (e - at) d (seq_at s e)
   record-some z r v hr hv =
       rw (← hv, hr, hx, seq_at-next s e h) (rw split at (judge-some at (e - at) d (seq_at s e) (rw hx at z)))

@@ -1,7 +1,7 @@
 -- What the indexer keeps of a line that waits for more bytes: seven numbers. They are enough to judge the line, and follow from those of an
 -- open line and further bytes; so a file fed in pieces needs no memory of a line's bytes.
 use Prim.Native.Nat.{ℕ, zero, suc, ◌+◌, ◌-◌, ◌≤◌, ◌<◌}
-use Rattle.std.specs.Prelude.{◌≡◌, Bool, not, ◌⊎◌, length, take, drop}
+use Rattle.std.specs.Prelude.{◌≡◌, Bool, not, ◌⊎◌, length, take, drop, Result, Ok, Err}
 use Rattle.std.proofs.Math.Path.{refl, ap}
 use Rattle.std.proofs.Common.{sym, ◌∙◌, length-append}
 use mathlib.Core.List.{List, [], ◌∷◌, ◌++◌, append_assoc}
@@ -10,6 +10,8 @@ use Rattle.std.proofs.Math.Logic.{inl, inr}
 use Rattle.std.proofs.Math.Dec.{eqb, eqb-suc-zero, eqb-suc-suc}
 use borrow.Author.Tests.{eqb-true, eqb-false, ne_eqb}
 use native.Mathlib.Omega.{arith}
+use Rattle.definition.specs.declared.Definition.{Definition}
+use Rattle.definition.specs.declared.Fault.{Fault}
 use Rattle.lines.specs.declared.Line.{Line}
 use Rattle.lines.specs.declared.Span.{Span}
 use Rattle.lines.specs.Lines.{chop, ends, bases_of, content_of, begins}
@@ -17,8 +19,6 @@ use Rattle.lines.specs.Laws.{content-front}
 use Rattle.lines.specs.Pieces.{ends-append, bases-append}
 use Rattle.lines.specs.Feeding.{joined, FedSum, Summing, Sums, feed_sum, feed_sums, finish_sum, sums-whole, feed-moved, feeds-moved, finish-moved}
 use Rattle.definition.specs.declared.Fault.TheVariants.{Empty, NoPrefix, NoName}
-use Rattle.definition.specs.declared.Parsed.{Parsed}
-use Rattle.definition.specs.declared.Parsed.TheVariants.{Named, Bad}
 use Rattle.definition.specs.Definition.{is_space, spaced, run, kept, keep, described, named_of, content_says, definition_says}
 use Rattle.definition.specs.Laws.{described-none, keep-drop}
 use Rattle.record.specs.declared.Record.{Record}
@@ -73,16 +73,16 @@ grow t l = record {
 }
 
 -- what the sum says as a definition: the places of the name and of the description
-abbrev pub named_as : ℕ → ℕ → ℕ → Parsed
-named_as zero text kept = Bad NoName
-named_as (suc n) text kept = Named (record { name = record { start = 1; length = suc n }; description = described text (kept - text) })
+abbrev pub named_as : ℕ → ℕ → ℕ → Result Definition Fault
+named_as zero text kept = Err NoName
+named_as (suc n) text kept = Ok (record { name = record { start = 1; length = suc n }; description = described text (kept - text) })
 
 -- is nothing left of the line without its end
 abbrev pub blank : Sum → Bool
 blank t = cond t.whole (eqb t.line.bases 0) (eqb t.line.width 0)
 
-unfoldable pub sum_says : Sum → Parsed
-sum_says t = cond (blank t) (Bad Empty) (cond t.starts (named_as t.name t.text t.kept) (Bad NoPrefix))
+unfoldable pub sum_says : Sum → Result Definition Fault
+sum_says t = cond (blank t) (Err Empty) (cond t.starts (named_as t.name t.text t.kept) (Err NoPrefix))
 
 -- ---- the sum says what the line says
 
@@ -249,13 +249,13 @@ sum-says l = rw (blank-content l) (go (content_of l) refl)
         let k : keep is_space (drop r (drop (suc n) s)) ≡ keep is_space (b ∷ s) - text_in (b ∷ s) =
         omega (arith, keep-drop is_space r (drop (suc n) s), keep-drop is_space (suc n) s, kept_less (is_space b) (keep is_space s) (skip true s), q) in
         let t : suc (suc n) + r ≡ text_in (b ∷ s) = omega (arith, q) in
-        ap (λ (p : Span). Named (record { name = record { start = 1; length = suc n }; description = p })) (rw (t, k) h)
+        ap (λ (p : Span). Ok (record { name = record { start = 1; length = suc n }; description = p })) (rw (t, k) h)
 
-    go : (c : List ℕ) → content_of l ≡ c → content_says c ≡ cond (eqb (length c) 0) (Bad Empty) (cond (sum_of l).starts (named_as (sum_of l).name (sum_of l).text (sum_of l).kept) (Bad NoPrefix))
+    go : (c : List ℕ) → content_of l ≡ c → content_says c ≡ cond (eqb (length c) 0) (Err Empty) (cond (sum_of l).starts (named_as (sum_of l).name (sum_of l).text (sum_of l).kept) (Err NoPrefix))
     go [] e = unfold content_says in refl
     go (b ∷ s) e = unfold content_says sum_of in rw (eqb-suc-zero (length s), begins-content l s b e, ← name-content l, e) (turn (eqb b 62))
       where
-        turn : (t : Bool) → cond t (named_of s (run (spaced false) s)) (Bad NoPrefix) ≡ cond t (named_as (run (spaced false) s) (text_in l) (keep is_space l)) (Bad NoPrefix)
+        turn : (t : Bool) → cond t (named_of s (run (spaced false) s)) (Err NoPrefix) ≡ cond t (named_as (run (spaced false) s) (text_in l) (keep is_space l)) (Err NoPrefix)
         turn true = named b s (run (spaced false) s) refl (rw e at (text-content l))
         turn false = refl
 

@@ -1,5 +1,5 @@
 -- Laws of the lines of a file: what an offset into the bytes says of them.
-use Rattle.std.specs.Prelude.{ℕ, zero, suc, ◌+◌, ◌≤◌, ◌<◌, ◌-◌, ◌≡◌, refl, List, [], ◌∷◌, ◌++◌, Bool, true, false, cond, length, take, drop, get_or, eqb, ltb}
+use Rattle.std.specs.Prelude.{ℕ, zero, suc, ◌+◌, ◌≤◌, ◌<◌, ◌-◌, ◌≡◌, refl, List, [], ◌∷◌, ◌++◌, Bool, true, false, cond, length, take, drop, get_or, eqb, ltb, Some, None}
 use Rattle.std.proofs.Common.{ap, sym, ◌∙◌, true≢false, drop_of_length-le, length-take, drop-cons, take-suc, take-take, length-take-le, add-one, zero-add, suc-add}
 use Rattle.std.proofs.Math.ListN.{length-drop}
 use Rattle.std.proofs.Math.Seq.{drop-drop, get_or-drop, take-length, take-nil}
@@ -10,7 +10,6 @@ use Rattle.std.proofs.Math.Nat.{add-zero, sub-zero, add-sub_cancel_left}
 use Rattle.lines.specs.Lines.{part, lines, line_len, onto, line_end, chop, ends, bases_of, content_of, read_line, begins, seq_of, seq_at, none, first_line, tail_of}
 use Rattle.lines.specs.declared.Cursor.{Cursor}
 use Rattle.lines.specs.declared.Span.{Span}
-use Rattle.lines.specs.declared.Step.TheVariants.{Read, End}
 
 -- ---- the length of the first line
 
@@ -285,19 +284,19 @@ first-grows s at h n = omega (arith, first-end s at h n, line_end-gt s at (some-
 -- ---- reading a line at a place
 
 module _ (s : List ℕ) (c : Cursor) where
-  pub read-end : length s ≤ c.at → End ≡ read_line s c
+  pub read-end : length s ≤ c.at → None ≡ read_line s c
   unfolding read_line lines
   read-end h = rw (drop_of_length-le s h)
 
   pub read_here : (e k : ℕ) → c.at < length s → e ≡ line_end s c.at → k ≡ length (content_of (part s c.at e))
-      → Read (record { start = c.at; length = k }) (record { at = e }) ≡ read_line s c
+      → Some (record { start = c.at; length = k }, record { at = e }) ≡ read_line s c
   unfolding read_line
   read_here e k h p q =
       let m : line_end s c.at ≡ c.at + (line_end s c.at - c.at) = omega arith in
       rw (lines_at-cut s c.at h, part_length s c.at (line_end s c.at) (line_end-le s c.at (omega arith)), q, p, ← m)
 
 -- a line read by its content: its bytes are some of the line's, and the place moves on
-pub read_line-is : (s : List ℕ) (c n : Cursor) (x : Span) → read_line s c ≡ Read x n
+pub read_line-is : (s : List ℕ) (c n : Cursor) (x : Span) → read_line s c ≡ Some (x, n)
     → (c.at < length s) × (n.at ≡ line_end s c.at) × (x.start ≡ c.at) × (x.length ≡ length (content_of (part s c.at (line_end s c.at))))
 read_line-is s c n x r = go (ltb c.at (length s)) refl
   where
@@ -306,15 +305,14 @@ read_line-is s c n x r = go (ltb c.at (length s)) refl
     go true e =
         let h : c.at < length s = ltb-true _ _ e in
         let q = read_here s c (line_end s c.at) (length (content_of (part s c.at (line_end s c.at)))) h refl refl in
-        let u : x ≡ record { start = c.at; length = length (content_of (part s c.at (line_end s c.at))) } = cc in
-        let v : n ≡ record { at = line_end s c.at } = cc in
-        (h, ap (λ (y : Cursor). y.at) v, ap (λ (y : Span). y.start) u, ap (λ (y : Span). y.length) u)
+        let u : ◌≡◌ {A = Span × Cursor} (x, n) (record { start = c.at; length = length (content_of (part s c.at (line_end s c.at))) }, record { at = line_end s c.at }) = cc in
+        (h, ap (λ (y : Span × Cursor). y.1.at) u, ap (λ (y : Span × Cursor). y.0.start) u, ap (λ (y : Span × Cursor). y.0.length) u)
     go false e =
         let q = read-end s c (ltb-false _ _ e) in
         let z : ◌≡◌ {A = ℕ} 0 1 = cc in
         absurd (omega arith)
 
-pub read_line-none : (s : List ℕ) (c : Cursor) → read_line s c ≡ End → length s ≤ c.at
+pub read_line-none : (s : List ℕ) (c : Cursor) → read_line s c ≡ None → length s ≤ c.at
 read_line-none s c r = go (ltb c.at (length s)) refl
   where
     go : (t : Bool) → ltb c.at (length s) ≡ t → length s ≤ c.at

@@ -1,9 +1,8 @@
 -- The lines of a file, and what the line rule says of them (docs/RULES.md, R6 to R9).
-use Rattle.std.specs.Prelude.{ℕ, zero, suc, ◌+◌, ◌-◌, List, [], ◌∷◌, ◌++◌, Bool, true, false, cond, length, take, drop, eqb}
+use Rattle.std.specs.Prelude.{ℕ, zero, suc, ◌+◌, ◌-◌, List, [], ◌∷◌, ◌++◌, Bool, true, false, cond, length, take, drop, eqb, Option, Some, None}
+use Rattle.lines.specs.declared.Span.{Span}
 use Rattle.lines.specs.declared.Line.{Line}
 use Rattle.lines.specs.declared.Cursor.{Cursor}
-use Rattle.lines.specs.declared.Step.{Step}
-use Rattle.lines.specs.declared.Step.TheVariants.{Read, End}
 
 -- the bytes from one offset up to another
 abbrev pub part : List ℕ → ℕ → ℕ → List ℕ
@@ -59,12 +58,12 @@ content_of l = cond (ends 10 l) (chop 13 (chop 10 l)) l
 -- ---- a place in a file
 
 -- the first of some lines, which begin at an offset: its content, and the place behind it
-abbrev pub step_of : ℕ → List (List ℕ) → Step
-step_of at [] = End
-step_of at (l ∷ ls) = Read (record { start = at; length = length (content_of l) }) (record { at = at + length l })
+abbrev pub step_of : ℕ → List (List ℕ) → Option (Span × Cursor)
+step_of at [] = None
+step_of at (l ∷ ls) = Some (record { start = at; length = length (content_of l) }, record { at = at + length l })
 
 -- reading the line at a place; at or past the end there is none
-unfoldable pub read_line : List ℕ → Cursor → Step
+unfoldable pub read_line : List ℕ → Cursor → Option (Span × Cursor)
 read_line s c = step_of c.at (lines (drop c.at s))
 
 -- ---- the lines of a sequence

@@ -6,77 +6,24 @@ ghost use Rattle.lines.specs.Lines.{lines, seq_at};
 ghost use Rattle.lines.specs.Alike.{first_like, alike};
 ghost use Rattle.lines.specs.UpTo.{up_to_at};
 ghost use Rattle.lines.specs.Clear.{has_lf};
-ghost use Rattle.lines.specs.Blocks.{lf_in_either};
 
 use crate::Line;
-
-// Is there an LF among the 16 bytes from `p` on or the 16 from `q` on. The loop never stops early, so the compiler looks at all of them
-// at once. That needs a block of constant size: hence one function, and one proof, for each of three sizes.
-fn lf_in_either_16(s: &[u8], p: usize, q: usize) -> bool
-    requires { (p + 16 ≤ length s.now) × (q + 16 ≤ length s.now) }
-    ensures { result ≡ lf_in_either s.now p q 16 }
-{
-    let mut any = false;
-    for k in 0..16 {
-        any = any | (s[p + k] == b'\n') | (s[q + k] == b'\n');
-    }
-    any
-}
-
-// Is there an LF among the 32 bytes from `p` on or the 32 from `q` on.
-fn lf_in_either_32(s: &[u8], p: usize, q: usize) -> bool
-    requires { (p + 32 ≤ length s.now) × (q + 32 ≤ length s.now) }
-    ensures { result ≡ lf_in_either s.now p q 32 }
-{
-    let mut any = false;
-    for k in 0..32 {
-        any = any | (s[p + k] == b'\n') | (s[q + k] == b'\n');
-    }
-    any
-}
-
-// Is there an LF among the 64 bytes from `p` on or the 64 from `q` on.
-fn lf_in_either_64(s: &[u8], p: usize, q: usize) -> bool
-    requires { (p + 64 ≤ length s.now) × (q + 64 ≤ length s.now) }
-    ensures { result ≡ lf_in_either s.now p q 64 }
-{
-    let mut any = false;
-    for k in 0..64 {
-        any = any | (s[p + k] == b'\n') | (s[q + k] == b'\n');
-    }
-    any
-}
-
-// Is there an LF among the `n` bytes from `at` on: byte by byte.
-fn lf_among_few(s: &[u8], at: usize, n: usize) -> bool
-    requires { at + n ≤ length s.now }
-    ensures { result ≡ has_lf (take n (drop at s.now)) }
-{
-    let mut k = 0;
-    while k < n {
-        if s[at + k] == b'\n' {
-            return true;
-        }
-        k += 1;
-    }
-    false
-}
+use crate::blocks::lf_in_either;
 
 // Is there an LF among the `n` bytes from `at` on, which are at least 128: by blocks of 128, the last of which ends where they end.
 fn lf_among_many(s: &[u8], at: usize, n: usize) -> bool
     requires { (128 ≤ n) × (at + n ≤ length s.now) }
     ensures { result ≡ has_lf (take n (drop at s.now)) }
 {
-    let mut k = 0;
-    while 128 < n - k {
-        let p = at + k;
-        if lf_in_either_64(s, p, p + 64) {
+    let before = (n - 1) / 128;
+    for k in 0..before {
+        let p = at + 128 * k;
+        if lf_in_either::<64>(s, p, p + 64) {
             return true;
         }
-        k += 128;
     }
     let q = at + (n - 128);
-    lf_in_either_64(s, q, q + 64)
+    lf_in_either::<64>(s, q, q + 64)
 }
 
 // Is there an LF among the `n` bytes from `at` on. Two overlapping blocks cover every byte.
@@ -85,16 +32,16 @@ fn lf_within(s: &[u8], at: usize, n: usize) -> bool
     ensures { result ≡ has_lf (take n (drop at s.now)) }
 {
     if n < 16 {
-        return lf_among_few(s, at, n);
+        return s[at..at + n].contains(&b'\n');
     }
     if n <= 32 {
-        return lf_in_either_16(s, at, at + (n - 16));
+        return lf_in_either::<16>(s, at, at + (n - 16));
     }
     if n <= 64 {
-        return lf_in_either_32(s, at, at + (n - 32));
+        return lf_in_either::<32>(s, at, at + (n - 32));
     }
     if n <= 128 {
-        return lf_in_either_64(s, at, at + (n - 64));
+        return lf_in_either::<64>(s, at, at + (n - 64));
     }
     lf_among_many(s, at, n)
 }
@@ -129,8 +76,7 @@ fn lines_one_by_one(s: &[u8], at: usize, like: Line, mark: u8, most: usize) -> u
         return 0;
     }
     let mut i = at;
-    let mut n = 0;
-    while n < most {
+    for n in 0..most {
         if !is_like(s, i, like) {
             return n;
         }
@@ -138,9 +84,8 @@ fn lines_one_by_one(s: &[u8], at: usize, like: Line, mark: u8, most: usize) -> u
             return n;
         }
         i += like.width;
-        n += 1;
     }
-    n
+    most
 }
 
 // The same by many at once, as far as they are alike; the others one by one.

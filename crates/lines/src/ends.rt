@@ -3,21 +3,15 @@
 ghost use Rattle.std.specs.Prelude.{◌≡◌, cond, ◌||◌, ◌+◌, ◌*◌, ◌≤◌, ◌<◌, max, length, take, drop, eqb};
 ghost use Rattle.lines.specs.Lines.{line_end};
 ghost use Rattle.lines.specs.Clear.{has_lf};
-ghost use Rattle.lines.specs.Blocks.{lf_in_either};
 ghost use Rattle.lines.specs.FirstLf.{left_at_lf};
+
+use crate::blocks::lf_in_four;
 
 // `left` where a byte is an LF, else 0.
 fn left_if_lf(b: u8, left: u8) -> u8
     ensures { result ≡ cond (eqb b 10) left 0 }
 {
     if b == b'\n' { left } else { 0 }
-}
-
-// The greater of two numbers.
-fn greater(a: u8, b: u8) -> u8
-    ensures { result ≡ max a b }
-{
-    if a < b { b } else { a }
 }
 
 // Of the 64 bytes from `i` on, how many are left at the first LF, with it; 0 where none is one. The loop never stops early, so the
@@ -28,7 +22,7 @@ fn left_at_lf(s: &[u8], i: usize) -> usize
 {
     let mut left: u8 = 0;
     for k in 0..64 {
-        left = greater(left, left_if_lf(s[i + k], (64 - k) as u8));
+        left = left_if_lf(s[i + k], (64 - k) as u8).max(left);
     }
     left as usize
 }
@@ -40,7 +34,7 @@ fn lf_in_64(s: &[u8], i: usize) -> bool
 {
     let mut any = false;
     for k in 0..64 {
-        any = any | (s[i + k] == b'\n');
+        any |= s[i + k] == b'\n';
     }
     any
 }
@@ -49,30 +43,12 @@ fn lf_in_64(s: &[u8], i: usize) -> bool
 fn line_end_near(s: &[u8], at: usize) -> usize
     ensures { result ≡ line_end s.now at }
 {
-    let mut i = at;
-    while i < s.len() {
+    for i in at..s.len() {
         if s[i] == b'\n' {
             return i + 1;
         }
-        i += 1;
     }
-    i
-}
-
-// Is there an LF among the 64 bytes from `p`, `q`, `u` or `v` on.
-fn lf_in_four_64(s: &[u8], p: usize, q: usize, u: usize, v: usize) -> bool
-    requires { (p + 64 ≤ length s.now) × (q + 64 ≤ length s.now) × (u + 64 ≤ length s.now) × (v + 64 ≤ length s.now) }
-    ensures { result ≡ (lf_in_either s.now p q 64 || lf_in_either s.now u v 64) }
-{
-    let mut any = false;
-    for k in 0..64 {
-        any = any
-            | (s[p + k] == b'\n')
-            | (s[q + k] == b'\n')
-            | (s[u + k] == b'\n')
-            | (s[v + k] == b'\n');
-    }
-    any
+    at.max(s.len())
 }
 
 // Is there an LF in a stretch, the 256 * `rows` bytes from `at` on. It is looked at in four places, a quarter of it apart, in turns: a processor
@@ -83,20 +59,19 @@ fn lf_in_stretch(s: &[u8], at: usize, rows: usize) -> bool
     ensures { result ≡ has_lf (take (256 * rows) (drop at s.now)) }
 {
     let apart = 64 * rows;
-    let mut n = 0;
-    while n < rows {
+    for n in 0..rows {
         let first = at + 64 * n;
         let second = first + apart;
         let third = second + apart;
-        if lf_in_four_64(s, first, second, third, third + apart) {
+        if lf_in_four::<64>(s, first, second, third, third + apart) {
             return true;
         }
-        n += 1;
     }
     false
 }
 
-// The offset from `at` on behind stretches of 256 * `rows` bytes that have no LF: the next one has an LF, or is not whole.
+// The offset from `at` on behind stretches of 256 * `rows` bytes that have no LF: the next one has an LF, or is not whole. A `while` here and in the two
+// searches below: the place is needed behind the loop, and a `for` would first have to divide for the number of blocks.
 fn past_stretches(s: &[u8], at: usize, rows: usize) -> usize
     requires { (0 < rows) × (rows ≤ 64) × (at ≤ length s.now) }
     ensures { (result ≤ length s.now) × (line_end s.now result ≡ line_end s.now at) }

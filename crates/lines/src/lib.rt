@@ -5,6 +5,7 @@
 
 mod abreast;
 pub mod alike;
+mod blocks;
 pub mod ends;
 
 ghost use Rattle.std.specs.Prelude.{◌≡◌, length};
@@ -28,13 +29,6 @@ pub struct Span {
 #[derive(Clone, Copy)]
 pub struct Cursor {
     pub at: usize,
-}
-
-// A line's content, with the place behind the line; or that there is no line.
-#[derive(Clone, Copy)]
-pub enum Step {
-    Read(Span, Cursor),
-    End,
 }
 
 // How many bytes are left of `l` without a final `b`.
@@ -79,6 +73,7 @@ pub fn sequence_ends(s: &[u8], at: usize) -> bool
 }
 
 // The sequence line at `at`; 0 and 0 where there is none.
+// No Option: the definition `first_line`, of which its clause and the laws of the fast ways speak, gives 0 and 0 where there is no line.
 pub fn sequence_line(s: &[u8], at: usize) -> Line
     ensures { result ≡ first_line (seq_at s.now at) }
 {
@@ -102,21 +97,21 @@ impl Cursor {
     }
 
     // Reads the line at the cursor: its content, and the cursor behind it.
-    pub fn read_line(self, s: &[u8]) -> Step
+    pub fn read_line(self, s: &[u8]) -> Option<(Span, Cursor)>
         ensures { result ≡ read_line s.now self }
     {
         let at = self.at;
         if s.len() <= at {
-            return Step::End;
+            return None;
         }
         let e = ends::line_end(s, at);
         let content = content_length(&s[at..e]);
-        Step::Read(
+        Some((
             Span {
                 start: at,
                 length: content,
             },
             Cursor { at: e },
-        )
+        ))
     }
 }

@@ -1,13 +1,12 @@
 -- A row that an indexer made, by either rule, has the description that reading the record's definition line gives, at its place in the file:
 -- `rows-described`. Its span is 0 and 0 if the line has no description, or an empty one.
-use Rattle.std.specs.Prelude.{ℕ, zero, suc, ◌+◌, ◌<◌, ◌≡◌, refl, List, length, take, drop}
+use Rattle.std.specs.Prelude.{ℕ, zero, suc, ◌+◌, ◌<◌, ◌≡◌, refl, List, length, take, drop, Ok}
 use Rattle.std.proofs.Common.{arith}
 use Rattle.lines.specs.Lines.{lines}
 use Rattle.lines.specs.Groups.{Group, groups}
 use Rattle.definition.specs.Definition.{definition_says}
 use Rattle.definition.specs.Laws.{description-within}
 use Rattle.definition.specs.declared.Definition.{Definition}
-use Rattle.definition.specs.declared.Parsed.TheVariants.{Named}
 use Rattle.record.specs.Description.{described_at}
 use Rattle.record.specs.declared.Record.{Record}
 use Rattle.indexer.specs.Rule.{row_for, good}
@@ -26,7 +25,7 @@ description_in names x = take x.description_length (drop x.description_start nam
 -- a row has the description of a record of a file, whose definition line begins at an offset
 pub record DescribedAs (f : List ℕ) (at : ℕ) (g : Group) (x : Record) : Type 0 where
   pub said : Definition
-  pub defined : definition_says g.def ≡ Named said
+  pub defined : definition_says g.def ≡ Ok said
   pub start : x.description_start ≡ described_at (at + said.description.start) said.description.length
   pub count : x.description_length ≡ said.description.length
   pub bytes : description_in f x ≡ span_of g.def said.description
@@ -37,7 +36,7 @@ record DescribedBefore (f : List ℕ) (start : ℕ) (g : Group) (x : Record) : T
   begins : at + length g.def ≡ start
   row : DescribedAs f at g x
 
-described : (f : List ℕ) (at : ℕ) (g : Group) (gs : List Group) (d : Definition) → FirstGroup f at g gs → definition_says g.def ≡ Named d → (n p b w : ℕ)
+described : (f : List ℕ) (at : ℕ) (g : Group) (gs : List Group) (d : Definition) → FirstGroup f at g gs → definition_says g.def ≡ Ok d → (n p b w : ℕ)
     → DescribedBefore f (at + length g.def) g (row_for at d n p b w)
 described f at g gs d h e n p b w =
     record {
@@ -50,7 +49,7 @@ described f at g gs d h e n p b w =
     go zero q = rw q
     go (suc k) q = rw (← q) (span-bytes f at g.def h.others d.description h.here (description-within g.def d e).0)
 
-row-described : (rule : Rule) (f : List ℕ) (at : ℕ) (g : Group) (gs : List Group) (d : Definition) → FirstGroup f at g gs → definition_says g.def ≡ Named d
+row-described : (rule : Rule) (f : List ℕ) (at : ℕ) (g : Group) (gs : List Group) (d : Definition) → FirstGroup f at g gs → definition_says g.def ≡ Ok d
     → (rule_of rule).judge (at + length g.def) g.seq ≡ good → DescribedBefore f (at + length g.def) g ((rule_of rule).row at (length g.def) d g.seq)
 row-described Strict f at g gs d h e j = described f at g gs d h e _ _ _ _
 row-described Complete f at g gs d h e j = described f at g gs d h e _ _ _ _

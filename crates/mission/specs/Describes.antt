@@ -1,15 +1,13 @@
 -- What a row of the ported indexer says of its record: `Describes`; and of the rows of a file: `RowsDescribe`.
-use Rattle.std.specs.Prelude.{ℕ, ◌+◌, ◌≤◌, ◌<◌, ◌≡◌, List, length, get_or}
+use Rattle.std.specs.Prelude.{ℕ, ◌+◌, ◌≤◌, ◌<◌, ◌≡◌, List, length, get_or, Ok}
 use Rattle.lines.specs.Lines.{lines, first_line, all_bases, sum_bases, sum_widths, bases_at}
 use Rattle.lines.specs.Groups.{Group, groups}
 use Rattle.definition.specs.Definition.{is_space}
 use Rattle.definition.specs.Definition as definition
 use Rattle.definition.specs.declared.Definition.{Definition}
-use Rattle.definition.specs.declared.Parsed.TheVariants.{Named}
 use Rattle.record.specs.Place.{place_in}
 use Rattle.record.specs.declared.Record.{Record}
 use Rattle.table.specs.Fill.{Found}
-use Rattle.table.specs.declared.Stop.TheVariants.{Ended}
 use Rattle.columns.specs.Lacks.{Lacks}
 use Rattle.index_line.specs.IndexLine.{name_in}
 use Rattle.checker.specs.Check.{span_of}
@@ -20,7 +18,7 @@ use Rattle.mission.specs.Leading.{row_in}
 pub record Describes (f : List ℕ) (start : ℕ) (g : Group) (x : Record) : Type 0 where
   -- its definition line has a name; the row's name lies in the file, its bytes are that name, and none of them is whitespace
   pub said : Definition
-  pub defined : definition.definition_says g.def ≡ Named said
+  pub defined : definition.definition_says g.def ≡ Ok said
   pub named : x.name_start + x.name_length ≤ length f
   pub name : name_in f x ≡ span_of g.def said.name
   pub unbroken : Lacks is_space (name_in f x)
@@ -43,4 +41,4 @@ pub record Describes (f : List ℕ) (start : ℕ) (g : Group) (x : Record) : Typ
 pub record RowsDescribe (f : List ℕ) (r : Found) : Type 0 where
   pub each : (k : ℕ) → k < length r.rows → Describes f (sequence_at (groups (lines f)) k) (record_at (groups (lines f)) k) (row_in r.rows k)
   pub most : length r.rows ≤ length (groups (lines f))
-  pub all : r.stop ≡ Ended → length r.rows ≡ length (groups (lines f))
+  pub all : r.stop ≡ Ok tt → length r.rows ≡ length (groups (lines f))

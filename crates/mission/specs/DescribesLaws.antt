@@ -1,5 +1,5 @@
 -- Laws for Indexed.antt: why the rows of a file describe their records, and lead to their bases.
-use Rattle.std.specs.Prelude.{ℕ, ◌+◌, ◌≡◌, refl, List, length}
+use Rattle.std.specs.Prelude.{ℕ, ◌+◌, ◌≡◌, refl, List, length, Ok}
 use Rattle.std.proofs.Common.{sym, arith}
 use Rattle.lines.specs.Lines.{lines}
 use Rattle.lines.specs.Laws.{bases-le}
@@ -8,7 +8,6 @@ use Rattle.lines.specs.Sums.{sum-le}
 use Rattle.definition.specs.Definition as definition
 use Rattle.definition.specs.Laws.{name-within}
 use Rattle.definition.specs.declared.Definition.{Definition}
-use Rattle.definition.specs.declared.Parsed.TheVariants.{Named}
 use Rattle.record.specs.EvenLines.{length-all_bases}
 use Rattle.record.specs.declared.Record.{Record}
 use Rattle.indexer.specs.Rule.{good}
@@ -20,7 +19,7 @@ use Rattle.mission.specs.Leading.{LeadsTo}
 use Rattle.mission.specs.Describes.{Describes}
 
 -- the row of the first group of a file from an offset on
-described : (f : List ℕ) (at : ℕ) (g : Group) (gs : List Group) (d : Definition) → FirstGroup f at g gs → definition.definition_says g.def ≡ Named d → judge (at + length g.def) g.seq ≡ good
+described : (f : List ℕ) (at : ℕ) (g : Group) (gs : List Group) (d : Definition) → FirstGroup f at g gs → definition.definition_says g.def ≡ Ok d → judge (at + length g.def) g.seq ≡ good
     → Describes f (at + length g.def) g (row_of at (length g.def) d g.seq)
 described f at g gs d h e j =
     let n = name-bytes f at g.def h.others d g.seq h.here e in

@@ -1,10 +1,11 @@
 -- Laws of the complete rule: its rows lead to the bases of their records, a record that any index line matches is good by it, and where
 -- the ported rule gives a row, it gives the same.
-use Rattle.std.specs.Prelude.{ℕ, suc, ◌+◌, ◌-◌, ◌^◌, ◌<◌, drop}
+use Rattle.std.specs.Prelude.{ℕ, suc, ◌+◌, ◌-◌, ◌^◌, ◌<◌, drop, Some, Result, Ok, Err}
 use Rattle.std.proofs.Math.Path.{◌≡◌, refl}
 use Rattle.std.proofs.Common.{ap, drop-drop, arith, zero-add}
 use mathlib.Core.List.{List, [], ◌∷◌}
 use Rattle.std.proofs.Math.ListN.{length}
+use Rattle.definition.specs.declared.Fault.{Fault}
 use Rattle.lines.specs.Lines.{lines, seq_of, seq_at, sum_widths, bases_at}
 use Rattle.lines.specs.Groups.{Group, groups}
 use Rattle.lines.specs.GroupLaws.{lines-behind}
@@ -12,17 +13,13 @@ use Rattle.lines.specs.Sums.{sum-le}
 use Rattle.definition.specs.Definition.{definition_says}
 use Rattle.definition.specs.Laws.{name-within}
 use Rattle.definition.specs.declared.Definition.{Definition}
-use Rattle.definition.specs.declared.Parsed.{Parsed}
-use Rattle.definition.specs.declared.Parsed.TheVariants.{Named, Bad}
 use Rattle.record.specs.EvenLines.{length-bases_at}
 use Rattle.record.specs.declared.Record.{Record}
 use Rattle.table.specs.Fill.{with_first}
-use Rattle.table.specs.declared.Stop.TheVariants as stop
 use Rattle.index_line.specs.IndexLine.{name_in}
 use Rattle.index_line.specs.Laws.{line-sound}
 use Rattle.indexer.specs.Rule.{Verdict, good, bad, judged_by, sequence_by, defined_by, first_by, record_by, stepped, groups_by, file_by}
 use Rattle.indexer.specs.Index.{judge, ported}
-use Rattle.indexer.specs.declared.Indexed.TheVariants as indexed
 use Rattle.fitting.specs.Complete.{fit, numbers_at, complete_row, complete}
 use Rattle.fitting.specs.declared.Numbers.{Numbers}
 use Rattle.fitting.specs.Leads.{any-leads, leads-good, good-leads}
@@ -37,7 +34,7 @@ use Rattle.mission.specs.Leading.{LeadsTo}
 -- ---- the rows that it gives lead to every base
 
 -- the row of the first group of a file from an offset on
-led : (f : List ℕ) (at : ℕ) (g : Group) (gs : List Group) (d : Definition) → FirstGroup f at g gs → definition_says g.def ≡ Named d → fit (at + length g.def) g.seq ≡ good
+led : (f : List ℕ) (at : ℕ) (g : Group) (gs : List Group) (d : Definition) → FirstGroup f at g gs → definition_says g.def ≡ Ok d → fit (at + length g.def) g.seq ≡ good
     → LeadsTo f (at + length g.def) g (complete_row at (length g.def) d g.seq)
 unfolding fit name_in
 led f at g gs d h e j =
@@ -80,10 +77,10 @@ matched-fits n start g l m =
 -- a record's definition line reads, and its numbers lead to every base
 pub record Fits (start : ℕ) (g : Group) : Type 0 where
   pub said : Definition
-  pub defined : definition_says g.def ≡ Named said
+  pub defined : definition_says g.def ≡ Ok said
   pub fits : fit start g.seq ≡ good
 
-pub all_fit : (gs : List Group) (at : ℕ) → ((k : ℕ) → k < length gs → Fits (at + sequence_at gs k) (record_at gs k)) → (groups_by complete gs at).stop ≡ stop.Ended
+pub all_fit : (gs : List Group) (at : ℕ) → ((k : ℕ) → k < length gs → Fits (at + sequence_at gs k) (record_at gs k)) → (groups_by complete gs at).stop ≡ Ok tt
 unfolding groups_by sequence_by bytes_of
 all_fit [] at h = refl
 all_fit (g ∷ gs) at h =
@@ -116,26 +113,26 @@ same_answer at n d ls j b =
 
 module _ (f : List ℕ) where
   -- if the ported indexer gives a row for the record at an offset, the complete one gives the same row, and the same next place
-  pub same-record : (at : ℕ) (x : Record) → (record_by ported f at).answer ≡ indexed.Row x → record_by complete f at ≡ record_by ported f at
+  pub same-record : (at : ℕ) (x : Record) → (record_by ported f at).answer ≡ Ok (Some x) → record_by complete f at ≡ record_by ported f at
   unfolding record_by sequence_by
   same-record at x h = go (lines (drop at f)) refl h
     where
-      judged : (l : List ℕ) (ls : List (List ℕ)) → Terminated (seq_of ls) → (d : Definition) (v : Verdict) → judge (at + length l) (seq_of ls) ≡ v → (judged_by ported at (length l) d (seq_of ls) v).answer ≡ indexed.Row x
+      judged : (l : List ℕ) (ls : List (List ℕ)) → Terminated (seq_of ls) → (d : Definition) (v : Verdict) → judge (at + length l) (seq_of ls) ≡ v → (judged_by ported at (length l) d (seq_of ls) v).answer ≡ Ok (Some x)
           → sequence_by complete at (length l) d (seq_of ls) ≡ sequence_by ported at (length l) d (seq_of ls)
       judged l ls b d good j q = same_answer at (length l) d (seq_of ls) j b
       judged l ls b d (bad y) j q = let z : ◌≡◌ {A = ℕ} 0 1 = cc in absurd (omega arith)
 
-      defined : (l : List ℕ) (ls : List (List ℕ)) → Terminated (seq_of ls) → (p : Parsed) → (defined_by ported at (length l) (seq_of ls) p).answer ≡ indexed.Row x
+      defined : (l : List ℕ) (ls : List (List ℕ)) → Terminated (seq_of ls) → (p : Result Definition Fault) → (defined_by ported at (length l) (seq_of ls) p).answer ≡ Ok (Some x)
           → defined_by complete at (length l) (seq_of ls) p ≡ defined_by ported at (length l) (seq_of ls) p
-      defined l ls b (Named d) q = judged l ls b d (judge (at + length l) (seq_of ls)) refl q
-      defined l ls b (Bad y) q = refl
+      defined l ls b (Ok d) q = judged l ls b d (judge (at + length l) (seq_of ls)) refl q
+      defined l ls b (Err y) q = refl
 
-      go : (ls : List (List ℕ)) → lines (drop at f) ≡ ls → (first_by ported at ls).answer ≡ indexed.Row x → first_by complete at ls ≡ first_by ported at ls
+      go : (ls : List (List ℕ)) → lines (drop at f) ≡ ls → (first_by ported at ls).answer ≡ Ok (Some x) → first_by complete at ls ≡ first_by ported at ls
       go [] e q = refl
       go (l ∷ ls) e q = defined l ls (lines-terminated f at l ls e) (definition_says l) q
 
   -- so on a file that the ported one takes to its end, both give the same
-  pub agree-groups : (gs : List Group) (at : ℕ) → groups (lines (drop at f)) ≡ gs → (groups_by ported gs at).stop ≡ stop.Ended → groups_by complete gs at ≡ groups_by ported gs at
+  pub agree-groups : (gs : List Group) (at : ℕ) → groups (lines (drop at f)) ≡ gs → (groups_by ported gs at).stop ≡ Ok tt → groups_by complete gs at ≡ groups_by ported gs at
   unfolding groups_by sequence_by
   agree-groups [] at h e = refl
   agree-groups (g ∷ gs) at h e = defined (agree-groups gs) (definition_says g.def) e
@@ -147,14 +144,14 @@ module _ (f : List ℕ) where
       broken = rw k.sequence at (lines-terminated f at g.def k.others k.here)
 
       Behind : Type 0
-      Behind = (o : ℕ) → groups (lines (drop o f)) ≡ gs → (groups_by ported gs o).stop ≡ stop.Ended → groups_by complete gs o ≡ groups_by ported gs o
+      Behind = (o : ℕ) → groups (lines (drop o f)) ≡ gs → (groups_by ported gs o).stop ≡ Ok tt → groups_by complete gs o ≡ groups_by ported gs o
 
-      judged : Behind → (d : Definition) (v : Verdict) → judge (at + length g.def) g.seq ≡ v → (stepped (judged_by ported at (length g.def) d g.seq v) (groups_by ported gs)).stop ≡ stop.Ended
+      judged : Behind → (d : Definition) (v : Verdict) → judge (at + length g.def) g.seq ≡ v → (stepped (judged_by ported at (length g.def) d g.seq v) (groups_by ported gs)).stop ≡ Ok tt
           → stepped (sequence_by complete at (length g.def) d g.seq) (groups_by complete gs) ≡ stepped (sequence_by ported at (length g.def) d g.seq) (groups_by ported gs)
       judged more d good j q = rw (same_answer at (length g.def) d g.seq j broken, j) (ap (with_first _) (more (at + length g.def + sum_widths g.seq) k.behind q))
       judged more d (bad y) j q = let z : ◌≡◌ {A = ℕ} 0 1 = cc in absurd (omega arith)
 
-      defined : Behind → (p : Parsed) → (stepped (defined_by ported at (length g.def) g.seq p) (groups_by ported gs)).stop ≡ stop.Ended
+      defined : Behind → (p : Result Definition Fault) → (stepped (defined_by ported at (length g.def) g.seq p) (groups_by ported gs)).stop ≡ Ok tt
           → stepped (defined_by complete at (length g.def) g.seq p) (groups_by complete gs) ≡ stepped (defined_by ported at (length g.def) g.seq p) (groups_by ported gs)
-      defined more (Named d) q = judged more d (judge (at + length g.def) g.seq) refl q
-      defined more (Bad y) q = refl
+      defined more (Ok d) q = judged more d (judge (at + length g.def) g.seq) refl q
+      defined more (Err y) q = refl

@@ -5,11 +5,10 @@
 -- that is taken to its end has a row for each record: `rows-counted`, `call-counted`. Each index line is what the call that writes one
 -- writes of its row: `line-written`. The whole-index call reads the lines back to the same names and numbers: `rows-read-back`,
 -- `call-read-back`.
-use Rattle.std.specs.Prelude.{ℕ, ◌^◌, ◌≤◌, ◌<◌, ◌≡◌, List, length}
+use Rattle.std.specs.Prelude.{ℕ, ◌^◌, ◌≤◌, ◌<◌, ◌≡◌, List, length, Ok}
 use Rattle.std.proofs.Common.{arith, zero-add}
 use Rattle.table.specs.Rows.{row_count, with_rows}
 use Rattle.record.specs.declared.Record.{Record}
-use Rattle.table.specs.declared.Stop.TheVariants.{Ended}
 use Rattle.output.specs.Outcome.{gives}
 use Rattle.index_line.specs.IndexLine.{written_as}
 use Rattle.indexer.specs.Index.{ported}
@@ -18,7 +17,6 @@ use Rattle.index.specs.Index.{index_at, index_in}
 use Rattle.checker.specs.Check.{check_of}
 use Rattle.checker.specs.Accepts.{limit, Accepts}
 use Rattle.checker.specs.Exactly.{accepted-if}
-use Rattle.checker.specs.declared.Verdict.TheVariants.{Accepted}
 use Rattle.mission.specs.IndexedLaws.{along-at, along-most, along-all, taken, index-whole}
 use Rattle.mission.specs.Leading.{line_in, index_text, no_row, row_in, SameRows, leading-written, leading-read-back, leading-accepted}
 use Rattle.mission.specs.Describes.{RowsDescribe}
@@ -50,15 +48,15 @@ module _ (f : List ℕ) where
   rows-read-back = leading-read-back f rows (file_at f 0).stop (file-leads f)
 
   -- the index lines of a file that is taken to its end are accepted, if they too are within the limit
-  pub index-accepted : length f ≤ limit → (file_at f 0).stop ≡ Ended → length text ≤ limit → Accepts f text
+  pub index-accepted : length f ≤ limit → (file_at f 0).stop ≡ Ok tt → length text ≤ limit → Accepts f text
   index-accepted m e n = leading-accepted f rows (file_at f 0).stop (file-leads f) e m n
 
-  pub index-checked : length f ≤ limit → (file_at f 0).stop ≡ Ended → length text ≤ limit → check_of f text ≡ Accepted
+  pub index-checked : length f ≤ limit → (file_at f 0).stop ≡ Ok tt → length text ≤ limit → check_of f text ≡ Ok tt
   index-checked m e n = accepted-if f text (index-accepted m e n)
 
 -- ---- of a call that takes a file to its end, with a table of n rows
 
-module _ (f : List ℕ) (n : ℕ) (ended : (file_in f n).stop ≡ Ended) where
+module _ (f : List ℕ) (n : ℕ) (ended : (file_in f n).stop ≡ Ok tt) where
   -- it gives a row for each record
   pub call-counted : RowsDescribe f (file_in f n)
   call-counted = rw (taken ported f n ended).whole (rows-counted f)
@@ -72,7 +70,7 @@ module _ (f : List ℕ) (n : ℕ) (ended : (file_in f n).stop ≡ Ended) where
         rw t.whole (rw (index-whole (text f) n (rw t.whole at small) (omega (arith, s.count, t.room))) s)
 
     -- and the checker accepts them
-    pub call-checked : check_of f (index_text f (file_in f n).rows) ≡ Accepted
+    pub call-checked : check_of f (index_text f (file_in f n).rows) ≡ Ok tt
     call-checked =
         let t = taken ported f n ended in
         rw t.whole (index-checked f t.fits (rw t.whole at ended) (rw t.whole at small))

@@ -1,6 +1,6 @@
 -- Laws of an indexed file: a record's lines, and index lines one after another.
 use Prim.Native.Nat.{ℕ, zero, suc, ◌+◌, ◌-◌, ◌≤◌, ◌<◌}
-use Rattle.std.specs.Prelude.{◌≡◌, Bool, true, false, cond, ◌&&◌, get_or, take, drop, eqb, leb, ltb}
+use Rattle.std.specs.Prelude.{◌≡◌, Bool, true, false, cond, ◌&&◌, get_or, take, drop, eqb, leb, ltb, Result, Ok, Err, ⊤}
 use Rattle.std.proofs.Math.Path.{refl, sym}
 use Rattle.std.proofs.Common.{ap, ◌∙◌, true≢false, length-drop, drop_of_length-le, drop-drop, take-take, take_at}
 use mathlib.Core.List.{List, [], ◌∷◌, ◌++◌, append_assoc, append-nil}
@@ -8,6 +8,7 @@ use Rattle.std.proofs.Math.ListN.{length}
 use borrow.Author.Tests.{ne_eqb, eqb-true, eqb-false, leb-true, leb-false, ltb-false, le-ltb}
 use native.Mathlib.Omega.{arith}
 use Rattle.std.proofs.Math.Nat.{zero-add}
+use Rattle.definition.specs.declared.Fault.{Fault}
 use Rattle.refusal.specs.declared.Refusal.{Refusal}
 use Rattle.refusal.specs.Numbers.{over_limit}
 use Rattle.refusal.specs.declared.Refusal.TheVariants.{TooLong, TableFull, NoBases, LineBases, LineWidth}
@@ -20,8 +21,6 @@ use Rattle.lines.specs.declared.Span.{Span}
 use Rattle.definition.specs.Definition.{is_space, definition_says}
 use Rattle.definition.specs.Laws.{name-within, description-within}
 use Rattle.definition.specs.declared.Definition.{Definition}
-use Rattle.definition.specs.declared.Parsed.{Parsed}
-use Rattle.definition.specs.declared.Parsed.TheVariants.{Named, Bad}
 use Rattle.record.specs.Bases.{line-front}
 use Rattle.record.specs.Place.{place_in}
 use Rattle.record.specs.Description.{described_at}
@@ -30,11 +29,8 @@ use Rattle.table.specs.RowLaws.{sound-row, named-row, name-inside, held-stored}
 use Rattle.record.specs.EvenLines.{EvenLines, even_place, length-bases_at}
 use Rattle.record.specs.EvenLines.EvenLines.{none as no_more, last as last_Line, more as line-more}
 use Rattle.record.specs.declared.Record.{Record}
-use Rattle.table.specs.declared.Held.TheVariants as held
 use Rattle.table.specs.Fill.{Found, nothing, with_first, held_in}
 use Rattle.table.specs.Laws.{held_all}
-use Rattle.table.specs.declared.Stop.{Stop}
-use Rattle.table.specs.declared.Stop.TheVariants as stop
 use Rattle.columns.specs.Bytes.{is, first_where}
 use Rattle.output.specs.Outcome.{gives, pours}
 use Rattle.columns.specs.Fields.{numbers_text, text_of, splits, text_written}
@@ -65,13 +61,13 @@ span-bytes f at l ls p h w =
     (sym (take-take n (length l - a) (drop a s) (omega arith)) ∙ ap (take n) (part_slice s a (length l) (omega arith) ∙ ap (drop a) (line-front s l ls h)))
 
 -- so a name's bytes in the file are those in its definition line
-pub name-bytes : (f : List ℕ) (at : ℕ) (l : List ℕ) (ls : List (List ℕ)) (d : Definition) (q : List (List ℕ)) → lines (drop at f) ≡ l ∷ ls → definition_says l ≡ Named d
+pub name-bytes : (f : List ℕ) (at : ℕ) (l : List ℕ) (ls : List (List ℕ)) (d : Definition) (q : List (List ℕ)) → lines (drop at f) ≡ l ∷ ls → definition_says l ≡ Ok d
     → name_in f (row_of at (length l) d q) ≡ span_of l d.name
 unfolding name_in
 name-bytes f at l ls d q h e = span-bytes f at l ls d.name h (name-within l d e).2
 
 -- a description that lies in its line, which begins at an offset and lies in the file, lies in the file
-pub description-inside : (f l : List ℕ) (at : ℕ) (d : Definition) → definition_says l ≡ Named d → at + length l ≤ length f
+pub description-inside : (f l : List ℕ) (at : ℕ) (d : Definition) → definition_says l ≡ Ok d → at + length l ≤ length f
     → described_at (at + d.description.start) d.description.length + d.description.length ≤ length f
 description-inside f l at d e h = go d.description.length refl
   where
@@ -168,33 +164,33 @@ first-within (l ∷ ls) = omega arith
 
 -- what a group, which begins at an offset, adds: its row, or the refusal that ends the file
 data GroupSaid (rule : SequenceRule) (at : ℕ) (g : Group) (behind : ℕ → Found) : Found → Type 0 where
-  its-row : (d : Definition) → definition_says g.def ≡ Named d → rule.judge (at + length g.def) g.seq ≡ good
+  its-row : (d : Definition) → definition_says g.def ≡ Ok d → rule.judge (at + length g.def) g.seq ≡ good
       → GroupSaid rule at g behind (with_first (rule.row at (length g.def) d g.seq) (behind (at + length g.def + sum_widths g.seq)))
-  its-refusal : (x : Refusal) → GroupSaid rule at g behind (nothing (stop.Refused x))
+  its-refusal : (x : Refusal) → GroupSaid rule at g behind (nothing (Err x))
 
 group-said : (rule : SequenceRule) (at : ℕ) (g : Group) (behind : ℕ → Found) → GroupSaid rule at g behind (stepped (group_by rule at g) behind)
 unfolding sequence_by
 group-said rule at g behind = go (definition_says g.def) refl
   where
-    judged : (d : Definition) → definition_says g.def ≡ Named d → (v : Verdict) → rule.judge (at + length g.def) g.seq ≡ v
+    judged : (d : Definition) → definition_says g.def ≡ Ok d → (v : Verdict) → rule.judge (at + length g.def) g.seq ≡ v
         → GroupSaid rule at g behind (stepped (judged_by rule at (length g.def) d g.seq v) behind)
     judged d h good e = its-row d h e
     judged d h (bad x) e = its-refusal x
 
-    go : (p : Parsed) → definition_says g.def ≡ p → GroupSaid rule at g behind (stepped (defined_by rule at (length g.def) g.seq p) behind)
-    go (Named d) h = judged d h (rule.judge (at + length g.def) g.seq) refl
-    go (Bad x) h = its-refusal _
+    go : (p : Result Definition Fault) → definition_says g.def ≡ p → GroupSaid rule at g behind (stepped (defined_by rule at (length g.def) g.seq p) behind)
+    go (Ok d) h = judged d h (rule.judge (at + length g.def) g.seq) refl
+    go (Err x) h = its-refusal _
 
 -- rows along groups that begin at an offset, and why there are no more: P holds of each group, its row, and where its sequence begins
-pub data Along (P : ℕ → Group → Record → Type 0) : ℕ → List Group → List Record → Stop → Type 0 where
-  at-end : {at : ℕ} → Along P at [] [] stop.Ended
-  refused : {at : ℕ} {gs : List Group} {x : Refusal} → Along P at gs [] (stop.Refused x)
-  row : {at : ℕ} {g : Group} {gs : List Group} {x : Record} {xs : List Record} {s : Stop} → P (at + length g.def) g x
+pub data Along (P : ℕ → Group → Record → Type 0) : ℕ → List Group → List Record → Result ⊤ Refusal → Type 0 where
+  at-end : {at : ℕ} → Along P at [] [] (Ok tt)
+  refused : {at : ℕ} {gs : List Group} {x : Refusal} → Along P at gs [] (Err x)
+  row : {at : ℕ} {g : Group} {gs : List Group} {x : Record} {xs : List Record} {s : Result ⊤ Refusal} → P (at + length g.def) g x
       → Along P (at + length g.def + sum_widths g.seq) gs xs s → Along P at (g ∷ gs) (x ∷ xs) s
 
 -- what holds of the row of every group of a file holds along its rows
 module _ (rule : SequenceRule) (P : ℕ → Group → Record → Type 0) (f : List ℕ)
-    (holds : (at : ℕ) (g : Group) (gs : List Group) (d : Definition) → FirstGroup f at g gs → definition_says g.def ≡ Named d → rule.judge (at + length g.def) g.seq ≡ good
+    (holds : (at : ℕ) (g : Group) (gs : List Group) (d : Definition) → FirstGroup f at g gs → definition_says g.def ≡ Ok d → rule.judge (at + length g.def) g.seq ≡ good
     → P (at + length g.def) g (rule.row at (length g.def) d g.seq)) where
   along-groups : (gs : List Group) (at : ℕ) → groups (lines (drop at f)) ≡ gs → Along P at gs (groups_by rule gs at).rows (groups_by rule gs at).stop
   unfolding groups_by
@@ -212,14 +208,14 @@ module _ (rule : SequenceRule) (P : ℕ → Group → Record → Type 0) (f : Li
 
 -- what follows of each row
 pub along-map : {P Q : ℕ → Group → Record → Type 0} → ((start : ℕ) (g : Group) (x : Record) → P start g x → Q start g x)
-    → {at : ℕ} {gs : List Group} {xs : List Record} {s : Stop} → Along P at gs xs s → Along Q at gs xs s
+    → {at : ℕ} {gs : List Group} {xs : List Record} {s : Result ⊤ Refusal} → Along P at gs xs s → Along Q at gs xs s
 along-map m at-end = at-end
 along-map m refused = refused
 along-map m (row d h) = row (m _ _ _ d) (along-map m h)
 
 module _ {P : ℕ → Group → Record → Type 0} where
   -- by the number of a row
-  pub along-at : {at : ℕ} {gs : List Group} {xs : List Record} {s : Stop} → Along P at gs xs s
+  pub along-at : {at : ℕ} {gs : List Group} {xs : List Record} {s : Result ⊤ Refusal} → Along P at gs xs s
       → (y : Record) (k : ℕ) → k < length xs → P (at + sequence_at gs k) (record_at gs k) (get_or xs k y)
   unfolding bytes_of
   along-at at-end y k m = absurd (omega arith)
@@ -230,13 +226,13 @@ module _ {P : ℕ → Group → Record → Type 0} where
       rw (← q) (along-at h y k (omega arith))
 
   -- no more rows than groups
-  pub along-most : {at : ℕ} {gs : List Group} {xs : List Record} {s : Stop} → Along P at gs xs s → length xs ≤ length gs
+  pub along-most : {at : ℕ} {gs : List Group} {xs : List Record} {s : Result ⊤ Refusal} → Along P at gs xs s → length xs ≤ length gs
   along-most at-end = omega arith
   along-most refused = omega arith
   along-most (row d h) = omega (arith, along-most h)
 
   -- as many, if all were taken
-  pub along-all : {at : ℕ} {gs : List Group} {xs : List Record} {s : Stop} → Along P at gs xs s → s ≡ stop.Ended → length xs ≡ length gs
+  pub along-all : {at : ℕ} {gs : List Group} {xs : List Record} {s : Result ⊤ Refusal} → Along P at gs xs s → s ≡ Ok tt → length xs ≡ length gs
   along-all at-end e = refl
   along-all refused e = let z : ◌≡◌ {A = ℕ} 0 1 = cc in absurd (omega arith)
   along-all (row d h) e = ap suc (along-all h e)
@@ -282,19 +278,19 @@ module _ (name : List ℕ) (x : Record) where
 
 -- ---- a file that the call takes to its end
 
-held-ended : (n : ℕ) (r : Found) → (held_in n n r).stop ≡ stop.Ended → length r.rows ≤ n
+held-ended : (n : ℕ) (r : Found) → (held_in n n r).stop ≡ Ok tt → length r.rows ≤ n
 unfolding held_in
 held-ended n r h = go (ltb n (length r.rows)) refl h
   where
-    go : (t : Bool) → ltb n (length r.rows) ≡ t → (cond t (record { rows = take n r.rows; stop = stop.Refused (TableFull n) }) r).stop ≡ stop.Ended → length r.rows ≤ n
+    go : (t : Bool) → ltb n (length r.rows) ≡ t → (cond t (record { rows = take n r.rows; stop = Err (TableFull n) }) r).stop ≡ Ok tt → length r.rows ≤ n
     go true e k = let z : ◌≡◌ {A = ℕ} 0 1 = cc in absurd (omega arith)
     go false e k = ltb-false _ _ e
 
-within-ended : (m : ℕ) (r : Found) → (cond (over_limit m) (nothing (stop.Refused TooLong)) r).stop ≡ stop.Ended → (m ≤ limit) × (r.stop ≡ stop.Ended)
+within-ended : (m : ℕ) (r : Found) → (cond (over_limit m) (nothing (Err TooLong)) r).stop ≡ Ok tt → (m ≤ limit) × (r.stop ≡ Ok tt)
 unfolding over_limit
 within-ended m r h = go (ltb limit m) refl h
   where
-    go : (t : Bool) → ltb limit m ≡ t → (cond t (nothing (stop.Refused TooLong)) r).stop ≡ stop.Ended → (m ≤ limit) × (r.stop ≡ stop.Ended)
+    go : (t : Bool) → ltb limit m ≡ t → (cond t (nothing (Err TooLong)) r).stop ≡ Ok tt → (m ≤ limit) × (r.stop ≡ Ok tt)
     go true e k = let z : ◌≡◌ {A = ℕ} 0 1 = cc in absurd (omega arith)
     go false e k = (ltb-false _ _ e, k)
 
@@ -303,9 +299,9 @@ pub record Taken (rule : SequenceRule) (f : List ℕ) (n : ℕ) : Type 0 where
   pub fits : length f ≤ limit
   pub room : length (file_by rule f 0).rows ≤ n
   pub whole : call_by rule f n ≡ file_by rule f 0
-  pub ended : (file_by rule f 0).stop ≡ stop.Ended
+  pub ended : (file_by rule f 0).stop ≡ Ok tt
 
-pub taken : (rule : SequenceRule) (f : List ℕ) (n : ℕ) → (call_by rule f n).stop ≡ stop.Ended → Taken rule f n
+pub taken : (rule : SequenceRule) (f : List ℕ) (n : ℕ) → (call_by rule f n).stop ≡ Ok tt → Taken rule f n
 unfolding call_by over_limit
 taken rule f n h =
     let w = within-ended (length f) (held_in n n (file_by rule f 0)) h in
@@ -335,7 +331,7 @@ text-written name ns out h r = text-fronted name ns out h ∙ rw (le-ltb _ _ r)
 -- a row of a table that was filled with some holds its record, if its name and its description lie in the bytes
 pub row-held : (t : List ℕ) (xs : List Record) (d : Record) (k bytes : ℕ) → length xs ≤ row_count t → k < length xs → Lined (get_or xs k d)
     → (get_or xs k d).name_start + (get_or xs k d).name_length ≤ bytes → (get_or xs k d).description_start + (get_or xs k d).description_length ≤ bytes
-    → named_at (with_rows t 0 xs) (length xs) k bytes ≡ held.Row (get_or xs k d)
+    → named_at (with_rows t 0 xs) (length xs) k bytes ≡ Ok (get_or xs k d)
 row-held t xs d k bytes h m p n i =
     named-row (with_rows t 0 xs) (length xs) k bytes (get_or xs k d)
     (held-stored t d xs k h m ∙ sym (sound-row k (get_or xs k d) (λ e. omega (arith, p.some-bases)) (λ e. omega (arith, p.some-width))))

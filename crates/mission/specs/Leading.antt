@@ -1,31 +1,28 @@
 -- Rows that lead to the bases of their records, whichever indexer gave them: their index lines match the records, are accepted, and read
 -- back to the same names and numbers.
 use Prim.Native.Nat.{ℕ, zero, suc, ◌+◌, ◌^◌, ◌≤◌, ◌<◌}
-use Rattle.std.specs.Prelude.{◌≡◌, get_or, take, drop}
+use Rattle.std.specs.Prelude.{◌≡◌, get_or, take, drop, Result, Ok, ⊤}
 use Rattle.std.proofs.Math.Path.{refl, ap, sym}
 use Rattle.std.proofs.Common.{◌∙◌, drop-drop, le-ltb, arith, zero-add}
 use mathlib.Core.List.{List, [], ◌∷◌, ◌++◌}
 use Rattle.std.proofs.Math.ListN.{length}
 use Rattle.std.proofs.Math.Seq.{drop-append_seam}
+use Rattle.refusal.specs.declared.Refusal.{Refusal}
 use Rattle.refusal.specs.Numbers.{over_limit}
 use Rattle.lines.specs.Lines.{lines, sum_bases, bases_at}
 use Rattle.lines.specs.Groups.{Group, groups}
 use Rattle.definition.specs.Definition.{is_space}
 use Rattle.definition.specs.Definition as definition
 use Rattle.definition.specs.declared.Definition.{Definition}
-use Rattle.definition.specs.declared.Parsed.TheVariants.{Named}
 use Rattle.record.specs.Place.{place_in}
 use Rattle.table.specs.Rows.{row_count, with_rows}
 use Rattle.record.specs.declared.Record.{Record}
 use Rattle.table.specs.Fill.{Found, with_first}
-use Rattle.table.specs.declared.Stop.{Stop}
-use Rattle.table.specs.declared.Stop.TheVariants.{Ended}
 use Rattle.columns.specs.Bytes.{is}
 use Rattle.columns.specs.Lacks.{Lacks}
 use Rattle.output.specs.Outcome.{gives}
 use Rattle.index_line.specs.IndexLine.{entry_of, columns_of, line_of, name_in, line_written, written_as}
 use Rattle.index_line.specs.IndexLine as index
-use Rattle.index_line.specs.declared.LineRead.TheVariants.{Row}
 use Rattle.index_line.specs.Laws.{Lined}
 use Rattle.index_line.specs.RoundTrip.{written-reads}
 use Rattle.index.specs.Index.{lines_say, index_at}
@@ -56,7 +53,7 @@ row_in xs k = get_or xs k no_row
 pub record LeadsTo (f : List ℕ) (start : ℕ) (g : Group) (x : Record) : Type 0 where
   -- its definition line has a name; the row's name lies in the file, its bytes are that name, and none of them is whitespace
   pub said : Definition
-  pub defined : definition.definition_says g.def ≡ Named said
+  pub defined : definition.definition_says g.def ≡ Ok said
   pub named : x.name_start + x.name_length ≤ length f
   pub name : name_in f x ≡ span_of g.def said.name
   pub unbroken : Lacks is_space (name_in f x)
@@ -76,7 +73,7 @@ pub record SameRow (f t : List ℕ) (x y : Record) : Type 0 where
 
 -- what a whole index gives are some rows again
 pub record SameRows (f t : List ℕ) (xs : List Record) (r : Found) : Type 0 where
-  pub stop : r.stop ≡ Ended
+  pub stop : r.stop ≡ Ok tt
   pub count : length r.rows ≡ length xs
   pub each : (k : ℕ) → k < length xs → SameRow f t (row_in xs k) (row_in r.rows k)
 
@@ -95,7 +92,7 @@ module _ {f : List ℕ} {start : ℕ} {g : Group} {x : Record} (d : LeadsTo f st
 
   module _ (small : length f < 2 ^ 64) where
     -- so the line reads back, and matches its record, whichever its number
-    reads : (n : ℕ) → index.index_line_says n (line_in f x) ≡ Row (entry_of (length (name_in f x)) x)
+    reads : (n : ℕ) → index.index_line_says n (line_in f x) ≡ Ok (entry_of (length (name_in f x)) x)
     reads n = written-reads n (name_in f x) x untabbed (d.lined small)
 
     matched : (n : ℕ) → Matches n start g (line_in f x)
@@ -118,21 +115,21 @@ same_first f t x y xs r a h = record { stop = h.stop; count = ap suc h.count; ea
 
 module _ {f : List ℕ} where
   -- line k is that of row k, and there is a line for each row
-  line_at : {at : ℕ} {gs : List Group} {xs : List Record} {s : Stop} → Along (LeadsTo f) at gs xs s → (k : ℕ) → k < length xs → get_or (lines (index_text f xs)) k [] ≡ line_in f (row_in xs k)
+  line_at : {at : ℕ} {gs : List Group} {xs : List Record} {s : Result ⊤ Refusal} → Along (LeadsTo f) at gs xs s → (k : ℕ) → k < length xs → get_or (lines (index_text f xs)) k [] ≡ line_in f (row_in xs k)
   unfolding index_text
   line_at at-end k m = absurd (omega arith)
   line_at refused k m = absurd (omega arith)
   line_at (row {xs = xs} d h) zero m = rw (line-of d (index_text f xs))
   line_at (row {xs = xs} d h) (suc k) m = rw (line-of d (index_text f xs)) (line_at h k (omega arith))
 
-  line-count : {at : ℕ} {gs : List Group} {xs : List Record} {s : Stop} → Along (LeadsTo f) at gs xs s → length (lines (index_text f xs)) ≡ length xs
+  line-count : {at : ℕ} {gs : List Group} {xs : List Record} {s : Result ⊤ Refusal} → Along (LeadsTo f) at gs xs s → length (lines (index_text f xs)) ≡ length xs
   unfolding index_text lines
   line-count at-end = refl
   line-count refused = refl
   line-count (row {xs = xs} d h) = rw (line-of d (index_text f xs)) (ap suc (line-count h))
 
   -- from a line on, which begins at an offset of a text, the lines give the rows again
-  read_back : {at : ℕ} {gs : List Group} {xs : List Record} {s : Stop} → length f < 2 ^ 64 → Along (LeadsTo f) at gs xs s
+  read_back : {at : ℕ} {gs : List Group} {xs : List Record} {s : Result ⊤ Refusal} → length f < 2 ^ 64 → Along (LeadsTo f) at gs xs s
       → (t : List ℕ) (line o : ℕ) → drop o t ≡ index_text f xs → SameRows f t xs (lines_say line o (lines (index_text f xs)))
   unfolding index_text lines_say lines entry_of name_in
   read_back m at-end t line o e = record { stop = refl; count = refl; each = λ k h. absurd (omega arith) }
@@ -146,7 +143,7 @@ module _ {f : List ℕ} where
 
 -- ---- of all rows of a file
 
-module _ (f : List ℕ) (xs : List Record) (s : Stop) (h : Along (LeadsTo f) 0 (groups (lines f)) xs s) where
+module _ (f : List ℕ) (xs : List Record) (s : Result ⊤ Refusal) (h : Along (LeadsTo f) 0 (groups (lines f)) xs s) where
   pub leading_at : (k : ℕ) → k < length xs → LeadsTo f (sequence_at (groups (lines f)) k) (record_at (groups (lines f)) k) (row_in xs k)
   leading_at k m = rw zero-add at (along-at h no_row k m)
 
@@ -165,7 +162,7 @@ module _ (f : List ℕ) (xs : List Record) (s : Stop) (h : Along (LeadsTo f) 0 (
   leading-read-back m = read_back m h (index_text f xs) 1 0 refl
 
   -- if there is a row for each record, the index lines are accepted, if they too are within the limit
-  pub leading-accepted : s ≡ Ended → length f ≤ limit → length (index_text f xs) ≤ limit → Accepts f (index_text f xs)
+  pub leading-accepted : s ≡ Ok tt → length f ≤ limit → length (index_text f xs) ≤ limit → Accepts f (index_text f xs)
   leading-accepted e m n =
       let all = along-all h e in
       record {

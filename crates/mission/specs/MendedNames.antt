@@ -1,10 +1,11 @@
 -- The names of an indexer's rows are spans of the file itself. With a base of the file replaced (docs/RULES.md, R55) they have the same bytes (`names-kept`), so a
 -- look-up in the mended file, with the same table, finds the same row (`look-up-kept`, `indexed-look-up`).
 use Prim.Native.Nat.{ℕ, zero, suc, ◌+◌, ◌-◌, ◌≤◌, ◌<◌}
-use Rattle.std.specs.Prelude.{◌≡◌, ◌⊎◌, List, [], ◌∷◌, Bool, true, false, length, take, drop, set, ltb}
+use Rattle.std.specs.Prelude.{◌≡◌, ◌⊎◌, List, [], ◌∷◌, Bool, true, false, length, take, drop, set, ltb, Result, Ok, Err}
 use Rattle.std.proofs.Math.Path.{refl}
 use Rattle.std.proofs.Common.{ap, sym, ◌∙◌, inl, inr, length-set, drop-set-lt, ltb-true, ltb-false, arith, zero-add}
 use Rattle.std.proofs.lemmas.List.{drop-set-add, take-set-le}
+use Rattle.refusal.specs.declared.Refusal.{Refusal}
 use Rattle.lines.specs.Lines.{lines, sum_widths}
 use Rattle.lines.specs.Groups.{Group, groups}
 use Rattle.lines.specs.Mending.{base-byte-within}
@@ -12,8 +13,6 @@ use Rattle.definition.specs.Laws.{name-within}
 use Rattle.record.specs.declared.Record.{Record}
 use Rattle.table.specs.Rows.{row_count, with_rows, bad_row, held_at, named_at}
 use Rattle.table.specs.RowLaws.{named-known, held-stored, held-unused, row_count-rows, sound-row}
-use Rattle.table.specs.declared.Held.{Held}
-use Rattle.table.specs.declared.Held.TheVariants as held
 use Rattle.index_line.specs.IndexLine.{name_in}
 use Rattle.index.specs.Find.{named, judged, row_from, row_named, row_read}
 use Rattle.indexer.specs.Index.{ported}
@@ -86,15 +85,15 @@ module _ (f : List ℕ) (k j o b : ℕ) (base : BaseAt f k j o) (plain : Plain b
 -- ---- looked up
 
 -- two files of one length; the names of a table's rows have the same bytes in both
-module _ (f g t : List ℕ) (n : ℕ) (name : List ℕ) (l : length g ≡ length f) (same : (r : ℕ) (x : Record) → named_at t n r (length f) ≡ held.Row x → name_in g x ≡ name_in f x) where
+module _ (f g t : List ℕ) (n : ℕ) (name : List ℕ) (l : length g ≡ length f) (same : (r : ℕ) (x : Record) → named_at t n r (length f) ≡ Ok x → name_in g x ≡ name_in f x) where
   rows-from : (k r : ℕ) → row_from g t n name k r ≡ row_from f t n name k r
   unfolding row_from named
   rows-from zero r = refl
   rows-from (suc k) r = rw (l, rows-from k (suc r)) (go (named_at t n r (length f)) refl)
     where
-      go : (h : Held) → named_at t n r (length f) ≡ h → judged g name r h (row_from f t n name k (suc r)) ≡ judged f name r h (row_from f t n name k (suc r))
-      go (held.Refused y) e = refl
-      go (held.Row x) e = rw (same r x e)
+      go : (h : Result Record Refusal) → named_at t n r (length f) ≡ h → judged g name r h (row_from f t n name k (suc r)) ≡ judged f name r h (row_from f t n name k (suc r))
+      go (Err y) e = refl
+      go (Ok x) e = rw (same r x e)
 
   pub look-up-kept : row_read g t n name ≡ row_read f t n name
   unfolding row_read row_named
@@ -109,21 +108,21 @@ module _ (f : List ℕ) (k j o b : ℕ) (base : BaseAt f k j o) (plain : Plain b
       → row_read (set f o b) (with_rows t 0 (rows_by rule f 0).rows) (length (rows_by rule f 0).rows) name ≡ row_read f (with_rows t 0 (rows_by rule f 0).rows) (length (rows_by rule f 0).rows) name
   indexed-look-up room fits name = look-up-kept f (set f o b) (with_rows t 0 rows) (length rows) name (length-set f o b) same
     where
-      same : (r : ℕ) (x : Record) → named_at (with_rows t 0 rows) (length rows) r (length f) ≡ held.Row x → name_in (set f o b) x ≡ name_in f x
+      same : (r : ℕ) (x : Record) → named_at (with_rows t 0 rows) (length rows) r (length f) ≡ Ok x → name_in (set f o b) x ≡ name_in f x
       same r x e = go (ltb r (length rows)) refl
         where
-          holds : held_at (with_rows t 0 rows) (length rows) r ≡ held.Row x
+          holds : held_at (with_rows t 0 rows) (length rows) r ≡ Ok x
           holds = (named-known (with_rows t 0 rows) (length rows) r (length f) x e).0
 
           go : (q : Bool) → ltb r (length rows) ≡ q → name_in (set f o b) x ≡ name_in f x
           go true q =
               let m : r < length rows = ltb-true _ _ q in
               let d = (fits r m).lined in
-              let w : held.Row x ≡ held.Row (row_in rows r) =
+              let w : Ok x ≡ Ok (row_in rows r) =
               sym holds ∙ held-stored t no_row rows r room m ∙ sym (sound-row r (row_in rows r) (λ z. omega (arith, d.some-bases)) (λ z. omega (arith, d.some-width))) in
               let is : x ≡ row_in rows r = cc in
               rw is (names-kept f k j o b base plain rule r m)
           go false q =
-              let w : bad_row r ≡ held.Row x = held-unused (with_rows t 0 rows) (length rows) r (rw (row_count-rows t 0 rows) room) (ltb-false _ _ q) ∙ holds in
+              let w : bad_row r ≡ Ok x = held-unused (with_rows t 0 rows) (length rows) r (rw (row_count-rows t 0 rows) room) (ltb-false _ _ q) ∙ holds in
               let z : ◌≡◌ {A = ℕ} 0 1 = cc in
               absurd (omega arith)

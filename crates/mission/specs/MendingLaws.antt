@@ -1,17 +1,16 @@
 -- Laws for Mending.antt: the table of a file is that of the mended file, and an exact read of it changes only where it covers the base.
 use Prim.Native.Nat.{ℕ, suc, ◌-◌, ◌<◌}
-use Rattle.std.specs.Prelude.{◌≡◌, refl, List, Bool, true, false, length, set, ltb}
+use Rattle.std.specs.Prelude.{◌≡◌, refl, List, Bool, true, false, length, set, ltb, Option, Result, Ok}
 use Rattle.std.proofs.Common.{ap, sym, ◌∙◌, length-set, ltb-true, ltb-false, arith}
 use Rattle.std.proofs.Math.Bool.{cond}
+use Rattle.refusal.specs.declared.Refusal.{Refusal}
+use Rattle.record.specs.declared.Position.{Position}
 use Rattle.refusal.specs.Numbers.{over_limit}
 use Rattle.refusal.specs.declared.Refusal.TheVariants.{TooLong}
 use Rattle.record.specs.declared.Record.{Record}
-use Rattle.table.specs.declared.Held.TheVariants as held
 use Rattle.record.specs.Bases.{byte_at}
 use Rattle.record.specs.Place.{place_in}
 use Rattle.table.specs.Rows.{held_at}
-use Rattle.region.specs.declared.Bound.{Bound}
-use Rattle.output.specs.declared.Written.{Written}
 use Rattle.output.specs.Outcome.{Outcome, refuses}
 use Rattle.region.specs.Region.{start_of}
 use Rattle.region.specs.Exact.{exact_of, exact_held, exact_read}
@@ -23,7 +22,7 @@ use Rattle.mission.specs.TableOf.{base_count, RowOf, TableOf}
 use Rattle.mission.specs.Covers.{Covers}
 
 -- a row that is held is about a record
-held-about : (f t : List ℕ) (n r : ℕ) (x : Record) → TableOf f t n → held_at t n r ≡ held.Row x → (r < n) × RowOf f r x
+held-about : (f t : List ℕ) (n r : ℕ) (x : Record) → TableOf f t n → held_at t n r ≡ Ok x → (r < n) × RowOf f r x
 held-about f t n r x y h = go (ltb r n) refl
   where
     go : (q : Bool) → ltb r n ≡ q → (r < n) × RowOf f r x
@@ -54,9 +53,9 @@ module _ (f : List ℕ) (k j o b : ℕ) (base : BaseAt f k j o) (plain : Plain b
         beyond = y.beyond;
       }
 
-  module _ (t : List ℕ) (n : ℕ) (table : TableOf f t n) (r : ℕ) (a e : Bound) (out : List ℕ) where
+  module _ (t : List ℕ) (n : ℕ) (table : TableOf f t n) (r : ℕ) (a e : Option Position) (out : List ℕ) where
     -- the byte of a base of a held row, if it is not that base
-    byte-kept : (x : Record) → held_at t n r ≡ held.Row x → (p : ℕ) → InRegion x a e p → (r ≡ k → p ≡ suc j → ⊥) → byte_at (set f o b) (place_in x (p - 1)) ≡ byte_at f (place_in x (p - 1))
+    byte-kept : (x : Record) → held_at t n r ≡ Ok x → (p : ℕ) → InRegion x a e p → (r ≡ k → p ≡ suc j → ⊥) → byte_at (set f o b) (place_in x (p - 1)) ≡ byte_at f (place_in x (p - 1))
     byte-kept x h p i m =
         let y = held-about f t n r x table h in
         let q : p - 1 < base_count f r = omega (arith, y.1.count, i.from_one, i.within) in
@@ -66,11 +65,11 @@ module _ (f : List ℕ) (k j o b : ℕ) (base : BaseAt f k j o) (plain : Plain b
     unfolding exact_read exact_held
     read-elsewhere m =
         rw (length-set f o b)
-        (ap (λ (y : Outcome Written). cond (over_limit (length f)) (refuses TooLong out) y)
+        (ap (λ (y : Outcome (Result ℕ Refusal)). cond (over_limit (length f)) (refuses TooLong out) y)
         (exact_same (length f) (held_at t n r) a e out (byte_at (set f o b)) (byte_at f)
         (λ x h p i z. byte-kept x h p i (λ u v. m (covers x h p i u v)))))
       where
-        covers : (x : Record) → held_at t n r ≡ held.Row x → (p : ℕ) → InRegion x a e p → r ≡ k → p ≡ suc j → Covers f k j r a e
+        covers : (x : Record) → held_at t n r ≡ Ok x → (p : ℕ) → InRegion x a e p → r ≡ k → p ≡ suc j → Covers f k j r a e
         covers x h p i u v =
             let c : x.length ≡ base_count f k = rw u at (held-about f t n r x table h).1.count in
             record { row = u; from = rw v at i.from; to = rw (v, c) at i.to }

@@ -1,5 +1,5 @@
 -- The name in a definition line, whatever its mark: none of its bytes is whitespace.
-use Rattle.std.specs.Prelude.{ℕ, zero, suc, ◌+◌, ◌≤◌, ◌≡◌, refl, List, [], ◌∷◌, Bool, true, false, cond, not, length, take, drop, eqb}
+use Rattle.std.specs.Prelude.{ℕ, zero, suc, ◌+◌, ◌≤◌, ◌≡◌, refl, List, [], ◌∷◌, Bool, true, false, cond, not, length, take, drop, eqb, Ok, Err}
 use Rattle.std.proofs.Common.{ap, sym, ◌∙◌, true≢false, take-take, eqb-true, arith}
 use Rattle.lines.specs.Lines.{content_of}
 use Rattle.lines.specs.Laws.{content-front}
@@ -7,7 +7,6 @@ use Rattle.definition.specs.Definition.{is_space, spaced, run, keep, described, 
 use Rattle.definition.specs.Laws.{run-le, marked-prefix}
 use Rattle.definition.specs.declared.Definition.{Definition}
 use Rattle.definition.specs.declared.Fault.TheVariants.{NoPrefix}
-use Rattle.definition.specs.declared.Parsed.TheVariants.{Named, Bad}
 use Rattle.columns.specs.Bytes.{is, first_where}
 use Rattle.columns.specs.Lacks.{Lacks, lacks-cons, lacks_less}
 use Rattle.checker.specs.Check.{span_of}
@@ -30,11 +29,11 @@ behind-first b n s (c ∷ l) h e =
     sym (take-take n (length s) l h) ∙ ap (take n) q
 
 -- a name holds no whitespace, whatever its line's mark
-pub marked-spaceless : (mark : ℕ) (l : List ℕ) (d : Definition) → marked_says mark (content_of l) ≡ Named d → Lacks is_space (span_of l d.name)
+pub marked-spaceless : (mark : ℕ) (l : List ℕ) (d : Definition) → marked_says mark (content_of l) ≡ Ok d → Lacks is_space (span_of l d.name)
 unfolding marked_says
 marked-spaceless mark l d h = go (content_of l) (content-front l) h
   where
-    some : (b : ℕ) (s : List ℕ) (n : ℕ) → run (spaced false) s ≡ n → take (suc (length s)) l ≡ b ∷ s → named_of s n ≡ Named d → Lacks is_space (span_of l d.name)
+    some : (b : ℕ) (s : List ℕ) (n : ℕ) → run (spaced false) s ≡ n → take (suc (length s)) l ≡ b ∷ s → named_of s n ≡ Ok d → Lacks is_space (span_of l d.name)
     some b s zero r c e = let z : ◌≡◌ {A = ℕ} 0 1 = cc in absurd (omega arith)
     some b s (suc n) r c e =
         let k : ℕ = run (spaced true) (drop (suc n) s) in
@@ -42,15 +41,15 @@ marked-spaceless mark l d h = go (content_of l) (content-front l) h
         let q : span_of l d.name ≡ take (suc n) s = ap (λ (x : Definition). span_of l x.name) v ∙ behind-first b (suc n) s l (omega (arith, r, run-le (spaced false) s)) c in
         rw (q, ← r) (front-spaceless s)
 
-    go : (t : List ℕ) → take (length t) l ≡ t → marked_says mark t ≡ Named d → Lacks is_space (span_of l d.name)
+    go : (t : List ℕ) → take (length t) l ≡ t → marked_says mark t ≡ Ok d → Lacks is_space (span_of l d.name)
     go [] c e = let z : ◌≡◌ {A = ℕ} 0 1 = cc in absurd (omega arith)
     go (b ∷ s) c e = prefixed (eqb b mark) e
       where
-        prefixed : (t : Bool) → cond t (named_of s (run (spaced false) s)) (Bad NoPrefix) ≡ Named d → Lacks is_space (span_of l d.name)
+        prefixed : (t : Bool) → cond t (named_of s (run (spaced false) s)) (Err NoPrefix) ≡ Ok d → Lacks is_space (span_of l d.name)
         prefixed true e = some b s (run (spaced false) s) refl c e
         prefixed false e = let z : ◌≡◌ {A = ℕ} 0 1 = cc in absurd (omega arith)
 
-pub name-spaceless : (l : List ℕ) (d : Definition) → definition_says l ≡ Named d → Lacks is_space (span_of l d.name)
+pub name-spaceless : (l : List ℕ) (d : Definition) → definition_says l ≡ Ok d → Lacks is_space (span_of l d.name)
 unfolding definition_says
 name-spaceless l d h = marked-spaceless 62 l d (marked-prefix (content_of l) ∙ h)
 

@@ -1,19 +1,17 @@
 -- Laws for Reads.antt: the bytes of a record's bases, and the exact read of a row that is about a record.
-use Rattle.std.specs.Prelude.{ℕ, zero, suc, ◌+◌, ◌-◌, ◌≤◌, ◌<◌, ◌≡◌, refl, List, [], ◌∷◌, ◌++◌, map, Bool, true, false, length, take, drop, get_or, ltb}
+use Rattle.std.specs.Prelude.{ℕ, zero, suc, ◌+◌, ◌-◌, ◌≤◌, ◌<◌, ◌≡◌, refl, List, [], ◌∷◌, ◌++◌, map, Bool, true, false, length, take, drop, get_or, ltb, Option, Ok}
 use Rattle.std.proofs.Common.{ap, sym, ◌∙◌, length-drop, length-append, ext_get_or, get_or-take, get_or-drop, length-take-le, get_or-append-add, ltb-true, ltb-false, arith}
 use Rattle.std.proofs.Math.ListN.{get_or-append}
 use Rattle.std.proofs.Math.Seq.{take-nil}
+use Rattle.record.specs.declared.Position.{Position}
 use Rattle.lines.specs.Lines.{chop, bases_of, seq_at, all_bases, sum_bases, sum_widths, up_from, bases_at}
 use Rattle.lines.specs.Laws.{chop-le}
 use Rattle.lines.specs.Sums.{widths-within}
 use Rattle.record.specs.declared.Record.{Record}
-use Rattle.table.specs.declared.Held.TheVariants as held
 use Rattle.record.specs.Place.{place_in}
 use Rattle.record.specs.Bases.{byte_at, bases-bytes}
 use Rattle.record.specs.EvenLines.{length-up_from, get_or-up_from, length-bases_at}
 use Rattle.record.specs.Laws.{length-places, get_or-places}
-use Rattle.region.specs.declared.Bound.{Bound}
-use Rattle.output.specs.declared.Written.TheVariants.{Bytes}
 use Rattle.output.specs.Outcome.{leaves}
 use Rattle.region.specs.Region.{start_of, end_of, bases_to}
 use Rattle.region.specs.Exact.{offsets_of, exact_of}
@@ -103,12 +101,12 @@ module _ (f : List ℕ) (r : ℕ) (h : r < record_count f) (x : Record) (about :
         (λ k m. get_or-places x.position.0 x.line_bases x.line_width (a - 1) (bases_to a e) k m ∙ about.places (a - 1 + k) (omega arith))
 
   -- so the exact read of it gives just those that are asked for
-  pub row_reads : (a e : Bound) (out : List ℕ) → Asked f r a e out → exact_of (length f) (byte_at f) (held.Row x) a e out ≡ gives_asked f r a e out
+  pub row_reads : (a e : Option Position) (out : List ℕ) → Asked f r a e out → exact_of (length f) (byte_at f) (Ok x) a e out ≡ gives_asked f r a e out
   row_reads a e out q =
       let c : x.length ≡ base_count f r = about.count in
       let g = good-bounds a e (base_count f r) q.bounds in
       let o = g.in_order q.start in
       exact-reads (length f) (byte_at f) x a e out
       (record { bounds = q.bounds; start = rw c q.start; end = rw c q.end; room = rw c q.room; inside = rw c (in-file (start_of a) (last_of f r e) g.from_one o q.end) })
-      ∙ ap (λ (n : ℕ). leaves (Bytes (bases_to (start_of a) (end_of n e))) (map (byte_at f) (offsets_of x (start_of a) (bases_to (start_of a) (end_of n e))) ++ drop (bases_to (start_of a) (end_of n e)) out)) c
-      ∙ ap (λ (bs : List ℕ). leaves (Bytes (asked_count f r a e)) (bs ++ drop (asked_count f r a e) out)) (bytes (start_of a) (last_of f r e) g.from_one o q.end)
+      ∙ ap (λ (n : ℕ). leaves (Ok (bases_to (start_of a) (end_of n e))) (map (byte_at f) (offsets_of x (start_of a) (bases_to (start_of a) (end_of n e))) ++ drop (bases_to (start_of a) (end_of n e)) out)) c
+      ∙ ap (λ (bs : List ℕ). leaves (Ok (asked_count f r a e)) (bs ++ drop (asked_count f r a e) out)) (bytes (start_of a) (last_of f r e) g.from_one o q.end)

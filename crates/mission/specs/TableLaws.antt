@@ -1,8 +1,9 @@
 -- Laws for Tables.antt: the rows of an index whose lines all read, where their names lie, and rows put in a table.
-use Rattle.std.specs.Prelude.{ℕ, zero, suc, ◌+◌, ◌≤◌, ◌<◌, ◌≡◌, List, [], ◌∷◌, length, take, drop, get_or}
+use Rattle.std.specs.Prelude.{ℕ, zero, suc, ◌+◌, ◌≤◌, ◌<◌, ◌≡◌, List, [], ◌∷◌, length, take, drop, get_or, Result, Ok, ⊤}
 use Rattle.std.proofs.Math.Path.{refl, sym}
 use Rattle.std.proofs.Common.{ap, ◌∙◌, drop-drop, take-take, length-take-le, arith, add-zero, one-add}
 use Rattle.std.proofs.Math.Nat.{zero-add}
+use Rattle.refusal.specs.declared.Refusal.{Refusal}
 use Rattle.lines.specs.Lines.{lines, line_len, sum_widths}
 use Rattle.lines.specs.Laws.{lines_cut, line_len-le}
 use Rattle.lines.specs.Groups.{groups}
@@ -12,13 +13,10 @@ use Rattle.record.specs.declared.Record.{Record}
 use Rattle.table.specs.Rows.{row_count, with_rows}
 use Rattle.table.specs.RowLaws.{held-stored, held-unused, row_count-rows, sound-row}
 use Rattle.table.specs.declared.Filled.{Filled}
-use Rattle.table.specs.declared.Stop.{Stop}
-use Rattle.table.specs.declared.Stop.TheVariants.{Ended}
 use Rattle.table.specs.Fill.{Found, with_first, FilledAs}
 use Rattle.index_line.specs.IndexLine.{index_line_says, name_in}
 use Rattle.index_line.specs.Laws.{LineSound, line-sound}
 use Rattle.index_line.specs.declared.Entry.{Entry}
-use Rattle.index_line.specs.declared.LineRead.TheVariants.{Row}
 use Rattle.index.specs.Index.{placed_at, lines_say, index_at, index_in}
 use Rattle.checker.specs.Check.{span_of}
 use Rattle.checker.specs.Accepts.{record_at, sequence_at, limit, Matches, Accepts}
@@ -34,7 +32,7 @@ suc-shift n k = omega arith
 -- line number n of an index reads
 pub record Reads (n : ℕ) (l : List ℕ) : Type 0 where
   pub entry : Entry
-  pub reads : index_line_says n l ≡ Row entry
+  pub reads : index_line_says n l ≡ Ok entry
 
 -- the lines from number n on all read
 abbrev pub AllRead : ℕ → List (List ℕ) → Type 0
@@ -46,9 +44,9 @@ line_start at ls k = at + sum_widths (take k ls)
 
 -- the rows of lines that begin at an offset: as many as lines, and row k is what line k says, its name where that line begins
 pub record RowsOf (n at : ℕ) (ls : List (List ℕ)) (f : Found) : Type 0 where
-  pub stop : f.stop ≡ Ended
+  pub stop : f.stop ≡ Ok tt
   pub count : length f.rows ≡ length ls
-  pub row : (k : ℕ) → k < length ls → (e : Entry) → index_line_says (n + k) (get_or ls k []) ≡ Row e → row_in f.rows k ≡ placed_at (line_start at ls k) e.«record»
+  pub row : (k : ℕ) → k < length ls → (e : Entry) → index_line_says (n + k) (get_or ls k []) ≡ Ok e → row_in f.rows k ≡ placed_at (line_start at ls k) e.«record»
 
 -- the lines behind the first
 behind : (n : ℕ) (l : List ℕ) (ls : List (List ℕ)) → AllRead n (l ∷ ls) → AllRead (suc n) ls
@@ -59,15 +57,15 @@ unfolding sum_widths
 start-behind at l ls k = omega arith
 
 -- a first line, and rows of those behind it
-more_rows : (n at : ℕ) (l : List ℕ) (ls : List (List ℕ)) (e : Entry) (f : Found) → index_line_says n l ≡ Row e → RowsOf (suc n) (at + length l) ls f
+more_rows : (n at : ℕ) (l : List ℕ) (ls : List (List ℕ)) (e : Entry) (f : Found) → index_line_says n l ≡ Ok e → RowsOf (suc n) (at + length l) ls f
     → RowsOf n at (l ∷ ls) (with_first (placed_at at e.«record») f)
 unfolding sum_widths
 more_rows n at l ls e f q r = record { stop = r.stop; count = ap suc r.count; row = row }
   where
-    row : (k : ℕ) → k < length (l ∷ ls) → (x : Entry) → index_line_says (n + k) (get_or (l ∷ ls) k []) ≡ Row x
+    row : (k : ℕ) → k < length (l ∷ ls) → (x : Entry) → index_line_says (n + k) (get_or (l ∷ ls) k []) ≡ Ok x
         → row_in (placed_at at e.«record» ∷ f.rows) k ≡ placed_at (line_start at (l ∷ ls) k) x.«record»
     row zero h x p =
-        let z : index_line_says n l ≡ Row x = rw (add-zero n) at p in
+        let z : index_line_says n l ≡ Ok x = rw (add-zero n) at p in
         let s : e ≡ x = cc in
         rw (s, add-zero at)
     row (suc k) h x p = r.row k (omega arith) x (rw (suc-shift n k) p) ∙ ap (λ (o : ℕ). placed_at o x.«record») (start-behind at l ls k)
@@ -77,7 +75,7 @@ unfolding lines_say
 rows_of [] n at read = record { stop = refl; count = refl; row = λ k h e q. absurd (omega arith) }
 rows_of (l ∷ ls) n at read =
     let r = read 0 (omega arith) in
-    let e : index_line_says n l ≡ Row r.entry = rw (add-zero n) at r.reads in
+    let e : index_line_says n l ≡ Ok r.entry = rw (add-zero n) at r.reads in
     rw e (more_rows n at l ls r.entry (lines_say (suc n) (at + length l) ls) e (rows_of ls (suc n) (at + length l) (behind n l ls read)))
 
 -- ---- the bytes where a line begins are the line's
@@ -170,8 +168,8 @@ module _ (f i : List ℕ) (accepted : Accepts f i) where
 
 -- ---- rows that lead to the bases of their records
 
-module _ (f : List ℕ) (xs : List Record) (s : Stop) (h : Along (LeadsTo f) 0 (groups (lines f)) xs s) where
-  pub leading-rows : s ≡ Ended → length f ≤ limit → RowsAbout f xs
+module _ (f : List ℕ) (xs : List Record) (s : Result ⊤ Refusal) (h : Along (LeadsTo f) 0 (groups (lines f)) xs s) where
+  pub leading-rows : s ≡ Ok tt → length f ≤ limit → RowsAbout f xs
   leading-rows e m = record { count = along-all h e; about = about; fits = fits }
     where
       about : (r : ℕ) → r < length xs → RowOf f r (row_in xs r)

@@ -1,13 +1,11 @@
 -- Rows about a file's records, and a table of them, in terms of the file alone: row r has record r's count of bases, and the place of each.
-use Rattle.std.specs.Prelude.{ℕ, ◌^◌, ◌≤◌, ◌<◌, ◌≡◌, List, length, get_or}
+use Rattle.std.specs.Prelude.{ℕ, ◌^◌, ◌≤◌, ◌<◌, ◌≡◌, List, length, get_or, Ok}
 use Rattle.lines.specs.Lines.{lines, sum_bases, bases_at}
 use Rattle.lines.specs.Groups.{groups}
 use Rattle.record.specs.declared.Record.{Record}
-use Rattle.table.specs.declared.Held.TheVariants as held
 use Rattle.record.specs.Place.{place_in}
 use Rattle.table.specs.Rows.{bad_row, held_at}
 use Rattle.table.specs.Fill.{Found}
-use Rattle.table.specs.declared.Stop.TheVariants.{Ended}
 use Rattle.index_line.specs.Laws.{Lined}
 use Rattle.checker.specs.Accepts.{record_at, sequence_at, limit}
 use Rattle.mission.specs.Leading.{row_in}
@@ -45,14 +43,14 @@ pub record RowsAbout (f : List ℕ) (xs : List Record) : Type 0 where
 -- what a call finds for a table of so many rows are such rows, to the end of the file or of its index
 pub record Gives (f : List ℕ) (found : Found) (n : ℕ) : Type 0 where
   pub small : length f ≤ limit
-  pub stop : found.stop ≡ Ended
+  pub stop : found.stop ≡ Ok tt
   pub rows : RowsAbout f found.rows
   pub room : length found.rows ≤ n
 
 -- row r of a table with n rows in use holds such a row
 pub record Holds (f t : List ℕ) (n r : ℕ) : Type 0 where
   pub row : Record
-  pub held : held_at t n r ≡ held.Row row
+  pub held : held_at t n r ≡ Ok row
   pub about : RowOf f r row
 
 -- a table has n rows in use, one for each record of a file and about it; beyond them there is none

@@ -1,10 +1,8 @@
 -- Laws of outcomes: an answer says which bytes were written.
-use Rattle.std.specs.Prelude.{ℕ, ◌≤◌, ◌<◌, ◌≡◌, refl, List, ◌++◌, Bool, true, false, cond, length, take, drop, ltb}
+use Rattle.std.specs.Prelude.{ℕ, ◌≤◌, ◌<◌, ◌≡◌, refl, List, ◌++◌, Bool, true, false, cond, length, take, drop, ltb, Result, Ok}
 use Rattle.std.proofs.Common.{sym, ap, ◌∙◌, arith, take_at, drop_at, lt-ltb, le-ltb, ltb-false}
 use Rattle.refusal.specs.declared.Refusal.{Refusal}
 use Rattle.refusal.specs.declared.Refusal.TheVariants.{NoRoom}
-use Rattle.output.specs.declared.Written.{Written}
-use Rattle.output.specs.declared.Written.TheVariants.{Bytes}
 use Rattle.output.specs.Outcome.{Outcome, leaves, refuses, gives, pours}
 
 -- by whether there is room
@@ -25,19 +23,19 @@ pub record Front (bs out : List ℕ) (k : ℕ) (after : List ℕ) : Type 0 where
   pub rest : drop k after ≡ drop k out
 
 -- a refusal is no bytes
-pub no-bytes : (f : Refusal) (out : List ℕ) (k : ℕ) (after : List ℕ) → refuses f out ≡ leaves (Bytes k) after → ⊥
-no-bytes f out k after q = let a = ap (λ (w : Outcome Written). w.answer) q in let z : ◌≡◌ {A = ℕ} 0 1 = cc in omega arith
+pub no-bytes : (f : Refusal) (out : List ℕ) (k : ℕ) (after : List ℕ) → refuses f out ≡ leaves (Ok k) after → ⊥
+no-bytes f out k after q = let a = ap (λ (w : Outcome (Result ℕ Refusal)). w.answer) q in let z : ◌≡◌ {A = ℕ} 0 1 = cc in omega arith
 
-pub poured-known : (bs out : List ℕ) (k : ℕ) (after : List ℕ) → pours bs out ≡ leaves (Bytes k) after → Front bs out k after
+pub poured-known : (bs out : List ℕ) (k : ℕ) (after : List ℕ) → pours bs out ≡ leaves (Ok k) after → Front bs out k after
 unfolding pours
 poured-known bs out k after h = go (ltb (length out) (length bs)) refl h
   where
-    go : (t : Bool) → ltb (length out) (length bs) ≡ t → cond t (refuses (NoRoom (length bs)) out) (gives bs out) ≡ leaves (Bytes k) after → Front bs out k after
+    go : (t : Bool) → ltb (length out) (length bs) ≡ t → cond t (refuses (NoRoom (length bs)) out) (gives bs out) ≡ leaves (Ok k) after → Front bs out k after
     go true e q = absurd (no-bytes _ out k after q)
     go false e q =
-        let a = ap (λ (w : Outcome Written). w.answer) q in
+        let a = ap (λ (w : Outcome (Result ℕ Refusal)). w.answer) q in
         let b : length bs ≡ k = cc in
-        let o : bs ++ drop (length bs) out ≡ after = ap (λ (w : Outcome Written). w.output) q in
+        let o : bs ++ drop (length bs) out ≡ after = ap (λ (w : Outcome (Result ℕ Refusal)). w.output) q in
         record {
           size = b;
           room = ltb-false _ _ e;

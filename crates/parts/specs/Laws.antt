@@ -1,6 +1,6 @@
 -- Laws of where parts begin, as the code finds it: from line to line, until one begins with '>'; and of the calls, by the starts that were found.
 use Prim.Native.Nat.{ℕ, zero, suc, ◌+◌, ◌-◌, ◌≤◌, ◌<◌}
-use Rattle.std.specs.Prelude.{◌≡◌, List, Bool, take, get_or}
+use Rattle.std.specs.Prelude.{◌≡◌, List, Bool, take, get_or, Err}
 use Rattle.std.proofs.Math.Path.{refl}
 use Rattle.std.proofs.Common.{add-zero}
 use Rattle.std.proofs.Math.Bool.{true, false, cond}
@@ -18,11 +18,9 @@ use Rattle.table.specs.Rows.{row_count}
 use Rattle.table.specs.Bytes.{FilledBytes}
 use Rattle.table.specs.ByteLaws.{FilledRows, held_by, filled-bytes, filled-nothing}
 use Rattle.table.specs.declared.Filled.{Filled}
-use Rattle.table.specs.declared.Stop.TheVariants as stop
 use Rattle.fitting.specs.declared.Rule.{Rule}
 use Rattle.fitting.specs.Rules.{rows_by}
 use Rattle.checker.specs.Check.{from_says}
-use Rattle.checker.specs.declared.Verdict.TheVariants.{Refused}
 use Rattle.parts.specs.Parts.{line_start, record_start, part_by, part_in, part_says, part_checked}
 
 -- ---- a line's start
@@ -92,11 +90,11 @@ module _ (s : List ℕ) where
 -- ---- the calls
 
 module _ (f : List ℕ) (from to : ℕ) (i : List ℕ) (first last : ℕ) where
-  pub part-long : over_limit (length f) ≡ true → Refused TooLong ≡ part_checked f from to i first last
+  pub part-long : over_limit (length f) ≡ true → Err TooLong ≡ part_checked f from to i first last
   unfolding part_checked
   part-long h = rw h
 
-  pub part-long-index : over_limit (length f) ≡ false → over_limit (length i) ≡ true → Refused TooLong ≡ part_checked f from to i first last
+  pub part-long-index : over_limit (length f) ≡ false → over_limit (length i) ≡ true → Err TooLong ≡ part_checked f from to i first last
   unfolding part_checked
   part-long-index h k = rw (h, k)
 
@@ -108,9 +106,9 @@ module _ (f : List ℕ) (from to : ℕ) (i : List ℕ) (first last : ℕ) where
 
 module _ (rule : Rule) (s : List ℕ) (from to : ℕ) (t : List ℕ) where
   pub part_none : over_limit (length s) ≡ true → ((i : ℕ) → get_or t i 0 < 256)
-      → FilledBytes (part_in rule s from to (row_count (numbers_in t))) t t (record { rows = 0; stop = stop.Refused TooLong })
+      → FilledBytes (part_in rule s from to (row_count (numbers_in t))) t t (record { rows = 0; stop = Err TooLong })
   unfolding part_in
-  part_none h m = rw h (filled-nothing t (stop.Refused TooLong) m)
+  part_none h m = rw h (filled-nothing t (Err TooLong) m)
 
   pub part-rows : over_limit (length s) ≡ false → (a b : ℕ) → a ≡ record_start s from → b ≡ record_start s to → (t' : List ℕ) (r : Filled) → FilledRows (held_by t (rows_by rule (take b s) a)) t t' r
       → ((i : ℕ) → get_or t' i 0 < 256) → FilledBytes (part_in rule s from to (row_count (numbers_in t))) t t' r

@@ -1,16 +1,14 @@
 -- A part of a file: the records that begin between two numbers (docs/RULES.md, R90). What a part gives is what the file up to the part's end
 -- gives from the part's start on, so every offset is one of the file.
-use Rattle.std.specs.Prelude.{ℕ, zero, suc, ◌+◌, List, cond, length, take, ltb}
+use Rattle.std.specs.Prelude.{ℕ, zero, suc, ◌+◌, List, cond, length, take, ltb, Result, Err, ⊤}
+use Rattle.refusal.specs.declared.Refusal.{Refusal}
 use Rattle.refusal.specs.Numbers.{over_limit}
 use Rattle.refusal.specs.declared.Refusal.TheVariants.{TooLong}
 use Rattle.lines.specs.Lines.{line_end, seq_at, sum_widths}
 use Rattle.table.specs.Fill.{Found, nothing, held_in}
-use Rattle.table.specs.declared.Stop.TheVariants as stop
 use Rattle.fitting.specs.declared.Rule.{Rule}
 use Rattle.fitting.specs.Rules.{rows_by}
 use Rattle.checker.specs.Check.{from_says}
-use Rattle.checker.specs.declared.Verdict.{Verdict}
-use Rattle.checker.specs.declared.Verdict.TheVariants as verdict
 
 -- ---- where a part begins
 
@@ -32,16 +30,16 @@ part_by rule s from to = rows_by rule (take (record_start s to) s) (record_start
 
 -- the call, with a table of so many rows: the size limit of the whole file first
 unfoldable pub part_in : Rule → List ℕ → ℕ → ℕ → ℕ → Found
-part_in rule s from to n = cond (over_limit (length s)) (nothing (stop.Refused TooLong)) (held_in n n (part_by rule s from to))
+part_in rule s from to n = cond (over_limit (length s)) (nothing (Err TooLong)) (held_in n n (part_by rule s from to))
 
 -- ---- checking
 
 -- the records between two numbers against the index lines between two numbers, as if no record came before
-unfoldable pub part_says : List ℕ → ℕ → ℕ → List ℕ → ℕ → ℕ → Verdict
+unfoldable pub part_says : List ℕ → ℕ → ℕ → List ℕ → ℕ → ℕ → Result ⊤ Refusal
 part_says f from to i first last = from_says (take (record_start f to) f) (record_start f from) (take (line_start i last) i) (line_start i first)
 
 -- the call: the size limit of the whole file and of the whole index first
-unfoldable pub part_checked : List ℕ → ℕ → ℕ → List ℕ → ℕ → ℕ → Verdict
+unfoldable pub part_checked : List ℕ → ℕ → ℕ → List ℕ → ℕ → ℕ → Result ⊤ Refusal
 part_checked f from to i first last =
-    cond (over_limit (length f)) (verdict.Refused TooLong)
-    (cond (over_limit (length i)) (verdict.Refused TooLong) (part_says f from to i first last))
+    cond (over_limit (length f)) (Err TooLong)
+    (cond (over_limit (length i)) (Err TooLong) (part_says f from to i first last))

@@ -1,7 +1,7 @@
 -- Parts of a file whose numbers rise from 0 to its end give the whole: their rows, one part behind the other up to the first refusal, are the
 -- file's rows and its refusal; and if each part is accepted with its part of the index, the file is accepted with the index. Nothing
 -- more is asked of the numbers than that they rise.
-use Rattle.std.specs.Prelude.{ℕ, zero, suc, ◌+◌, ◌≤◌, ◌<◌, ◌≡◌, refl, List, [], ◌∷◌, Bool, true, false, cond, take, drop, ltb}
+use Rattle.std.specs.Prelude.{ℕ, zero, suc, ◌+◌, ◌≤◌, ◌<◌, ◌≡◌, refl, List, [], ◌∷◌, Bool, true, false, cond, take, drop, ltb, Ok, Err}
 use Rattle.std.proofs.Common.{ap, sym, ◌∙◌, length-drop, length-take-le, ltb-true, arith, add-zero}
 use Rattle.std.proofs.Math.ListN.{length, drop_of_length-le}
 use Rattle.refusal.specs.Numbers.{over_limit}
@@ -12,7 +12,6 @@ use Rattle.lines.specs.Groups.{Group, groups}
 use Rattle.lines.specs.Sums.{widths-lines}
 use Rattle.table.specs.Fill.{Found, nothing}
 use Rattle.table.specs.Laws.{held_all}
-use Rattle.table.specs.declared.Stop.TheVariants as stop
 use Rattle.indexer.specs.Rule.{groups_by, file_by, call_by}
 use Rattle.fitting.specs.declared.Rule.{Rule}
 use Rattle.fitting.specs.Rules.{rule_of, rows_by, rows_in}
@@ -20,7 +19,6 @@ use Rattle.checker.specs.Accepts.{bytes_of}
 use Rattle.checker.specs.Sequences.{bytes-lines}
 use Rattle.checker.specs.Check.{records_say, from_says, check_of}
 use Rattle.checker.specs.Steps.{check-start}
-use Rattle.checker.specs.declared.Verdict.TheVariants.{Accepted, Refused}
 use Rattle.parts.specs.Parts.{line_start, record_start, part_by, part_in, part_says, part_checked}
 use Rattle.parts.specs.Laws.{record-le}
 use Rattle.parts.specs.Cuts.{lines_split, cut-at-line, groups-split}
@@ -74,7 +72,7 @@ pub data Rises (end : ℕ) : ℕ → List ℕ → Type 0 where
 
 -- what the parts between some numbers give, one behind the other, up to the first refusal
 unfoldable pub parts_by : Rule → List ℕ → ℕ → List ℕ → Found
-parts_by rule s n [] = nothing stop.Ended
+parts_by rule s n [] = nothing (Ok tt)
 parts_by rule s n (m ∷ ms) = joined (part_by rule s n m) (parts_by rule s m ms)
 
 parts-from : (rule : Rule) (s : List ℕ) (n : ℕ) (ms : List ℕ) → Rises (length s) n ms → parts_by rule s n ms ≡ rows_by rule s (record_start s n)
@@ -102,29 +100,29 @@ module _ (rule : Rule) (s : List ℕ) (h : over_limit (length s) ≡ false) wher
 -- parts of a file and of its index, from two numbers on to the end of both, each of which is accepted
 pub data Checked (f i : List ℕ) : ℕ → ℕ → Type 0 where
   over : (n j : ℕ) → length f ≤ n → length i ≤ j → Checked f i n j
-  accepted : (n m j k : ℕ) → n ≤ m → j ≤ k → part_checked f n m i j k ≡ Accepted → Checked f i m k → Checked f i n j
+  accepted : (n m j k : ℕ) → n ≤ m → j ≤ k → part_checked f n m i j k ≡ Ok tt → Checked f i m k → Checked f i n j
 
 -- a part that is accepted is within the limits
 pub record Within (f i : List ℕ) (n m j k : ℕ) : Type 0 where
   pub fasta : over_limit (length f) ≡ false
   pub index : over_limit (length i) ≡ false
-  pub says : part_says f n m i j k ≡ Accepted
+  pub says : part_says f n m i j k ≡ Ok tt
 
-part-within : (f i : List ℕ) (n m j k : ℕ) → part_checked f n m i j k ≡ Accepted → Within f i n m j k
+part-within : (f i : List ℕ) (n m j k : ℕ) → part_checked f n m i j k ≡ Ok tt → Within f i n m j k
 unfolding part_checked
 part-within f i n m j k = go (over_limit (length f)) refl (over_limit (length i)) refl
   where
-    go : (t : Bool) → over_limit (length f) ≡ t → (u : Bool) → over_limit (length i) ≡ u → cond t (Refused TooLong) (cond u (Refused TooLong) (part_says f n m i j k)) ≡ Accepted → Within f i n m j k
+    go : (t : Bool) → over_limit (length f) ≡ t → (u : Bool) → over_limit (length i) ≡ u → cond t (Err TooLong) (cond u (Err TooLong) (part_says f n m i j k)) ≡ Ok tt → Within f i n m j k
     go true a u b e = let z : ◌≡◌ {A = ℕ} 0 1 = cc in absurd (omega arith)
     go false a true b e = let z : ◌≡◌ {A = ℕ} 0 1 = cc in absurd (omega arith)
     go false a false b e = record { fasta = a; index = b; says = e }
 
-checked-end : (f i : List ℕ) → from_says f (length f) i (length i) ≡ Accepted
+checked-end : (f i : List ℕ) → from_says f (length f) i (length i) ≡ Ok tt
 unfolding from_says records_say groups lines
 checked-end f i = rw (drop_of_length-le f {i = length f} (omega arith), drop_of_length-le i {i = length i} (omega arith))
 
-checked-part : (f i : List ℕ) (n m j k : ℕ) → n ≤ m → j ≤ k → part_says f n m i j k ≡ Accepted → from_says f (record_start f m) i (line_start i k) ≡ Accepted
-    → from_says f (record_start f n) i (line_start i j) ≡ Accepted
+checked-part : (f i : List ℕ) (n m j k : ℕ) → n ≤ m → j ≤ k → part_says f n m i j k ≡ Ok tt → from_says f (record_start f m) i (line_start i k) ≡ Ok tt
+    → from_says f (record_start f n) i (line_start i j) ≡ Ok tt
 unfolding part_says from_says
 checked-part f i n m j k h q e r =
     let a = record_start f n in
@@ -136,7 +134,7 @@ checked-part f i n m j k h q e r =
     rw (groups-split f a m (record-rises f n m h), lines_split i c d (cut-at-line i k) (line-rises i j k q))
     (verdicts-joined 0 a gs hs (lines (drop c (take d i))) (lines (drop d i)) e (rw (part_bytes f n m h) r))
 
-checked-from : (f i : List ℕ) (n j : ℕ) → Checked f i n j → from_says f (record_start f n) i (line_start i j) ≡ Accepted
+checked-from : (f i : List ℕ) (n j : ℕ) → Checked f i n j → from_says f (record_start f n) i (line_start i j) ≡ Ok tt
 checked-from f i n j (over _ _ h k) = rw (record-last f n h, line-last i j k) (checked-end f i)
 checked-from f i n j (accepted _ m _ k h q e r) = checked-part f i n m j k h q (part-within f i n m j k e).says (checked-from f i m k r)
 
@@ -152,12 +150,12 @@ checked-within f i n j x y (over _ _ h k) =
     rw (a, b) (empty-within, empty-within)
 checked-within f i n j x y (accepted _ m _ k h q e r) = let w = part-within f i n m j k e in (w.fasta, w.index)
 
-checked-start : (f i : List ℕ) → Checked f i 0 0 → from_says f 0 i 0 ≡ Accepted
+checked-start : (f i : List ℕ) → Checked f i 0 0 → from_says f 0 i 0 ≡ Ok tt
 unfolding record_start line_start
 checked-start f i c = checked-from f i 0 0 c
 
 -- if every part is accepted, the whole is
-pub parts-check : (f i : List ℕ) → Checked f i 0 0 → check_of f i ≡ Accepted
+pub parts-check : (f i : List ℕ) → Checked f i 0 0 → check_of f i ≡ Ok tt
 parts-check f i c =
     let w = checked-within f i 0 0 refl refl c in
     sym (check-start f i w.0 w.1) ∙ checked-start f i c

@@ -11,10 +11,9 @@ ghost use Rattle.table.specs.Rows.{row_count};
 ghost use Rattle.table.specs.Bytes.{FilledBytes};
 ghost use Rattle.parts.specs.Parts.{line_start, record_start, part_in, part_checked};
 
-use checker::Verdict;
 use fitting::Rule;
 use refusal::Refusal;
-use table::{Filled, Stop};
+use table::Filled;
 
 // Where the first line begins at or behind `n`: the start, or behind an LF; the end where there is none.
 pub fn line_start(s: &[u8], n: usize) -> usize
@@ -30,6 +29,7 @@ pub fn line_start(s: &[u8], n: usize) -> usize
 }
 
 // Where the first record begins at or behind `n`: the start, or a line that begins with '>'; the end where there is none.
+// Its `while` counts no index: each line tells where the next begins.
 pub fn record_start(s: &[u8], n: usize) -> usize
     ensures { result ≡ record_start s.now n }
 {
@@ -53,7 +53,7 @@ pub fn index_part(s: &[u8], from: usize, to: usize, table: &mut [u8], rule: Rule
     if refusal::over_limit(s.len()) {
         return Filled {
             rows: 0,
-            stop: Stop::Refused(Refusal::TooLong),
+            stop: Err(Refusal::TooLong),
         };
     }
     let start = record_start(s, from);
@@ -70,14 +70,11 @@ pub fn check_part(
     index: &[u8],
     first: usize,
     last: usize,
-) -> Verdict
+) -> Result<(), Refusal>
     ensures { result ≡ part_checked fasta.now from to index.now first last }
 {
-    if refusal::over_limit(fasta.len()) {
-        return Verdict::Refused(Refusal::TooLong);
-    }
-    if refusal::over_limit(index.len()) {
-        return Verdict::Refused(Refusal::TooLong);
+    if refusal::over_limit(fasta.len()) || refusal::over_limit(index.len()) {
+        return Err(Refusal::TooLong);
     }
     let start = record_start(fasta, from);
     let end = record_start(fasta, to);

@@ -1,7 +1,7 @@
 -- The shift-and search. After i bytes of a text bit j of the state says whether the primer's first j + 1 letters fit the last j + 1 of
 -- these bytes. The mask of a byte says which of the primer's letters it fits.
 use Prim.Native.Nat.{ℕ, zero, suc, ◌+◌, ◌-◌, ◌*◌, ◌^◌, ◌≤◌, ◌<◌}
-use Rattle.std.specs.Prelude.{◌≡◌, Bool, cond, ◌&&◌, List, [], ◌∷◌, ◌++◌, take, drop, get_or}
+use Rattle.std.specs.Prelude.{◌≡◌, Bool, cond, ◌&&◌, List, [], ◌∷◌, ◌++◌, take, drop, get_or, Some, None}
 use Rattle.std.proofs.Math.Path.{refl, sym}
 use Rattle.std.proofs.Common.{ap, ◌∙◌, true≢false, lt_of_lt_of_le, pow-suc, pow_mono, add-one, take-suc, take_all}
 use Rattle.std.proofs.Math.Bool.{true, false}
@@ -16,7 +16,6 @@ use Rattle.letters.specs.Letters.{set_of}
 use Rattle.letters.specs.Sets.{bit, bit-lt, inside}
 use Rattle.primer.specs.Search.{fits, matches, first_from, first_of}
 use Rattle.primer.specs.Bits.{number, shifted, number_lt, step-number, top_set, top-clear}
-use Rattle.primer.specs.declared.Found.TheVariants.{At, Nothing}
 
 unfoldable pub live : List ℕ → List ℕ → ℕ → ℕ → Bool
 live ps s zero j = false
@@ -117,7 +116,7 @@ too_short (p ∷ ps) (b ∷ s) h = rw (too_short ps s (omega arith)) (go (fits p
     go true = refl
     go false = refl
 
-none-short : (ps : List ℕ) (at : ℕ) (s : List ℕ) → length s < length ps → first_from ps at s ≡ Nothing
+none-short : (ps : List ℕ) (at : ℕ) (s : List ℕ) → length s < length ps → first_from ps at s ≡ None
 unfolding first_from
 none-short ps at [] h = refl
 none-short ps at (b ∷ s) h = rw (too_short ps (b ∷ s) h) (none-short ps (suc at) s (omega arith))
@@ -154,7 +153,7 @@ module _ (ps s : List ℕ) where
   unfolding Passed first_of
   passed_none h = let z : 1 - length ps ≡ 0 = omega arith in rw z
 
-  pub passed-all : 1 ≤ length ps → Passed (length s) → Nothing ≡ first_of ps s
+  pub passed-all : 1 ≤ length ps → Passed (length s) → None ≡ first_of ps s
   unfolding Passed
   passed-all h inv =
       let a = suc (length s) - length ps in
@@ -191,14 +190,14 @@ module _ (ps s : List ℕ) where
         go false r = ltb-false i k r
 
     open-place : k ≤ i → first_from ps (suc i - length ps) (drop (suc i - length ps) s)
-        ≡ cond (live ps s (suc i) k) (At (suc i - length ps)) (first_from ps (suc (suc i - length ps)) (drop (suc (suc i - length ps)) s))
+        ≡ cond (live ps s (suc i) k) (Some (suc i - length ps)) (first_from ps (suc (suc i - length ps)) (drop (suc (suc i - length ps)) s))
     unfolding first_from
     open-place l =
         let w = whole l in
         let d = drop-cons s (suc i - length ps) 0 (omega arith) in
         rw (w, d)
 
-    pub passed-found : 2 ^ k ≤ state_of ps s (suc i) → (length ps ≤ suc i) × (At (suc i - length ps) ≡ first_of ps s)
+    pub passed-found : 2 ^ k ≤ state_of ps s (suc i) → (length ps ≤ suc i) × (Some (suc i - length ps) ≡ first_of ps s)
     unfolding Passed
     passed-found t =
         let q = is_set t in
@@ -241,7 +240,7 @@ module _ (ps s ms : List ℕ) (i d : ℕ) (h : Reading ps s ms i d) (l : i < len
   pub onward : Passed ps s i → bit_and (d * 2 + 1) (get_or ms (get_or s i 0) 0) < 2 ^ (length ps - 1) → Passed ps s (i + 1)
   onward p t = rw (add-one i) (passed-more ps s (length ps - 1) i (omega (arith, h.letters)) l p (rw (stepped, add-one i) at t))
 
-  pub found : Passed ps s i → 2 ^ (length ps - 1) ≤ bit_and (d * 2 + 1) (get_or ms (get_or s i 0) 0) → (length ps ≤ i + 1) × (At (i + 1 - length ps) ≡ first_of ps s)
+  pub found : Passed ps s i → 2 ^ (length ps - 1) ≤ bit_and (d * 2 + 1) (get_or ms (get_or s i 0) 0) → (length ps ≤ i + 1) × (Some (i + 1 - length ps) ≡ first_of ps s)
   found p t = rw (add-one i) (passed-found ps s (length ps - 1) i (omega (arith, h.letters)) l p (rw (stepped, add-one i) at t))
 
 pub or_left : (a b : ℕ) → a ≤ bit_or a b

@@ -1,5 +1,5 @@
 -- Laws for PlaceTheorems.antt: what the walks over a primer and a text find.
-use Rattle.std.specs.Prelude.{ℕ, zero, suc, ◌+◌, ◌-◌, ◌≤◌, ◌<◌, ◌≡◌, refl, Bool, true, false, cond, not, ◌&&◌, List, [], ◌∷◌, eqb, drop, get_or}
+use Rattle.std.specs.Prelude.{ℕ, zero, suc, ◌+◌, ◌-◌, ◌≤◌, ◌<◌, ◌≡◌, refl, Bool, true, false, cond, not, ◌&&◌, List, [], ◌∷◌, eqb, drop, get_or, Some, None, Ok, Err}
 use Rattle.std.proofs.Common.{sym, ap, ◌∙◌, true≢false, add-suc, suc-add, zero-add, get_or-drop, drop-drop, eq-eqb, ne_eqb, eqb-true}
 use Rattle.std.proofs.Math.Nat.{sub-zero}
 use native.Mathlib.Omega.{arith}
@@ -11,8 +11,6 @@ use Rattle.letters.specs.Sets.{inside}
 use Rattle.primer.specs.Search.{fits, matches, first_from, next_of}
 use Rattle.primer.specs.Primer.{letters_judged}
 use Rattle.primer.specs.Places.{MatchesAt, FirstAt, CodedTo, FirstUncoded}
-use Rattle.primer.specs.declared.Found.TheVariants.{At, Nothing}
-use Rattle.primer.specs.declared.Judged.TheVariants as judge
 
 and_both : (a b : Bool) → (a && b) ≡ true → (a ≡ true) × (b ≡ true)
 and_both true b e = (refl, e)
@@ -67,12 +65,12 @@ record Stops (ps : List ℕ) (at : ℕ) (s : List ℕ) (k : ℕ) : Type 0 where
   matched : matches ps (drop by s) ≡ true
   before : (i : ℕ) → i < by → matches ps (drop i s) ≡ false
 
-stops : (ps : List ℕ) (at : ℕ) (s : List ℕ) (k : ℕ) → first_from ps at s ≡ At k → Stops ps at s k
+stops : (ps : List ℕ) (at : ℕ) (s : List ℕ) (k : ℕ) → first_from ps at s ≡ Some k → Stops ps at s k
 unfolding first_from
 stops ps at [] k e = let z : ◌≡◌ {A = ℕ} 0 1 = cc in absurd (omega arith)
 stops ps at (b ∷ s) k e = go (matches ps (b ∷ s)) refl (stops ps (suc at) s k) e
   where
-    go : (v : Bool) → matches ps (b ∷ s) ≡ v → (first_from ps (suc at) s ≡ At k → Stops ps (suc at) s k) → cond v (At at) (first_from ps (suc at) s) ≡ At k → Stops ps at (b ∷ s) k
+    go : (v : Bool) → matches ps (b ∷ s) ≡ v → (first_from ps (suc at) s ≡ Some k → Stops ps (suc at) s k) → cond v (Some at) (first_from ps (suc at) s) ≡ Some k → Stops ps at (b ∷ s) k
     go true m more e = record { by = 0; is = let q : at ≡ k = cc in omega arith; short = omega arith; matched = m; before = λ i h. absurd (omega arith) }
     go false m more e =
         let w = more e in
@@ -82,24 +80,24 @@ stops ps at (b ∷ s) k e = go (matches ps (b ∷ s)) refl (stops ps (suc at) s 
         passed w zero h = m
         passed w (suc i) h = w.before i (omega arith)
 
-goes-on : (ps : List ℕ) (at : ℕ) (s : List ℕ) → first_from ps at s ≡ Nothing → (i : ℕ) → i < length s → matches ps (drop i s) ≡ false
+goes-on : (ps : List ℕ) (at : ℕ) (s : List ℕ) → first_from ps at s ≡ None → (i : ℕ) → i < length s → matches ps (drop i s) ≡ false
 unfolding first_from
 goes-on ps at [] e i h = absurd (omega arith)
 goes-on ps at (b ∷ s) e i h = go (matches ps (b ∷ s)) refl (goes-on ps (suc at) s) e i h
   where
-    go : (v : Bool) → matches ps (b ∷ s) ≡ v → (first_from ps (suc at) s ≡ Nothing → (i : ℕ) → i < length s → matches ps (drop i s) ≡ false)
-        → cond v (At at) (first_from ps (suc at) s) ≡ Nothing → (i : ℕ) → i < suc (length s) → matches ps (drop i (b ∷ s)) ≡ false
+    go : (v : Bool) → matches ps (b ∷ s) ≡ v → (first_from ps (suc at) s ≡ None → (i : ℕ) → i < length s → matches ps (drop i s) ≡ false)
+        → cond v (Some at) (first_from ps (suc at) s) ≡ None → (i : ℕ) → i < suc (length s) → matches ps (drop i (b ∷ s)) ≡ false
     go true m more e i h = let z : ◌≡◌ {A = ℕ} 0 1 = cc in absurd (omega arith)
     go false m more e zero h = m
     go false m more e (suc i) h = more e i (omega arith)
 
-so-stops : (ps : List ℕ) (at : ℕ) (s : List ℕ) (j : ℕ) → j < length s → matches ps (drop j s) ≡ true → ((i : ℕ) → i < j → matches ps (drop i s) ≡ false) → first_from ps at s ≡ At (at + j)
+so-stops : (ps : List ℕ) (at : ℕ) (s : List ℕ) (j : ℕ) → j < length s → matches ps (drop j s) ≡ true → ((i : ℕ) → i < j → matches ps (drop i s) ≡ false) → first_from ps at s ≡ Some (at + j)
 unfolding first_from
 so-stops ps at [] j h m f = absurd (omega arith)
-so-stops ps at (b ∷ s) zero h m f = rw m (ap At (omega arith))
+so-stops ps at (b ∷ s) zero h m f = rw m (ap Some (omega arith))
 so-stops ps at (b ∷ s) (suc j) h m f = rw (f 0 (omega arith), add-suc at j, ← suc-add at j) (so-stops ps (suc at) s j (omega arith) m (λ i l. f (suc i) (omega arith)))
 
-so-goes-on : (ps : List ℕ) (at : ℕ) (s : List ℕ) → ((i : ℕ) → i < length s → matches ps (drop i s) ≡ false) → first_from ps at s ≡ Nothing
+so-goes-on : (ps : List ℕ) (at : ℕ) (s : List ℕ) → ((i : ℕ) → i < length s → matches ps (drop i s) ≡ false) → first_from ps at s ≡ None
 unfolding first_from
 so-goes-on ps at [] f = refl
 so-goes-on ps at (b ∷ s) f = rw (f 0 (omega arith)) (so-goes-on ps (suc at) s (λ i h. f (suc i) (omega arith)))
@@ -116,7 +114,7 @@ module _ (ps s : List ℕ) (from : ℕ) (some : 1 ≤ length ps) where
   no-match : (i : ℕ) → matches ps (drop i (drop from s)) ≡ false → MatchesAt ps s (from + i) → ⊥
   no-match i e m = true≢false (sym (at-match ps s (from + i) m) ∙ sym (moved i) ∙ e)
 
-  pub found_first : (k : ℕ) → next_of ps s from ≡ At k → FirstAt ps s from k
+  pub found_first : (k : ℕ) → next_of ps s from ≡ Some k → FirstAt ps s from k
   unfolding next_of
   found_first k e =
       let w = stops ps from (drop from s) k e in
@@ -126,7 +124,7 @@ module _ (ps s : List ℕ) (from : ℕ) (some : 1 ≤ length ps) where
         first = λ i l h m. no-match (i - from) (w.before (i - from) (omega (arith, w.is))) (let q : from + (i - from) ≡ i = omega arith in rw q m);
       }
 
-  pub first_found : (k : ℕ) → FirstAt ps s from k → next_of ps s from ≡ At k
+  pub first_found : (k : ℕ) → FirstAt ps s from k → next_of ps s from ≡ Some k
   unfolding next_of
   first_found k f =
       let q : from + (k - from) ≡ k = omega (arith, f.later) in
@@ -135,26 +133,26 @@ module _ (ps s : List ℕ) (from : ℕ) (some : 1 ≤ length ps) where
       (moved (k - from) ∙ rw q (at-match ps s k f.matches))
       (λ i h. not-true _ (λ m. f.first (from + i) (omega arith) (omega (arith, f.later)) (match-at ps s (from + i) some (sym (moved i) ∙ m)))))
 
-  pub none_found : next_of ps s from ≡ Nothing → (k : ℕ) → from ≤ k → MatchesAt ps s k → ⊥
+  pub none_found : next_of ps s from ≡ None → (k : ℕ) → from ≤ k → MatchesAt ps s k → ⊥
   unfolding next_of
   none_found e k l m =
       let q : from + (k - from) ≡ k = omega arith in
       let n : length (drop from s) ≡ length s - from = length-drop from s in
       no-match (k - from) (goes-on ps from (drop from s) e (k - from) (omega (arith, m.ends))) (rw q m)
 
-  pub found_none : ((k : ℕ) → from ≤ k → MatchesAt ps s k → ⊥) → next_of ps s from ≡ Nothing
+  pub found_none : ((k : ℕ) → from ≤ k → MatchesAt ps s k → ⊥) → next_of ps s from ≡ None
   unfolding next_of
   found_none f = so-goes-on ps from (drop from s) (λ i h. not-true _ (λ m. f (from + i) (omega arith) (match-at ps s (from + i) some (sym (moved i) ∙ m))))
 
 -- ---- the walk over a primer
 
-letter-told : (at : ℕ) (ps : List ℕ) (k : ℕ) → letters_judged at ps ≡ judge.Refused (PrimerLetter k) → (at ≤ k) × FirstUncoded ps (k - at)
+letter-told : (at : ℕ) (ps : List ℕ) (k : ℕ) → letters_judged at ps ≡ Err (PrimerLetter k) → (at ≤ k) × FirstUncoded ps (k - at)
 unfolding letters_judged
 letter-told at [] k e = let z : ◌≡◌ {A = ℕ} 0 1 = cc in absurd (omega arith)
 letter-told at (p ∷ ps) k e = go (eqb (set_of p) 0) refl (letter-told (suc at) ps k) e
   where
-    go : (v : Bool) → eqb (set_of p) 0 ≡ v → (letters_judged (suc at) ps ≡ judge.Refused (PrimerLetter k) → (suc at ≤ k) × FirstUncoded ps (k - suc at))
-        → cond v (judge.Refused (PrimerLetter at)) (letters_judged (suc at) ps) ≡ judge.Refused (PrimerLetter k) → (at ≤ k) × FirstUncoded (p ∷ ps) (k - at)
+    go : (v : Bool) → eqb (set_of p) 0 ≡ v → (letters_judged (suc at) ps ≡ Err (PrimerLetter k) → (suc at ≤ k) × FirstUncoded ps (k - suc at))
+        → cond v (Err (PrimerLetter at)) (letters_judged (suc at) ps) ≡ Err (PrimerLetter k) → (at ≤ k) × FirstUncoded (p ∷ ps) (k - at)
     go true q more e =
         let w : at ≡ k = cc in
         let z : k - at ≡ 0 = omega arith in
@@ -168,32 +166,32 @@ letter-told at (p ∷ ps) k e = go (eqb (set_of p) 0) refl (letter-told (suc at)
         passed f zero h = eqb-false _ _ q
         passed f (suc j) h = f.first j (omega arith)
 
-pub letter-first : (ps : List ℕ) (k : ℕ) → letters_judged 0 ps ≡ judge.Refused (PrimerLetter k) → FirstUncoded ps k
+pub letter-first : (ps : List ℕ) (k : ℕ) → letters_judged 0 ps ≡ Err (PrimerLetter k) → FirstUncoded ps k
 letter-first ps k e = rw sub-zero at (letter-told 0 ps k e).1
 
-so-letter : (at : ℕ) (ps : List ℕ) (j : ℕ) → FirstUncoded ps j → letters_judged at ps ≡ judge.Refused (PrimerLetter (at + j))
+so-letter : (at : ℕ) (ps : List ℕ) (j : ℕ) → FirstUncoded ps j → letters_judged at ps ≡ Err (PrimerLetter (at + j))
 unfolding letters_judged
 so-letter at [] j f = absurd (omega (arith, f.there))
-so-letter at (p ∷ ps) zero f = let q : set_of p ≡ 0 = f.uncoded in rw (eq-eqb _ _ q) (ap (λ (x : ℕ). judge.Refused (PrimerLetter x)) (omega arith))
+so-letter at (p ∷ ps) zero f = let q : set_of p ≡ 0 = f.uncoded in rw (eq-eqb _ _ q) (ap (λ (x : ℕ). Err (PrimerLetter x)) (omega arith))
 so-letter at (p ∷ ps) (suc j) f =
     let q : set_of p ≡ 0 → ⊥ = f.first 0 (omega arith) in
     rw (ne_eqb _ _ q, add-suc at j, ← suc-add at j) (so-letter (suc at) ps j (record { there = omega (arith, f.there); uncoded = f.uncoded; first = λ i h. f.first (suc i) (omega arith) }))
 
-pub first-letter : (ps : List ℕ) (k : ℕ) → FirstUncoded ps k → letters_judged 0 ps ≡ judge.Refused (PrimerLetter k)
+pub first-letter : (ps : List ℕ) (k : ℕ) → FirstUncoded ps k → letters_judged 0 ps ≡ Err (PrimerLetter k)
 first-letter ps k f = rw zero-add at (so-letter 0 ps k f)
 
-pub letters-coded : (at : ℕ) (ps : List ℕ) → letters_judged at ps ≡ judge.Fit → CodedTo ps (length ps)
+pub letters-coded : (at : ℕ) (ps : List ℕ) → letters_judged at ps ≡ Ok tt → CodedTo ps (length ps)
 unfolding letters_judged
 letters-coded at [] e j h = absurd (omega arith)
 letters-coded at (p ∷ ps) e j h = go (eqb (set_of p) 0) refl (letters-coded (suc at) ps) e j h
   where
-    go : (v : Bool) → eqb (set_of p) 0 ≡ v → (letters_judged (suc at) ps ≡ judge.Fit → CodedTo ps (length ps))
-        → cond v (judge.Refused (PrimerLetter at)) (letters_judged (suc at) ps) ≡ judge.Fit → CodedTo (p ∷ ps) (suc (length ps))
+    go : (v : Bool) → eqb (set_of p) 0 ≡ v → (letters_judged (suc at) ps ≡ Ok tt → CodedTo ps (length ps))
+        → cond v (Err (PrimerLetter at)) (letters_judged (suc at) ps) ≡ Ok tt → CodedTo (p ∷ ps) (suc (length ps))
     go true q more e j h = let z : ◌≡◌ {A = ℕ} 0 1 = cc in absurd (omega arith)
     go false q more e zero h = eqb-false _ _ q
     go false q more e (suc j) h = more e j (omega arith)
 
-pub coded-letters : (at : ℕ) (ps : List ℕ) → CodedTo ps (length ps) → letters_judged at ps ≡ judge.Fit
+pub coded-letters : (at : ℕ) (ps : List ℕ) → CodedTo ps (length ps) → letters_judged at ps ≡ Ok tt
 unfolding letters_judged
 coded-letters at [] f = refl
 coded-letters at (p ∷ ps) f = let q : set_of p ≡ 0 → ⊥ = f 0 (omega arith) in rw (ne_eqb _ _ q) (coded-letters (suc at) ps (λ j h. f (suc j) (omega arith)))

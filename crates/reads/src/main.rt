@@ -5,96 +5,40 @@
 // A read or a write that fails ends the program.
 #![tactic(auto)]
 
-ghost use Rattle.std.specs.Prelude.{◌≤◌, length, IfOk};
-
-use output::Written;
 use record::{Offset, Position, Record};
-use region::Bound;
+use refusal::Numbers;
 use std::io;
-use std::io::Read;
-use table::InUse;
 
-// The record.
-fn row() -> InUse {
-    InUse::Row(0, Record::unnamed(12000, Offset(1), 60, 61))
-}
+const MOST: usize = 65536;
 
-// The first and the last base.
-fn start() -> Bound {
-    Bound::Given(Position(2001))
-}
+// Where the window begins.
+const WINDOW: usize = 1000;
 
-fn end() -> Bound {
-    Bound::Given(Position(12000))
-}
-
-// From the whole file.
-fn exact(file: &[u8], out: &mut [u8]) -> Written {
-    region::read_exact(file, row(), start(), end(), out)
-}
-
-// From a window of it.
-fn windowed(file: &[u8], out: &mut [u8]) -> Written {
-    if file.len() < 1000 {
-        return Written::Bytes(0);
-    }
-    region::read_window(
-        file.len(),
-        &file[1000..],
-        Offset(1000),
-        row(),
-        start(),
-        end(),
-        out,
-    )
-}
-
-// Reads as the letter says.
-fn read_into(letter: u8, file: &[u8], out: &mut [u8]) -> Written {
-    match letter {
-        b'e' => exact(file, out),
-        b'w' => windowed(file, out),
-        _ => Written::Bytes(0),
-    }
-}
-
-// Writes the room, or why there is nothing in it.
-fn say(rt: &impl Print, read: Written, out: &[u8]) -> io::Result<()> {
-    match read {
-        Written::Bytes(_) => rt.write_all(out),
-        Written::Refused(why) => {
-            let told = why.numbers();
-            rt.print(told.refusal)
-        }
-    }
-}
-
+// Reads as the first byte says, and writes the room, or why there is nothing in it.
 fn read(rt: &impl Print, file: &[u8]) -> io::Result<()> {
-    if file.len() < 1000 {
+    let Some(window) = file.get(WINDOW..) else {
         return Ok(());
-    }
-    let mut out = [0u8; 65536];
-    let read = read_into(file[0], file, &mut out);
-    say(rt, read, &out)
-}
-
-// Reads until a room is full or the input ends, and answers how many bytes of it were read.
-fn read_full<F: Read>(from: &mut F, room: &mut [u8]) -> io::Result<usize>
-    ensures { IfOk result (λ n. n ≤ length room.new) }
-{
-    let mut done = 0;
-    while done < room.len() {
-        let n = from.read(&mut room[done..])?;
-        if n == 0 {
-            break;
+    };
+    let row = Ok((0, Record::unnamed(12000, Offset(1), 60, 61)));
+    let start = Some(Position(2001));
+    let end = Some(Position(12000));
+    let mut out = [0u8; MOST];
+    let read = match file[0] {
+        b'e' => region::read_exact(file, row, start, end, &mut out),
+        b'w' => {
+            let at = Offset(WINDOW as u64);
+            region::read_window(file.len(), window, at, row, start, end, &mut out)
         }
-        done += n;
+        _ => Ok(0),
+    };
+    match read {
+        Ok(_) => rt.write_all(&out),
+        Err(why) => rt.print(Numbers::from(why).refusal),
     }
-    Ok(done)
 }
 
 fn main(rt: HostRuntime) -> io::Result<()> {
-    let mut file = [0u8; 65536];
-    let n = read_full(&mut rt.reader(), &mut file)?;
-    read(&rt, &file[..n])
+    let mut room = [0u8; MOST];
+    let n = reading::fill(&mut rt.reader(), &mut room)?;
+    read(&rt, &room[..n])
 }

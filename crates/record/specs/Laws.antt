@@ -1,7 +1,7 @@
 -- Laws of the addressing rule. Callers cite these and unfold nothing.
 use Prim.Native.Nat.{ℕ, zero, suc, ◌+◌, ◌-◌, ◌*◌, ◌/◌, ◌%◌, ◌^◌, ◌≤◌, ◌<◌}
 use Rattle.std.proofs.Math.Path.{◌≡◌, refl, ap}
-use Rattle.std.proofs.Common.{sym, ◌∙◌, add-one, add-zero, le-div_iff_mul-le, div-lt_iff_lt-mul}
+use Rattle.std.proofs.Common.{sym, ◌∙◌, add-one, add-zero, le-div_iff_mul-le, div-lt_iff_lt-mul, Some, None, Option}
 use Rattle.std.specs.Prelude.{Bool, ◌&&◌, length, get_or}
 use Rattle.std.proofs.Math.Bool.{true, false, cond, and-false}
 use Rattle.std.proofs.Math.Dec.{ltb}
@@ -14,7 +14,6 @@ use Rattle.record.specs.Place.{place_of, places_from, place_in, offset_of, has_p
 use Rattle.record.specs.declared.Position.{Position}
 use Rattle.record.specs.declared.Offset.{Offset}
 use Rattle.record.specs.declared.Record.{Record}
-use Rattle.record.specs.declared.Address.TheVariants.{At, Nowhere}
 
 -- ---- places: by line bases b and line width w, from position p
 
@@ -96,27 +95,27 @@ pub mul-past : (m q w : ℕ) → 0 < w → m / w < q → m < q * w
 mul-past m q w z h = (div-lt_iff_lt-mul {k = w} {x = m} {y = q} z).0 h
 
 -- a whole number as an offset
-pub offset_at : (n : ℕ) → n < 2 ^ 64 → At (record { 0 = n }) ≡ offset_of n
+pub offset_at : (n : ℕ) → n < 2 ^ 64 → Some (record { 0 = n }) ≡ offset_of n
 unfolding offset_of
 offset_at n h = rw (lt-ltb _ _ h)
 
-pub offset-over : (n : ℕ) → 2 ^ 64 ≤ n → Nowhere ≡ offset_of n
+pub offset-over : (n : ℕ) → 2 ^ 64 ≤ n → None ≡ offset_of n
 unfolding offset_of
 offset-over n h = rw (le-ltb _ _ h)
 
-pub offset-known : (n : ℕ) (o : Offset) → offset_of n ≡ At o → (n < 2 ^ 64) × (o.0 ≡ n)
+pub offset-known : (n : ℕ) (o : Offset) → offset_of n ≡ Some o → (n < 2 ^ 64) × (o.0 ≡ n)
 unfolding offset_of
 offset-known n o e = go (ltb n (2 ^ 64)) refl e
   where
-    go : (t : Bool) → ltb n (2 ^ 64) ≡ t → cond t (At (record { 0 = n })) Nowhere ≡ At o → (n < 2 ^ 64) × (o.0 ≡ n)
+    go : (t : Bool) → ltb n (2 ^ 64) ≡ t → cond t (Some (record { 0 = n })) None ≡ Some o → (n < 2 ^ 64) × (o.0 ≡ n)
     go true h q = (ltb-true _ _ h, cc)
     go false h q = let z : ◌≡◌ {A = ℕ} 0 1 = cc in absurd (omega arith)
 
-pub offset-none : (n : ℕ) → offset_of n ≡ Nowhere → 2 ^ 64 ≤ n
+pub offset-none : (n : ℕ) → offset_of n ≡ None → 2 ^ 64 ≤ n
 unfolding offset_of
 offset-none n e = go (ltb n (2 ^ 64)) refl e
   where
-    go : (t : Bool) → ltb n (2 ^ 64) ≡ t → cond t (At (record { 0 = n })) Nowhere ≡ Nowhere → 2 ^ 64 ≤ n
+    go : (t : Bool) → ltb n (2 ^ 64) ≡ t → cond {A = Option Offset} t (Some (record { 0 = n })) None ≡ None → 2 ^ 64 ≤ n
     go true h q = let z : ◌≡◌ {A = ℕ} 0 1 = cc in absurd (omega arith)
     go false h q = ltb-false _ _ h
 
@@ -130,15 +129,15 @@ pub record Addressed (x : Record) (p : Position) (o : Offset) : Type 0 where
 
 module _ (x : Record) (p : Position) where
   -- if a number is 0, there is no offset
-  pub address-no-position : p.0 ≤ 0 → Nowhere ≡ address_of x p
+  pub address-no-position : p.0 ≤ 0 → None ≡ address_of x p
   unfolding address_of has_place
   address-no-position h = rw (le-ltb _ _ h)
 
-  pub address-no-bases : x.line_bases ≤ 0 → Nowhere ≡ address_of x p
+  pub address-no-bases : x.line_bases ≤ 0 → None ≡ address_of x p
   unfolding address_of has_place
   address-no-bases h = rw (le-ltb _ _ h, and-false)
 
-  pub address-no-width : x.line_width ≤ 0 → Nowhere ≡ address_of x p
+  pub address-no-width : x.line_width ≤ 0 → None ≡ address_of x p
   unfolding address_of has_place
   address-no-width h = simp (le-ltb _ _ h, and-false)
 
@@ -148,22 +147,22 @@ module _ (x : Record) (p : Position) where
     unfolding address_of has_place
     address-place = simp (lt-ltb _ _ a, lt-ltb _ _ b, lt-ltb _ _ w)
 
-    pub address-at : place_in x (p.0 - 1) < 2 ^ 64 → address_of x p ≡ At (record { 0 = place_in x (p.0 - 1) })
+    pub address-at : place_in x (p.0 - 1) < 2 ^ 64 → address_of x p ≡ Some (record { 0 = place_in x (p.0 - 1) })
     address-at h = address-place ∙ sym (offset_at _ h)
 
-    pub address-over : 2 ^ 64 ≤ place_in x (p.0 - 1) → address_of x p ≡ Nowhere
+    pub address-over : 2 ^ 64 ≤ place_in x (p.0 - 1) → address_of x p ≡ None
     address-over h = address-place ∙ sym (offset-over _ h)
 
     -- then a base has no offset only because it is over 64 bits
-    pub address-none : address_of x p ≡ Nowhere → 2 ^ 64 ≤ place_in x (p.0 - 1)
+    pub address-none : address_of x p ≡ None → 2 ^ 64 ≤ place_in x (p.0 - 1)
     address-none e = offset-none _ (sym address-place ∙ e)
 
-  pub address-known : (o : Offset) → address_of x p ≡ At o → Addressed x p o
+  pub address-known : (o : Offset) → address_of x p ≡ Some o → Addressed x p o
   unfolding address_of has_place
   address-known o e = go (ltb 0 p.0) refl (ltb 0 x.line_bases) refl (ltb 0 x.line_width) refl e
     where
       go : (a : Bool) → ltb 0 p.0 ≡ a → (b : Bool) → ltb 0 x.line_bases ≡ b → (w : Bool) → ltb 0 x.line_width ≡ w
-          → cond (a && (b && w)) (offset_of (place_in x (p.0 - 1))) Nowhere ≡ At o → Addressed x p o
+          → cond (a && (b && w)) (offset_of (place_in x (p.0 - 1))) None ≡ Some o → Addressed x p o
       go true a true b true w q =
           let k = offset-known _ o q in
           record { from_one = ltb-true _ _ a; some-bases = ltb-true _ _ b; some-width = ltb-true _ _ w; fits = k.0; here = k.1 }

@@ -1,5 +1,5 @@
 // A record of an index, and the addressing rule: where each of its bases lies in the file. No other code turns a base position into a byte
-// offset. An offset over 64 bits is not refused: it is `Nowhere`.
+// offset. An offset over 64 bits is not refused: it is `None`.
 #![tactic(auto)]
 
 ghost use Rattle.std.specs.Prelude.{◌≡◌, ◌+◌, ◌*◌, ◌<◌};
@@ -27,16 +27,6 @@ pub struct Record {
     pub description_length: u64,
 }
 
-// Where a base lies: `Nowhere` if the offset does not fit in 64 bits.
-#[derive(Clone, Copy)]
-pub enum Address {
-    At(Offset),
-    Nowhere,
-}
-
-// The largest offset.
-const LARGEST: u64 = 18446744073709551615;
-
 // Where a description begins; 0 if it has no bytes.
 fn described_at(start: u64, length: u64) -> u64
     ensures { result ≡ described_at start length }
@@ -47,23 +37,14 @@ fn described_at(start: u64, length: u64) -> u64
     start
 }
 
-// The offset of column `column` in line `line` of a sequence, if it fits. Each sum and product is compared with the limit before it is made.
-fn fitting(position: u64, line: u64, width: u64, column: u64) -> Address
-    requires { 0 < width }
+// The offset of column `column` in line `line` of a sequence, if it fits.
+fn fitting(position: u64, line: u64, width: u64, column: u64) -> Option<Offset>
     ensures { result ≡ offset_of (position + line * width + column) }
 {
-    if LARGEST / width < line {
-        return Address::Nowhere;
-    }
-    let skipped = line * width;
-    if LARGEST - skipped < position {
-        return Address::Nowhere;
-    }
-    let front = position + skipped;
-    if LARGEST - front < column {
-        return Address::Nowhere;
-    }
-    Address::At(Offset(front + column))
+    let skipped = line.checked_mul(width)?;
+    let front = position.checked_add(skipped)?;
+    let at = front.checked_add(column)?;
+    Some(Offset(at))
 }
 
 impl Record {
@@ -90,16 +71,10 @@ impl Record {
     pub fn named(self, start: u64, length: u64) -> Self
         ensures { result ≡ record { name_start = start; name_length = length; length = self.length; position = self.position; line_bases = self.line_bases; line_width = self.line_width; description_start = self.description_start; description_length = self.description_length } }
     {
-        let position = self.position;
         Record {
             name_start: start,
             name_length: length,
-            length: self.length,
-            position,
-            line_bases: self.line_bases,
-            line_width: self.line_width,
-            description_start: self.description_start,
-            description_length: self.description_length,
+            ..self
         }
     }
 
@@ -107,16 +82,10 @@ impl Record {
     pub fn described(self, start: u64, length: u64) -> Self
         ensures { result ≡ record { name_start = self.name_start; name_length = self.name_length; length = self.length; position = self.position; line_bases = self.line_bases; line_width = self.line_width; description_start = described_at start length; description_length = length } }
     {
-        let position = self.position;
         Record {
-            name_start: self.name_start,
-            name_length: self.name_length,
-            length: self.length,
-            position,
-            line_bases: self.line_bases,
-            line_width: self.line_width,
             description_start: described_at(start, length),
             description_length: length,
+            ..self
         }
     }
 
@@ -128,17 +97,11 @@ impl Record {
     }
 
     // Where base `p` lies.
-    pub fn offset_of(self, p: Position) -> Address
+    pub fn offset_of(self, p: Position) -> Option<Offset>
         ensures { result ≡ address_of self p }
     {
-        if p.0 < Record::FIRST {
-            return Address::Nowhere;
-        }
-        if self.line_bases == 0 {
-            return Address::Nowhere;
-        }
-        if self.line_width == 0 {
-            return Address::Nowhere;
+        if p.0 < Record::FIRST || self.line_bases == 0 || self.line_width == 0 {
+            return None;
         }
         let i = p.0 - Record::FIRST;
         fitting(

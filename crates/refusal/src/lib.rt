@@ -7,7 +7,7 @@ ghost use Rattle.refusal.specs.Numbers.{numbers_of, over_limit};
 
 // Lines and records count from 1; rows, places and offsets from 0. A definition line that does not read has as its two numbers the offset
 // where reading failed, and 0; in the checker they are the record, and that offset.
-#[derive(Clone, Copy)]
+#[derive(Clone, Copy, Debug, PartialEq, Eq, Hash)]
 pub enum Refusal {
     TooLong,
     EmptyDefinition { first: u64, second: u64 },
@@ -54,7 +54,7 @@ pub enum Refusal {
 }
 
 // A refusal as a host sees it.
-#[derive(Clone, Copy)]
+#[derive(Clone, Copy, Debug, PartialEq, Eq, Hash)]
 pub struct Numbers {
     pub refusal: u64,
     pub first: u64,
@@ -81,12 +81,13 @@ fn told(refusal: u64, first: u64, second: u64) -> Numbers
     }
 }
 
-impl Refusal {
+impl From<Refusal> for Numbers {
+    ghost from_gives = { λ f n. n ≡ numbers_of f };
+
     // Its number, and the two numbers.
-    pub fn numbers(self) -> Numbers
-        ensures { result ≡ numbers_of self }
-    {
-        match self {
+    #[tactic(auto, unfolding(crate::specs::Numbers::numbers_of))]
+    fn from(refusal: Refusal) -> Numbers {
+        match refusal {
             Refusal::TooLong => told(1, 0, 0),
             Refusal::EmptyDefinition { first, second } => told(2, first, second),
             Refusal::NoPrefix { first, second } => told(3, first, second),

@@ -1,15 +1,11 @@
 -- One byte of a file is another: an exact read that covers it differs in that one byte of what it gives, and in nothing else.
-use Rattle.std.specs.Prelude.{ℕ, zero, suc, ◌+◌, ◌-◌, ◌≤◌, ◌<◌, ◌≡◌, refl, ◌≢◌, List, [], ◌∷◌, ◌++◌, map, length, drop, get_or, set}
+use Rattle.std.specs.Prelude.{ℕ, zero, suc, ◌+◌, ◌-◌, ◌≤◌, ◌<◌, ◌≡◌, refl, ◌≢◌, List, [], ◌∷◌, ◌++◌, map, length, drop, get_or, set, Option, Result, Ok, Err}
 use Rattle.std.proofs.Common.{ap, sym, ◌∙◌, ⊎_elim, length-set, get_or-set_other, arith}
 use Rattle.std.proofs.lemmas.List.{length-map, set-append_left}
+use Rattle.record.specs.declared.Position.{Position}
 use Rattle.refusal.specs.declared.Refusal.{Refusal}
 use Rattle.record.specs.declared.Record.{Record}
-use Rattle.table.specs.declared.Held.{Held}
-use Rattle.table.specs.declared.Held.TheVariants as held
 use Rattle.record.specs.Place.{place_in}
-use Rattle.region.specs.declared.Bound.{Bound}
-use Rattle.output.specs.declared.Written.{Written}
-use Rattle.output.specs.declared.Written.TheVariants.{Bytes, Refused}
 use Rattle.output.specs.Outcome.{Outcome, leaves}
 use Rattle.region.specs.Region.{start_of, end_of}
 use Rattle.region.specs.Exact.{exact_of}
@@ -17,46 +13,46 @@ use Rattle.region.specs.Inside.{length-offsets}
 use Rattle.region.specs.Laws.{good-bounds}
 use Rattle.region.specs.Dependence.{region_offsets, region_count, InRegion, map_same, offset_at, exact-reads, Refusing, Reading, exact-either}
 
-abbrev changed : Written → List ℕ → ℕ → ℕ → Outcome Written
-changed (Bytes n) out q b = leaves (Bytes n) (set out q b)
-changed (Refused f) out q b = leaves (Refused f) out
+abbrev changed : Result ℕ Refusal → List ℕ → ℕ → ℕ → Outcome (Result ℕ Refusal)
+changed (Ok n) out q b = leaves (Ok n) (set out q b)
+changed (Err f) out q b = leaves (Err f) out
 
 -- what a read leaves, with byte number q of what it gave replaced; a refusal stays as it is
-unfoldable pub changed_at : ℕ → ℕ → Outcome Written → Outcome Written
+unfoldable pub changed_at : ℕ → ℕ → Outcome (Result ℕ Refusal) → Outcome (Result ℕ Refusal)
 changed_at q b o = changed o.answer o.output q b
 
 -- its answer and every other byte of its output are the same
-pub changed-answer : (q b : ℕ) (o : Outcome Written) → (changed_at q b o).answer ≡ o.answer
+pub changed-answer : (q b : ℕ) (o : Outcome (Result ℕ Refusal)) → (changed_at q b o).answer ≡ o.answer
 unfolding changed_at
 changed-answer q b o = go o.answer
   where
-    go : (r : Written) → (changed r o.output q b).answer ≡ r
-    go (Bytes n) = refl
-    go (Refused f) = refl
+    go : (r : Result ℕ Refusal) → (changed r o.output q b).answer ≡ r
+    go (Ok n) = refl
+    go (Err f) = refl
 
-pub changed-length : (q b : ℕ) (o : Outcome Written) → length (changed_at q b o).output ≡ length o.output
+pub changed-length : (q b : ℕ) (o : Outcome (Result ℕ Refusal)) → length (changed_at q b o).output ≡ length o.output
 unfolding changed_at
 changed-length q b o = go o.answer
   where
-    go : (r : Written) → length (changed r o.output q b).output ≡ length o.output
-    go (Bytes n) = length-set o.output q b
-    go (Refused f) = refl
+    go : (r : Result ℕ Refusal) → length (changed r o.output q b).output ≡ length o.output
+    go (Ok n) = length-set o.output q b
+    go (Err f) = refl
 
-pub changed-other : (q b : ℕ) (o : Outcome Written) (p : ℕ) → p ≢ q → get_or (changed_at q b o).output p 0 ≡ get_or o.output p 0
+pub changed-other : (q b : ℕ) (o : Outcome (Result ℕ Refusal)) (p : ℕ) → p ≢ q → get_or (changed_at q b o).output p 0 ≡ get_or o.output p 0
 unfolding changed_at
 changed-other q b o p n = go o.answer
   where
-    go : (r : Written) → get_or (changed r o.output q b).output p 0 ≡ get_or o.output p 0
-    go (Bytes k) = get_or-set_other o.output q p b 0 n
-    go (Refused f) = refl
+    go : (r : Result ℕ Refusal) → get_or (changed r o.output q b).output p 0 ≡ get_or o.output p 0
+    go (Ok k) = get_or-set_other o.output q p b 0 n
+    go (Err f) = refl
 
-pub changed-refused : (f : Refusal) (out : List ℕ) (q b : ℕ) → leaves (Refused f) out ≡ changed_at q b (leaves (Refused f) out)
+pub changed-refused : (f : Refusal) (out : List ℕ) (q b : ℕ) → leaves (Err f) out ≡ changed_at q b (leaves (Err f) out)
 unfolding changed_at
 changed-refused f out q b = refl
 
-changed-bytes : (n : ℕ) (xs ys : List ℕ) (q b : ℕ) → q < length xs → leaves (Bytes n) (set xs q b ++ ys) ≡ changed_at q b (leaves (Bytes n) (xs ++ ys))
+changed-bytes : (n : ℕ) (xs ys : List ℕ) (q b : ℕ) → q < length xs → leaves (Ok n) (set xs q b ++ ys) ≡ changed_at q b (leaves (Ok n) (xs ++ ys))
 unfolding changed_at
-changed-bytes n xs ys q b h = ap (leaves (Bytes n)) (sym (set-append_left xs ys q b h))
+changed-bytes n xs ys q b h = ap (leaves (Ok n)) (sym (set-append_left xs ys q b h))
 
 map-changed : (f g : ℕ → ℕ) (os : List ℕ) (q b : ℕ) → q < length os → g (get_or os q 0) ≡ b → ((k : ℕ) → k < length os → (k ≡ q → ⊥) → g (get_or os k 0) ≡ f (get_or os k 0)) → map g os ≡ set (map f os) q b
 map-changed f g [] q b m e h = absurd (omega arith)
@@ -66,7 +62,7 @@ map-changed f g (o ∷ os) (suc q) b m e h =
     rw (h 0 (omega arith) (λ z. omega arith), r)
 
 -- a row, two files of one length, and a base of a region whose byte is b in the second; the region's other bases have the same bytes
-module _ (bytes : ℕ) (h : Held) (a e : Bound) (out : List ℕ) (f g : ℕ → ℕ) (b : ℕ) (x : Record) (holds : h ≡ held.Row x) (p : ℕ) (from : start_of a ≤ p) (to : p ≤ end_of x.length e)
+module _ (bytes : ℕ) (h : Result Record Refusal) (a e : Option Position) (out : List ℕ) (f g : ℕ → ℕ) (b : ℕ) (x : Record) (holds : h ≡ Ok x) (p : ℕ) (from : start_of a ≤ p) (to : p ≤ end_of x.length e)
     (here : g (place_in x (p - 1)) ≡ b) (others : (q : ℕ) → InRegion x a e q → (q ≡ p → ⊥) → g (place_in x (q - 1)) ≡ f (place_in x (q - 1))) where
   pub exact-changed : exact_of bytes g h a e out ≡ changed_at (p - start_of a) b (exact_of bytes f h a e out)
   exact-changed = ⊎_elim none some (exact-either bytes h a e out)
@@ -74,7 +70,7 @@ module _ (bytes : ℕ) (h : Held) (a e : Bound) (out : List ℕ) (f g : ℕ → 
       none : Refusing bytes h a e out → exact_of bytes g h a e out ≡ changed_at (p - start_of a) b (exact_of bytes f h a e out)
       none r = rw (r.always g, r.always f) (changed-refused r.refusal out (p - start_of a) b)
 
-      row : {y : Record} → h ≡ held.Row y → y ≡ x
+      row : {y : Record} → h ≡ Ok y → y ≡ x
       row k = cc
 
       some : Reading bytes h a e out → exact_of bytes g h a e out ≡ changed_at (p - start_of a) b (exact_of bytes f h a e out)

@@ -1,22 +1,17 @@
 -- What the exact read depends on, for those who build on it. It gives bytes exactly if the region is readable; they are those at the
 -- offsets of its bases, and no other byte matters. Of a record's numbers only its length and the places of its bases matter.
-use Rattle.std.specs.Prelude.{ℕ, suc, ◌+◌, ◌-◌, ◌≤◌, ◌<◌, ◌≡◌, ◌⊎◌, List, [], ◌∷◌, ◌++◌, map, Bool, length, drop, get_or, ltb}
+use Rattle.std.specs.Prelude.{ℕ, suc, ◌+◌, ◌-◌, ◌≤◌, ◌<◌, ◌≡◌, ◌⊎◌, List, [], ◌∷◌, ◌++◌, map, Bool, length, drop, get_or, ltb, Option, Some, Result, Ok, Err}
 use Rattle.std.proofs.Math.Path.{refl, ap, sym}
 use Rattle.std.proofs.Common.{◌∙◌, ⊎_elim, ext_get_or, arith}
 use Rattle.std.proofs.Math.Logic.{inl, inr}
 use Rattle.std.proofs.Math.Bool.{true, false, cond}
+use Rattle.record.specs.declared.Position.{Position}
 use borrow.Author.Tests.{ltb-false, le-ltb, ne_eqb}
 use Rattle.refusal.specs.declared.Refusal.{Refusal}
 use Rattle.refusal.specs.declared.Refusal.TheVariants.{NoRoom, BadBounds, PastLength, NotInFile}
 use Rattle.record.specs.declared.Record.{Record}
-use Rattle.table.specs.declared.Held.{Held}
-use Rattle.table.specs.declared.Held.TheVariants as held
 use Rattle.record.specs.Place.{place_in}
 use Rattle.record.specs.Laws.{get_or-places}
-use Rattle.region.specs.declared.Bound.{Bound}
-use Rattle.region.specs.declared.Bound.TheVariants.{Given}
-use Rattle.output.specs.declared.Written.TheVariants.{Bytes, Refused}
-use Rattle.output.specs.declared.Written.{Written}
 use Rattle.output.specs.Outcome.{Outcome, leaves, refuses}
 use Rattle.region.specs.Region.{is_zero, crossed, bad_bounds, bounded_row, start_of, end_of, bases_to}
 use Rattle.region.specs.Exact.{offsets_of, in_file, past_length, bytes_at, bases_from, region_of, exact_in, exact_of}
@@ -56,21 +51,21 @@ module _ (x : Record) (a e : ℕ) (z : 0 < a) (l : a ≤ e) where
 -- ---- readable regions
 
 -- the offsets of a region of a record, and how many
-abbrev pub region_offsets : Record → Bound → Bound → List ℕ
+abbrev pub region_offsets : Record → Option Position → Option Position → List ℕ
 region_offsets x a e = offsets_of x (start_of a) (bases_to (start_of a) (end_of x.length e))
 
-abbrev pub region_count : Record → Bound → Bound → ℕ
+abbrev pub region_count : Record → Option Position → Option Position → ℕ
 region_count x a e = bases_to (start_of a) (end_of x.length e)
 
 -- base number p of a record is one of a region
-pub record InRegion (x : Record) (a e : Bound) (p : ℕ) : Type 0 where
+pub record InRegion (x : Record) (a e : Option Position) (p : ℕ) : Type 0 where
   pub from_one : 0 < p
   pub from : start_of a ≤ p
   pub to : p ≤ end_of x.length e
   pub within : p ≤ x.length
 
 -- a region of a record can be read from a file of so many bytes into an output of so many
-pub record Readable (bytes : ℕ) (x : Record) (a e : Bound) (free : ℕ) : Type 0 where
+pub record Readable (bytes : ℕ) (x : Record) (a e : Option Position) (free : ℕ) : Type 0 where
   pub bounds : bad_bounds a e ≡ false
   pub start : start_of a ≤ x.length
   pub end : end_of x.length e ≤ x.length
@@ -79,18 +74,18 @@ pub record Readable (bytes : ℕ) (x : Record) (a e : Bound) (free : ℕ) : Type
 
 -- by two numbers
 pub readable-given : (bytes : ℕ) (x : Record) (a e free : ℕ) → 0 < a → a ≤ e → e ≤ x.length → bases_to a e ≤ free
-    → ((p : ℕ) → a ≤ p → p ≤ e → place_in x (p - 1) < bytes) → Readable bytes x (Given (record { 0 = a })) (Given (record { 0 = e })) free
+    → ((p : ℕ) → a ≤ p → p ≤ e → place_in x (p - 1) < bytes) → Readable bytes x (Some (record { 0 = a })) (Some (record { 0 = e })) free
 unfolding bad_bounds is_zero crossed start_of end_of
 readable-given bytes x a e free z l m r h =
     record { bounds = rw (ne_eqb a 0 (λ q. omega arith), ne_eqb e 0 (λ q. omega arith), le-ltb _ _ l); start = omega arith; end = m; room = r; inside = h }
 
-module _ (bytes : ℕ) (byte : ℕ → ℕ) (x : Record) (a e : Bound) (out : List ℕ) where
-  pub exact-region : bad_bounds a e ≡ false → exact_of bytes byte (held.Row x) a e out ≡ region_of bytes byte x (start_of a) (end_of x.length e) out
+module _ (bytes : ℕ) (byte : ℕ → ℕ) (x : Record) (a e : Option Position) (out : List ℕ) where
+  pub exact-region : bad_bounds a e ≡ false → exact_of bytes byte (Ok x) a e out ≡ region_of bytes byte x (start_of a) (end_of x.length e) out
   unfolding exact_of exact_in bounded_row
   exact-region b = rw b
 
   -- a readable region is read: the bytes at the offsets of its bases stand at the front of the output, and the bytes behind them stay
-  pub exact-reads : Readable bytes x a e (length out) → exact_of bytes byte (held.Row x) a e out ≡ leaves (Bytes (region_count x a e)) (map byte (region_offsets x a e) ++ drop (region_count x a e) out)
+  pub exact-reads : Readable bytes x a e (length out) → exact_of bytes byte (Ok x) a e out ≡ leaves (Ok (region_count x a e)) (map byte (region_offsets x a e) ++ drop (region_count x a e) out)
   exact-reads r =
       exact-region r.bounds
       ∙ sym (region-within bytes byte x (start_of a) (end_of x.length e) out (past-none _ _ _ r.start r.end))
@@ -104,21 +99,21 @@ module _ (bytes : ℕ) (byte : ℕ → ℕ) (x : Record) (a e : Bound) (out : Li
 
 -- ---- a read is refused, whatever the bytes are, or the row is held and its region readable
 
-pub record Refusing (bytes : ℕ) (h : Held) (a e : Bound) (out : List ℕ) : Type 0 where
+pub record Refusing (bytes : ℕ) (h : Result Record Refusal) (a e : Option Position) (out : List ℕ) : Type 0 where
   pub refusal : Refusal
-  pub always : (byte : ℕ → ℕ) → exact_of bytes byte h a e out ≡ leaves (Refused refusal) out
+  pub always : (byte : ℕ → ℕ) → exact_of bytes byte h a e out ≡ leaves (Err refusal) out
 
-pub record Reading (bytes : ℕ) (h : Held) (a e : Bound) (out : List ℕ) : Type 0 where
+pub record Reading (bytes : ℕ) (h : Result Record Refusal) (a e : Option Position) (out : List ℕ) : Type 0 where
   pub row : Record
-  pub holds : h ≡ held.Row row
+  pub holds : h ≡ Ok row
   pub readable : Readable bytes row a e (length out)
 
-module _ (bytes : ℕ) (x : Record) (a e : Bound) (out : List ℕ) (b : bad_bounds a e ≡ false) where
-  row-either : Refusing bytes (held.Row x) a e out ⊎ Reading bytes (held.Row x) a e out
+module _ (bytes : ℕ) (x : Record) (a e : Option Position) (out : List ℕ) (b : bad_bounds a e ≡ false) where
+  row-either : Refusing bytes (Ok x) a e out ⊎ Reading bytes (Ok x) a e out
   row-either = go (past_length x.length (start_of a) (end_of x.length e)) refl (ltb (length out) (region_count x a e)) refl (ltb (in_file bytes (region_offsets x a e)) (length (region_offsets x a e))) refl
     where
       go : (p : Bool) → past_length x.length (start_of a) (end_of x.length e) ≡ p → (r : Bool) → ltb (length out) (region_count x a e) ≡ r
-          → (i : Bool) → ltb (in_file bytes (region_offsets x a e)) (length (region_offsets x a e)) ≡ i → Refusing bytes (held.Row x) a e out ⊎ Reading bytes (held.Row x) a e out
+          → (i : Bool) → ltb (in_file bytes (region_offsets x a e)) (length (region_offsets x a e)) ≡ i → Refusing bytes (Ok x) a e out ⊎ Reading bytes (Ok x) a e out
       go true hp r hr i hi = inl (record { refusal = PastLength x.length; always = λ byte. exact-region bytes byte x a e out b ∙ (unfold region_of in rw hp) })
       go false hp true hr i hi = inl (record { refusal = NoRoom (region_count x a e); always = λ byte. exact-region bytes byte x a e out b ∙ (unfold region_of bases_from in rw (hp, hr)) })
       go false hp false hr true hi =
@@ -138,51 +133,51 @@ module _ (bytes : ℕ) (x : Record) (a e : Bound) (out : List ℕ) (b : bad_boun
             };
           })
 
-pub exact-either : (bytes : ℕ) (h : Held) (a e : Bound) (out : List ℕ) → Refusing bytes h a e out ⊎ Reading bytes h a e out
+pub exact-either : (bytes : ℕ) (h : Result Record Refusal) (a e : Option Position) (out : List ℕ) → Refusing bytes h a e out ⊎ Reading bytes h a e out
 exact-either bytes h a e out = go (bad_bounds a e) refl h
   where
-    go : (t : Bool) → bad_bounds a e ≡ t → (h : Held) → Refusing bytes h a e out ⊎ Reading bytes h a e out
+    go : (t : Bool) → bad_bounds a e ≡ t → (h : Result Record Refusal) → Refusing bytes h a e out ⊎ Reading bytes h a e out
     go true b h = inl (record { refusal = BadBounds; always = λ byte. unfold exact_of exact_in bounded_row in rw b })
-    go false b (held.Refused f) = inl (record { refusal = f; always = λ byte. unfold exact_of exact_in bounded_row in rw b })
-    go false b (held.Row x) = row-either bytes x a e out b
+    go false b (Err f) = inl (record { refusal = f; always = λ byte. unfold exact_of exact_in bounded_row in rw b })
+    go false b (Ok x) = row-either bytes x a e out b
 
 -- what is known of a read that gave k bytes
-pub record ReadAs (bytes : ℕ) (byte : ℕ → ℕ) (h : Held) (a e : Bound) (out : List ℕ) (k : ℕ) : Type 0 where
+pub record ReadAs (bytes : ℕ) (byte : ℕ → ℕ) (h : Result Record Refusal) (a e : Option Position) (out : List ℕ) (k : ℕ) : Type 0 where
   pub row : Record
-  pub holds : h ≡ held.Row row
+  pub holds : h ≡ Ok row
   pub readable : Readable bytes row a e (length out)
   pub count : k ≡ region_count row a e
   pub output : (exact_of bytes byte h a e out).output ≡ map byte (region_offsets row a e) ++ drop k out
 
-bytes_same : {k n : ℕ} → Bytes k ≡ Bytes n → k ≡ n
+bytes_same : {k n : ℕ} → ◌≡◌ {A = Result ℕ Refusal} (Ok k) (Ok n) → k ≡ n
 bytes_same h = cc
 
-module _ (bytes : ℕ) (h : Held) (a e : Bound) (out : List ℕ) where
-  pub exact-known : (byte : ℕ → ℕ) (k : ℕ) → (exact_of bytes byte h a e out).answer ≡ Bytes k → ReadAs bytes byte h a e out k
+module _ (bytes : ℕ) (h : Result Record Refusal) (a e : Option Position) (out : List ℕ) where
+  pub exact-known : (byte : ℕ → ℕ) (k : ℕ) → (exact_of bytes byte h a e out).answer ≡ Ok k → ReadAs bytes byte h a e out k
   exact-known byte k q = ⊎_elim none some (exact-either bytes h a e out)
     where
       none : Refusing bytes h a e out → ReadAs bytes byte h a e out k
       none r =
-          let n : Refused r.refusal ≡ Bytes k = sym (ap (λ (o : Outcome Written). o.answer) (r.always byte)) ∙ q in
+          let n : Err r.refusal ≡ Ok k = sym (ap (λ (o : Outcome (Result ℕ Refusal)). o.answer) (r.always byte)) ∙ q in
           let z : ◌≡◌ {A = ℕ} 0 1 = cc in
           absurd (omega arith)
 
       some : Reading bytes h a e out → ReadAs bytes byte h a e out k
       some r =
-          let w = ap (λ (y : Held). exact_of bytes byte y a e out) r.holds ∙ exact-reads bytes byte r.row a e out r.readable in
-          let n : k ≡ region_count r.row a e = bytes_same (sym q ∙ ap (λ (o : Outcome Written). o.answer) w) in
-          record { row = r.row; holds = r.holds; readable = r.readable; count = n; output = rw n (ap (λ (o : Outcome Written). o.output) w) }
+          let w = ap (λ (y : Result Record Refusal). exact_of bytes byte y a e out) r.holds ∙ exact-reads bytes byte r.row a e out r.readable in
+          let n : k ≡ region_count r.row a e = bytes_same (sym q ∙ ap (λ (o : Outcome (Result ℕ Refusal)). o.answer) w) in
+          record { row = r.row; holds = r.holds; readable = r.readable; count = n; output = rw n (ap (λ (o : Outcome (Result ℕ Refusal)). o.output) w) }
 
   module _ (f g : ℕ → ℕ) where
     -- the answer does not depend on the bytes
     pub exact-answer : (exact_of bytes f h a e out).answer ≡ (exact_of bytes g h a e out).answer
-    exact-answer = ⊎_elim (λ r. ap (λ (o : Outcome Written). o.answer) (r.always f ∙ sym (r.always g))) some (exact-either bytes h a e out)
+    exact-answer = ⊎_elim (λ r. ap (λ (o : Outcome (Result ℕ Refusal)). o.answer) (r.always f ∙ sym (r.always g))) some (exact-either bytes h a e out)
       where
         some : Reading bytes h a e out → (exact_of bytes f h a e out).answer ≡ (exact_of bytes g h a e out).answer
         some r = rw (r.holds, exact-reads bytes f r.row a e out r.readable, exact-reads bytes g r.row a e out r.readable)
 
     -- and the output depends only on those at the offsets of the region's bases, which are in the file
-    pub exact_same : ((x : Record) → h ≡ held.Row x → (p : ℕ) → InRegion x a e p → place_in x (p - 1) < bytes → f (place_in x (p - 1)) ≡ g (place_in x (p - 1)))
+    pub exact_same : ((x : Record) → h ≡ Ok x → (p : ℕ) → InRegion x a e p → place_in x (p - 1) < bytes → f (place_in x (p - 1)) ≡ g (place_in x (p - 1)))
         → exact_of bytes f h a e out ≡ exact_of bytes g h a e out
     exact_same s = ⊎_elim (λ r. r.always f ∙ sym (r.always g)) some (exact-either bytes h a e out)
       where
@@ -217,10 +212,10 @@ module _ (bytes : ℕ) (byte : ℕ → ℕ) (x y : Record) (l : x.length ≡ y.l
       go true h = refl
       go false h = let w = within-length _ _ _ h in rw (offsets-alike a e z (o w.0) w.1)
 
-  pub exact-alike : (a e : Bound) (out : List ℕ) → exact_of bytes byte (held.Row x) a e out ≡ exact_of bytes byte (held.Row y) a e out
+  pub exact-alike : (a e : Option Position) (out : List ℕ) → exact_of bytes byte (Ok x) a e out ≡ exact_of bytes byte (Ok y) a e out
   exact-alike a e out = go (bad_bounds a e) refl
     where
-      go : (t : Bool) → bad_bounds a e ≡ t → exact_of bytes byte (held.Row x) a e out ≡ exact_of bytes byte (held.Row y) a e out
+      go : (t : Bool) → bad_bounds a e ≡ t → exact_of bytes byte (Ok x) a e out ≡ exact_of bytes byte (Ok y) a e out
       go true b = unfold exact_of exact_in bounded_row in rw b
       go false b =
           let g = good-bounds a e x.length b in

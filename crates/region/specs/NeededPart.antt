@@ -7,27 +7,20 @@
 -- `needed-seen`: it gives bytes, so 34 is never given.
 --
 -- `needed-refuses`, `refuses-needed`: the refusals are just those of the exact read of a file of that length, for an output of that room.
-use Rattle.std.specs.Prelude.{ℕ, ◌+◌, ◌-◌, ◌≤◌, ◌<◌, List, Bool, length, take, drop}
+use Rattle.std.specs.Prelude.{ℕ, ◌+◌, ◌-◌, ◌≤◌, ◌<◌, List, Bool, length, take, drop, Option, Result, Ok, Err}
 use Rattle.std.proofs.Math.Path.{◌≡◌, refl, ap}
 use Rattle.std.proofs.Common.{sym, ◌∙◌}
 use Rattle.std.proofs.Math.Bool.{true, false, cond}
 use native.Mathlib.Omega.{arith}
+use Rattle.record.specs.declared.Position.{Position}
+use Rattle.region.specs.declared.exact.Bases.{Bases}
 use Rattle.refusal.specs.Numbers.{over_limit}
 use Rattle.refusal.specs.declared.Refusal.{Refusal}
 use Rattle.refusal.specs.declared.Refusal.TheVariants.{TooLong}
 use Rattle.record.specs.declared.Record.{Record}
 use Rattle.record.specs.Bases.{byte_at}
-use Rattle.table.specs.declared.Held.{Held}
-use Rattle.table.specs.declared.Held.TheVariants as held
-use Rattle.output.specs.declared.Written.{Written}
-use Rattle.output.specs.declared.Written.TheVariants.{Bytes, Refused}
 use Rattle.output.specs.Outcome.{Outcome, refuses}
-use Rattle.region.specs.declared.Bound.{Bound}
 use Rattle.region.specs.declared.Part.{Part}
-use Rattle.region.specs.declared.Needed.{Needed}
-use Rattle.region.specs.declared.Needed.TheVariants as needed
-use Rattle.region.specs.declared.exact.Judged.{Judged}
-use Rattle.region.specs.declared.exact.Judged.TheVariants as judged
 use Rattle.region.specs.Region.{bounded_row, start_of, end_of}
 use Rattle.region.specs.Exact.{offsets_of, exact_in, exact_of, exact_held}
 use Rattle.region.specs.Part.{lowest, behind, part_of, LieIn}
@@ -41,20 +34,20 @@ use Rattle.region.specs.SeenLaws.{region-one, region-base, base-region, region-n
 use Rattle.region.specs.Windowed.{window-whole}
 
 -- what is known of a part that is the answer for a region of a file of so many bytes, and so much room
-pub record Told (bytes room : ℕ) (h : Held) (a e : Bound) (part : Part) : Type 0 where
+pub record Told (bytes room : ℕ) (h : Result Record Refusal) (a e : Option Position) (part : Part) : Type 0 where
   pub known : over_limit bytes ≡ false
   pub row : Record
-  pub holds : h ≡ held.Row row
+  pub holds : h ≡ Ok row
   pub readable : Readable bytes row a e room
   pub some : part.from.0 < part.to.0
   pub ends : part.to.0 ≤ bytes
   pub covers : Covers bytes h a e part.from.0 (part.to.0 - part.from.0)
   pub smallest : (f m : ℕ) → Covers bytes h a e f m → (f ≤ part.from.0) × (part.to.0 ≤ f + m)
 
-module _ (bytes room : ℕ) (x : Record) (a e : Bound) where
-  fine-readable : (at run n : ℕ) → bounded_row a e (held.Row x) ≡ held.Row x → Fine bytes x (start_of a) (end_of x.length e) room at run n → Readable bytes x a e room
+module _ (bytes room : ℕ) (x : Record) (a e : Option Position) where
+  fine-readable : (at run n : ℕ) → bounded_row a e (Ok x) ≡ Ok x → Fine bytes x (start_of a) (end_of x.length e) room at run n → Readable bytes x a e room
   fine-readable at run n q k =
-      let b = (bounded-known a e (held.Row x) x q).0 in
+      let b = (bounded-known a e (Ok x) x q).0 in
       let g = good-bounds a e x.length b in
       let w = within-length x.length (start_of a) (end_of x.length e) k.past in
       let l = all_lie x (start_of a) n g.from_one 0 bytes (omega (arith, k.inside, part-file bytes (offsets_of x (start_of a) n))) in
@@ -82,7 +75,7 @@ module _ (bytes room : ℕ) (x : Record) (a e : Bound) where
     lies : LieIn from to x (start_of a) (region_count x a e)
     lies = part-covers x (start_of a) (region_count x a e) one more
 
-    needs-base : (h : Held) → h ≡ held.Row x → (o : ℕ) → Needs bytes h a e o → (from ≤ o) × (o < to)
+    needs-base : (h : Result Record Refusal) → h ≡ Ok x → (o : ℕ) → Needs bytes h a e o → (from ≤ o) × (o < to)
     needs-base h q o d =
         let s : d.row ≡ x = same (sym d.holds ∙ q) in
         let i : InRegion x a e d.base = rw s at d.region in
@@ -90,10 +83,10 @@ module _ (bytes room : ℕ) (x : Record) (a e : Bound) where
         let c = lies.each d.base r.0 r.1 in
         rw (d.here, s) c
       where
-        same : {y z : Record} → held.Row y ≡ held.Row z → y ≡ z
+        same : {y z : Record} → ◌≡◌ {A = Result Record Refusal} (Ok y) (Ok z) → y ≡ z
         same h = cc
 
-    told : (h : Held) → over_limit bytes ≡ false → h ≡ held.Row x → Told bytes room h a e (part_of (offsets_of x (start_of a) (region_count x a e)))
+    told : (h : Result Record Refusal) → over_limit bytes ≡ false → h ≡ Ok x → Told bytes room h a e (part_of (offsets_of x (start_of a) (region_count x a e)))
     unfolding part_of
     told h l q =
         let c = lies.each (start_of a) (omega arith) (omega arith) in
@@ -108,74 +101,74 @@ module _ (bytes room : ℕ) (x : Record) (a e : Bound) where
           smallest = λ f m v. part-smallest x (start_of a) (region_count x a e) one more f (f + m) (record { each = λ p u w. v.each _ (region-needs bytes x a e room k h q p (region-base bytes x a e room k p u w)) });
         }
 
-part_same : {p q : Part} → needed.Bytes p ≡ needed.Bytes q → p ≡ q
+part_same : {p q : Part} → ◌≡◌ {A = Result Part Refusal} (Ok p) (Ok q) → p ≡ q
 part_same h = cc
 
-refusal-same : {f g : Refusal} → needed.Refused f ≡ needed.Refused g → f ≡ g
+refusal-same : {f g : Refusal} → ◌≡◌ {A = Result Part Refusal} (Err f) (Err g) → f ≡ g
 refusal-same h = cc
 
-module _ (bytes room : ℕ) (h : Held) (a e : Bound) where
-  told-by : (x : Record) (part : Part) → over_limit bytes ≡ false → bounded_row a e h ≡ held.Row x
-      → (j : Judged) → region_judged bytes x (start_of a) (end_of x.length e) room ≡ j → needed_by x (start_of a) j ≡ needed.Bytes part → Told bytes room h a e part
+module _ (bytes room : ℕ) (h : Result Record Refusal) (a e : Option Position) where
+  told-by : (x : Record) (part : Part) → over_limit bytes ≡ false → bounded_row a e h ≡ Ok x
+      → (j : Result Bases Refusal) → region_judged bytes x (start_of a) (end_of x.length e) room ≡ j → needed_by x (start_of a) j ≡ Ok part → Told bytes room h a e part
   unfolding needed_by
-  told-by x part l b (judged.Refused g) j q = let z : ◌≡◌ {A = ℕ} 0 1 = cc in absurd (omega arith)
-  told-by x part l b (judged.Bases at run n) j q =
+  told-by x part l b (Err g) j q = let z : ◌≡◌ {A = ℕ} 0 1 = cc in absurd (omega arith)
+  told-by x part l b (Ok i) j q =
       let v = bounded-known a e h x b in
-      let f = judged-fine bytes x (start_of a) (end_of x.length e) room at run n j in
-      let k = fine-readable bytes room x a e at run n (ap (bounded_row a e) (sym v.1) ∙ b) f in
+      let f = judged-fine bytes x (start_of a) (end_of x.length e) room i.at i.run i.count j in
+      let k = fine-readable bytes room x a e i.at i.run i.count (ap (bounded_row a e) (sym v.1) ∙ b) f in
       let p : part_of (offsets_of x (start_of a) (region_count x a e)) ≡ part = ap (λ (m : ℕ). part_of (offsets_of x (start_of a) m)) (sym f.count) ∙ part_same q in
       rw p at (told bytes room x a e k h l v.1)
 
-  pub needed-known : (part : Part) → needed_held bytes room h a e ≡ needed.Bytes part → Told bytes room h a e part
+  pub needed-known : (part : Part) → needed_held bytes room h a e ≡ Ok part → Told bytes room h a e part
   unfolding needed_held needed_of needed_in
   needed-known part q = go (over_limit bytes) refl (bounded_row a e h) refl q
     where
-      go : (l : Bool) → over_limit bytes ≡ l → (b : Held) → bounded_row a e h ≡ b → cond l (needed.Refused TooLong) (needed_in bytes room b a e) ≡ needed.Bytes part → Told bytes room h a e part
+      go : (l : Bool) → over_limit bytes ≡ l → (b : Result Record Refusal) → bounded_row a e h ≡ b → cond l (Err TooLong) (needed_in bytes room b a e) ≡ Ok part → Told bytes room h a e part
       go true l b c v = let z : ◌≡◌ {A = ℕ} 0 1 = cc in absurd (omega arith)
-      go false l (held.Refused g) c v = let z : ◌≡◌ {A = ℕ} 0 1 = cc in absurd (omega arith)
-      go false l (held.Row x) c v = told-by x part l c _ refl v
+      go false l (Err g) c v = let z : ◌≡◌ {A = ℕ} 0 1 = cc in absurd (omega arith)
+      go false l (Ok x) c v = told-by x part l c _ refl v
 
-module _ (s : List ℕ) (h : Held) (a e : Bound) (out : List ℕ) where
+module _ (s : List ℕ) (h : Result Record Refusal) (a e : Option Position) (out : List ℕ) where
   -- ---- the answer is a part: it is read
 
-  module _ (part : Part) (q : needed_held (length s) (length out) h a e ≡ needed.Bytes part) where
+  module _ (part : Part) (q : needed_held (length s) (length out) h a e ≡ Ok part) where
     pub needed-reads : window_held (length s) (take (part.to.0 - part.from.0) (drop part.from.0 s)) part.from.0 h a e out ≡ exact_held s h a e out
     needed-reads = let t = needed-known (length s) (length out) h a e part q in window-whole s part.from.0 (part.to.0 - part.from.0) (omega (arith, t.some, t.ends)) h a e out t.covers
 
-    exact-gives : Told (length s) (length out) h a e part → (n : ℕ) × ((exact_held s h a e out).answer ≡ Bytes n)
+    exact-gives : Told (length s) (length out) h a e part → (n : ℕ) × ((exact_held s h a e out).answer ≡ Ok n)
     unfolding exact_held
     exact-gives t = (region_count t.row a e, rw (t.known, t.holds, exact-reads (length s) (byte_at s) t.row a e out t.readable))
 
-    pub needed-seen : (n : ℕ) × ((window_held (length s) (take (part.to.0 - part.from.0) (drop part.from.0 s)) part.from.0 h a e out).answer ≡ Bytes n)
+    pub needed-seen : (n : ℕ) × ((window_held (length s) (take (part.to.0 - part.from.0) (drop part.from.0 s)) part.from.0 h a e out).answer ≡ Ok n)
     needed-seen =
         let g = exact-gives (needed-known (length s) (length out) h a e part q) in
-        (g.0, ap (λ (o : Outcome Written). o.answer) needed-reads ∙ g.1)
+        (g.0, ap (λ (o : Outcome (Result ℕ Refusal)). o.answer) needed-reads ∙ g.1)
 
   -- ---- the answer is a refusal: it is the exact read's
 
-  refused-by : (x : Record) (g : Refusal) (j : Judged) → region_judged (length s) x (start_of a) (end_of x.length e) (length out) ≡ j → needed_by x (start_of a) j ≡ needed.Refused g
-      → exact_in (length s) (byte_at s) (held.Row x) a e out ≡ refuses g out
+  refused-by : (x : Record) (g : Refusal) (j : Result Bases Refusal) → region_judged (length s) x (start_of a) (end_of x.length e) (length out) ≡ j → needed_by x (start_of a) j ≡ Err g
+      → exact_in (length s) (byte_at s) (Ok x) a e out ≡ refuses g out
   unfolding needed_by exact_in
-  refused-by x g (judged.Refused f) j q = let n : f ≡ g = refusal-same q in rw (← n) (sym (refused-read (length s) (byte_at s) x (start_of a) (end_of x.length e) out f j))
-  refused-by x g (judged.Bases at run n) j q = let z : ◌≡◌ {A = ℕ} 0 1 = cc in absurd (omega arith)
+  refused-by x g (Err f) j q = let n : f ≡ g = refusal-same q in rw (← n) (sym (refused-read (length s) (byte_at s) x (start_of a) (end_of x.length e) out f j))
+  refused-by x g (Ok i) j q = let z : ◌≡◌ {A = ℕ} 0 1 = cc in absurd (omega arith)
 
-  pub needed-refuses : (g : Refusal) → needed_held (length s) (length out) h a e ≡ needed.Refused g → exact_held s h a e out ≡ refuses g out
+  pub needed-refuses : (g : Refusal) → needed_held (length s) (length out) h a e ≡ Err g → exact_held s h a e out ≡ refuses g out
   unfolding needed_held needed_of needed_in exact_held exact_of exact_in
   needed-refuses g q = go (over_limit (length s)) (bounded_row a e h) q
     where
-      go : (l : Bool) (b : Held) → cond l (needed.Refused TooLong) (needed_in (length s) (length out) b a e) ≡ needed.Refused g
+      go : (l : Bool) (b : Result Record Refusal) → cond l (Err TooLong) (needed_in (length s) (length out) b a e) ≡ Err g
           → cond l (refuses TooLong out) (exact_in (length s) (byte_at s) b a e out) ≡ refuses g out
       go true b v = ap (λ (f : Refusal). refuses f out) (refusal-same v)
-      go false (held.Refused k) v = ap (λ (f : Refusal). refuses f out) (refusal-same v)
-      go false (held.Row x) v = refused-by x g _ refl v
+      go false (Err k) v = ap (λ (f : Refusal). refuses f out) (refusal-same v)
+      go false (Ok x) v = refused-by x g _ refl v
 
   -- and the other way
-  pub refuses-needed : (g : Refusal) → (exact_held s h a e out).answer ≡ Refused g → needed_held (length s) (length out) h a e ≡ needed.Refused g
+  pub refuses-needed : (g : Refusal) → (exact_held s h a e out).answer ≡ Err g → needed_held (length s) (length out) h a e ≡ Err g
   refuses-needed g q = go (needed_held (length s) (length out) h a e) refl
     where
-      go : (d : Needed) → needed_held (length s) (length out) h a e ≡ d → d ≡ needed.Refused g
-      go (needed.Bytes part) v = let b = (exact-gives part v (needed-known (length s) (length out) h a e part v)).1 in let z : ◌≡◌ {A = ℕ} 0 1 = cc in absurd (omega arith)
-      go (needed.Refused f) v =
-          let w : Refused f ≡ Refused g = sym (ap (λ (o : Outcome Written). o.answer) (needed-refuses f v)) ∙ q in
+      go : (d : Result Part Refusal) → needed_held (length s) (length out) h a e ≡ d → d ≡ Err g
+      go (Ok part) v = let b = (exact-gives part v (needed-known (length s) (length out) h a e part v)).1 in let z : ◌≡◌ {A = ℕ} 0 1 = cc in absurd (omega arith)
+      go (Err f) v =
+          let w : Err f ≡ Err g = sym (ap (λ (o : Outcome (Result ℕ Refusal)). o.answer) (needed-refuses f v)) ∙ q in
           let n : f ≡ g = cc in
-          ap needed.Refused n
+          ap Err n

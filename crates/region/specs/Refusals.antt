@@ -2,26 +2,19 @@
 -- gives, so the read never meets a bad row.
 use Prim.Native.Nat.{ℕ, zero, suc, ◌+◌}
 use Rattle.std.proofs.Math.Path.{◌≡◌, refl}
-use Rattle.std.specs.Prelude.{List, map, Bool, length, eqb, ltb}
+use Rattle.std.specs.Prelude.{List, map, Bool, length, eqb, ltb, Option, Some, None, Result, Ok, Err}
 use Rattle.std.proofs.Math.Bool.{true, false, cond}
 use Rattle.std.proofs.Common.{arith}
+use Rattle.record.specs.declared.Offset.{Offset}
+use Rattle.record.specs.declared.Position.{Position}
 use Rattle.refusal.specs.Numbers.{over_limit}
 use Rattle.refusal.specs.declared.Refusal.{Refusal}
 use Rattle.refusal.specs.declared.Refusal.TheVariants.{NoRoom, NameUnknown, BadBounds, PastLength, NotInFile, BadRow}
 use Rattle.record.specs.declared.Record.{Record}
-use Rattle.table.specs.declared.Held.{Held}
-use Rattle.table.specs.declared.Held.TheVariants as held
-use Rattle.record.specs.declared.Address.{Address}
-use Rattle.record.specs.declared.Address.TheVariants.{At, Nowhere}
 use Rattle.record.specs.Place.{address_of}
 use Rattle.record.specs.Bases.{byte_at}
-use Rattle.table.specs.declared.InUse.TheVariants as used
 use Rattle.table.specs.Rows.{row_count, row_at, no_row, bad_row, used_at, sound_row, held_at, named_in, named_of, named_at}
-use Rattle.index.specs.declared.Found.TheVariants as found
 use Rattle.index.specs.Find.{named, judged, row_from, row_named, row_read}
-use Rattle.region.specs.declared.Bound.{Bound}
-use Rattle.output.specs.declared.Written.TheVariants.{Refused}
-use Rattle.output.specs.declared.Written.{Written}
 use Rattle.output.specs.Outcome.{Outcome, refuses, gives, pours}
 use Rattle.region.specs.Region.{bad_bounds, bounded_row, start_of, end_of, bases_to}
 use Rattle.region.specs.Exact.{offsets_of, in_file, past_length, bytes_at, bases_from, region_of, exact_in, exact_of, exact_held, exact_read}
@@ -40,55 +33,55 @@ pub data OfRead : Refusal → Type 0 where
   not-in-file : (base : ℕ) → OfRead (NotInFile base)
 
 -- whatever an outcome refuses is one of these
-abbrev pub ReadRefuses : Outcome Written → Type 0
-ReadRefuses o = (f : Refusal) → o.answer ≡ Refused f → OfRead f
+abbrev pub ReadRefuses : Outcome (Result ℕ Refusal) → Type 0
+ReadRefuses o = (f : Refusal) → o.answer ≡ Err f → OfRead f
 
 -- ---- looking up
 
 module _ (bytes : ℕ) (f : Refusal) where
-  bad : (k : ℕ) → bad_row k ≡ held.Refused f → OfLookUp f
+  bad : (k : ℕ) → bad_row k ≡ Err f → OfLookUp f
   bad k q = let e : BadRow k ≡ f = cc in rw (← e) (bad-row k)
 
-  row-refused : (r : ℕ) (x : Record) → named_in bytes r (sound_row r x) ≡ held.Refused f → OfLookUp f
+  row-refused : (r : ℕ) (x : Record) → named_in bytes r (sound_row r x) ≡ Err f → OfLookUp f
   unfolding named_in sound_row
   row-refused r x h = go (eqb x.line_bases 0) (eqb x.line_width 0) (ltb bytes (x.name_start + x.name_length)) refl (ltb bytes (x.description_start + x.description_length)) refl h
     where
-      spans : (l d : Bool) → cond l (bad_row r) (cond d (bad_row r) (held.Row x)) ≡ held.Refused f → OfLookUp f
+      spans : (l d : Bool) → cond l (bad_row r) (cond d (bad_row r) (Ok x)) ≡ Err f → OfLookUp f
       spans true d q = bad r q
       spans false true q = bad r q
       spans false false q = let z : ◌≡◌ {A = ℕ} 0 1 = cc in absurd (omega arith)
 
       go : (b w l : Bool) → ltb bytes (x.name_start + x.name_length) ≡ l → (d : Bool) → ltb bytes (x.description_start + x.description_length) ≡ d
-          → named_in bytes r (cond b (bad_row r) (cond w (bad_row r) (held.Row x))) ≡ held.Refused f → OfLookUp f
+          → named_in bytes r (cond b (bad_row r) (cond w (bad_row r) (Ok x))) ≡ Err f → OfLookUp f
       go true w l m d n q = bad r q
       go false true l m d n q = bad r q
       go false false l m d n q = spans l d (rw (m, n) at q)
 
-  named-refused : (t : List ℕ) (n r : ℕ) → named_at t n r bytes ≡ held.Refused f → OfLookUp f
+  named-refused : (t : List ℕ) (n r : ℕ) → named_at t n r bytes ≡ Err f → OfLookUp f
   unfolding named_at named_of used_at
   named-refused t n r h = go (ltb (row_count t) n) (ltb r n) h
     where
-      go : (l u : Bool) → named_of bytes (cond l (no_row (row_count t)) (cond u (used.Row r (row_at t r)) (no_row r))) ≡ held.Refused f → OfLookUp f
+      go : (l u : Bool) → named_of bytes (cond l (no_row (row_count t)) (cond u (Ok (r, (row_at t r))) (no_row r))) ≡ Err f → OfLookUp f
       go true u q = bad (row_count t) q
       go false false q = bad r q
       go false true q = row-refused r (row_at t r) q
 
 module _ (names t : List ℕ) (n : ℕ) (name : List ℕ) (f : Refusal) where
-  from-refused : (k r : ℕ) → row_from names t n name k r ≡ found.Refused f → OfLookUp f
+  from-refused : (k r : ℕ) → row_from names t n name k r ≡ Err f → OfLookUp f
   unfolding row_from
   from-refused zero r h = let e : NameUnknown ≡ f = cc in rw (← e) unknown
   from-refused (suc k) r h = go (named_at t n r (length names)) refl h (from-refused k (suc r))
     where
-      pick : (b : Bool) → cond b (found.Row r) (row_from names t n name k (suc r)) ≡ found.Refused f → (row_from names t n name k (suc r) ≡ found.Refused f → OfLookUp f) → OfLookUp f
+      pick : (b : Bool) → cond b (Ok r) (row_from names t n name k (suc r)) ≡ Err f → (row_from names t n name k (suc r) ≡ Err f → OfLookUp f) → OfLookUp f
       pick true q ih = let z : ◌≡◌ {A = ℕ} 0 1 = cc in absurd (omega arith)
       pick false q ih = ih q
 
-      go : (d : Held) → named_at t n r (length names) ≡ d → judged names name r d (row_from names t n name k (suc r)) ≡ found.Refused f
-          → (row_from names t n name k (suc r) ≡ found.Refused f → OfLookUp f) → OfLookUp f
-      go (held.Row x) s q ih = pick (named names x name) q ih
-      go (held.Refused g) s q ih = let e : g ≡ f = cc in named-refused (length names) f t n r (rw e at s)
+      go : (d : Result Record Refusal) → named_at t n r (length names) ≡ d → judged names name r d (row_from names t n name k (suc r)) ≡ Err f
+          → (row_from names t n name k (suc r) ≡ Err f → OfLookUp f) → OfLookUp f
+      go (Ok x) s q ih = pick (named names x name) q ih
+      go (Err g) s q ih = let e : g ≡ f = cc in named-refused (length names) f t n r (rw e at s)
 
-  pub look-up-refuses : over_limit (length names) ≡ false → over_limit (length name) ≡ false → row_read names t n name ≡ found.Refused f → OfLookUp f
+  pub look-up-refuses : over_limit (length names) ≡ false → over_limit (length name) ≡ false → row_read names t n name ≡ Err f → OfLookUp f
   unfolding row_read row_named
   look-up-refuses h k q = from-refused n 0 (rw (h, k) at q)
 
@@ -100,7 +93,7 @@ by-refusal g out p f q = let e : g ≡ f = cc in rw (← e) p
 by_bytes : (bs out : List ℕ) → ReadRefuses (gives bs out)
 by_bytes bs out f q = let z : ◌≡◌ {A = ℕ} 0 1 = cc in absurd (omega arith)
 
-by-test : (b : Bool) (o p : Outcome Written) → ReadRefuses o → ReadRefuses p → ReadRefuses (cond b o p)
+by-test : (b : Bool) (o p : Outcome (Result ℕ Refusal)) → ReadRefuses o → ReadRefuses p → ReadRefuses (cond b o p)
 by-test true o p h k = h
 by-test false o p h k = k
 
@@ -113,19 +106,19 @@ region-refuses bytes byte x a e out =
     (by-test (ltb (length out) n) _ _ (by-refusal (NoRoom n) out (no_room n))
     (by-test (ltb (in_file bytes os) (length os)) _ _ (by-refusal (NotInFile (a + in_file bytes os)) out (not-in-file (a + in_file bytes os))) (by_bytes (map byte os) out)))
 
-scan-refuses : (s : List ℕ) (o : Address) (a : ℕ) (e : Bound) (out : List ℕ) → ReadRefuses (raw_at s o a e out)
+scan-refuses : (s : List ℕ) (o : Option Offset) (a : ℕ) (e : Option Position) (out : List ℕ) → ReadRefuses (raw_at s o a e out)
 unfolding raw_at pours
-scan-refuses s Nowhere a e out = by-refusal (NotInFile a) out (not-in-file a)
-scan-refuses s (At o) a e out =
+scan-refuses s None a e out = by-refusal (NotInFile a) out (not-in-file a)
+scan-refuses s (Some o) a e out =
     let bs = (scan_to s o.0 a e).bases in
     by-test (ltb (length out) (length bs)) _ _ (by-refusal (NoRoom (length bs)) out (no_room (length bs))) (by_bytes bs out)
 
-module _ (s t : List ℕ) (u r : ℕ) (a e : Bound) (out : List ℕ) (small : over_limit (length s) ≡ false) (x : Record) (sound : held_at t u r ≡ held.Row x) where
+module _ (s t : List ℕ) (u r : ℕ) (a e : Option Position) (out : List ℕ) (small : over_limit (length s) ≡ false) (x : Record) (sound : held_at t u r ≡ Ok x) where
   pub exact-refuses : ReadRefuses (exact_read s t u r a e out)
   unfolding exact_read exact_held exact_of exact_in bounded_row
   exact-refuses = rw (small, sound) (go (bad_bounds a e))
     where
-      go : (b : Bool) → ReadRefuses (exact_in (length s) (byte_at s) (cond b (held.Refused BadBounds) (held.Row x)) a e out)
+      go : (b : Bool) → ReadRefuses (exact_in (length s) (byte_at s) (cond b (Err BadBounds) (Ok x)) a e out)
       go true = by-refusal BadBounds out bad-bounds
       go false = region-refuses (length s) (byte_at s) x (start_of a) (end_of x.length e) out
 
@@ -133,6 +126,6 @@ module _ (s t : List ℕ) (u r : ℕ) (a e : Bound) (out : List ℕ) (small : ov
   unfolding raw_read raw_held raw_of raw_in bounded_row
   raw-refuses = rw (small, sound) (go (bad_bounds a e))
     where
-      go : (b : Bool) → ReadRefuses (raw_in s (cond b (held.Refused BadBounds) (held.Row x)) a e out)
+      go : (b : Bool) → ReadRefuses (raw_in s (cond b (Err BadBounds) (Ok x)) a e out)
       go true = by-refusal BadBounds out bad-bounds
       go false = scan-refuses s (address_of x (record { 0 = start_of a })) (start_of a) e out

@@ -1,22 +1,18 @@
 -- Laws for Windowed.antt and NeededPart.antt: the window read beside the exact read, which is refused whatever the bytes are, or gives them.
 use Prim.Native.Nat.{ℕ, ◌+◌, ◌-◌, ◌≤◌, ◌<◌}
-use Rattle.std.specs.Prelude.{◌≡◌, Bool, true, false, cond, take, get_or, ltb, leb}
+use Rattle.std.specs.Prelude.{◌≡◌, Bool, true, false, cond, take, get_or, ltb, leb, Option, Result, Ok, Err}
 use Rattle.std.proofs.Math.Path.{refl, sym}
 use Rattle.std.proofs.Common.{ap, ◌∙◌, ⊎_elim, length-drop, length-take-le, get_or-take, get_or-drop, ltb-true, ltb-false, leb-true, leb-false, arith}
 use mathlib.Core.List.{List, ◌++◌, map}
 use Rattle.std.proofs.Math.ListN.{length, drop}
+use Rattle.record.specs.declared.Position.{Position}
 use Rattle.refusal.specs.Numbers.{numbers_of}
 use Rattle.refusal.specs.declared.Refusal.{Refusal}
 use Rattle.refusal.specs.declared.Refusal.TheVariants.{NotInWindow, BadBounds}
 use Rattle.record.specs.declared.Record.{Record}
 use Rattle.record.specs.Place.{place_in}
 use Rattle.record.specs.Bases.{byte_at}
-use Rattle.table.specs.declared.Held.{Held}
-use Rattle.table.specs.declared.Held.TheVariants as held
-use Rattle.output.specs.declared.Written.{Written}
-use Rattle.output.specs.declared.Written.TheVariants.{Bytes, Refused}
 use Rattle.output.specs.Outcome.{Outcome, leaves, refuses, gives}
-use Rattle.region.specs.declared.Bound.{Bound}
 use Rattle.region.specs.Region.{bad_bounds, bounded_row, start_of, end_of}
 use Rattle.region.specs.Exact.{region_of, exact_in, exact_of}
 use Rattle.region.specs.Inside.{length-offsets}
@@ -45,7 +41,7 @@ in-not f t o h k l = let e = is-in f t o k l in let z : ◌≡◌ {A = ℕ} 0 1 
 
 -- ---- the bases of a readable region
 
-module _ (bytes : ℕ) (x : Record) (a e : Bound) (free : ℕ) (k : Readable bytes x a e free) where
+module _ (bytes : ℕ) (x : Record) (a e : Option Position) (free : ℕ) (k : Readable bytes x a e free) where
   pub region-one : 0 < start_of a
   region-one = (good-bounds a e x.length k.bounds).from_one
 
@@ -59,30 +55,30 @@ module _ (bytes : ℕ) (x : Record) (a e : Bound) (free : ℕ) (k : Readable byt
   base-region p i = (i.from, omega (arith, i.to, region-order))
 
   -- each of its offsets is needed
-  pub region-needs : (h : Held) → h ≡ held.Row x → (p : ℕ) → InRegion x a e p → Needs bytes h a e (place_in x (p - 1))
+  pub region-needs : (h : Result Record Refusal) → h ≡ Ok x → (p : ℕ) → InRegion x a e p → Needs bytes h a e (place_in x (p - 1))
   region-needs h q p i = record { row = x; holds = q; base = p; region = i; here = refl; inside = k.inside p i.from i.to }
 
-  pub offset-needs : (h : Held) → h ≡ held.Row x → (j : ℕ) → j < length (region_offsets x a e) → Needs bytes h a e (get_or (region_offsets x a e) j 0)
+  pub offset-needs : (h : Result Record Refusal) → h ≡ Ok x → (j : ℕ) → j < length (region_offsets x a e) → Needs bytes h a e (get_or (region_offsets x a e) j 0)
   offset-needs h q j m =
       let n : j < region_count x a e = rw (length-offsets x (start_of a) (region_count x a e)) at m in
       rw (base-offset x (start_of a) (region_count x a e) region-one j n) (region-needs h q (start_of a + j) (region-base (start_of a + j) (omega arith) (omega arith)))
 
 -- ---- refused, or seen
 
-module _ (bytes f : ℕ) (w : List ℕ) (a e : Bound) (out : List ℕ) where
-  refused-in : (b : Held) (g : Refusal) → exact_in bytes (byte_from f w) b a e out ≡ leaves (Refused g) out → window_in bytes f w b a e out ≡ leaves (Refused g) out
+module _ (bytes f : ℕ) (w : List ℕ) (a e : Option Position) (out : List ℕ) where
+  refused-in : (b : Result Record Refusal) (g : Refusal) → exact_in bytes (byte_from f w) b a e out ≡ leaves (Err g) out → window_in bytes f w b a e out ≡ leaves (Err g) out
   unfolding exact_in window_in window_region unless_refused
-  refused-in (held.Refused k) g q = q
-  refused-in (held.Row x) g q = rw q
+  refused-in (Err k) g q = q
+  refused-in (Ok x) g q = rw q
 
-  pub window-refuses : (h : Held) (r : Refusing bytes h a e out) → window_of bytes f w h a e out ≡ leaves (Refused r.refusal) out
+  pub window-refuses : (h : Result Record Refusal) (r : Refusing bytes h a e out) → window_of bytes f w h a e out ≡ leaves (Err r.refusal) out
   unfolding window_of exact_of
   window-refuses h r = refused-in (bounded_row a e h) r.refusal (r.always (byte_from f w))
 
-  pub window-sees : (x : Record) → Readable bytes x a e (length out) → window_of bytes f w (held.Row x) a e out ≡ seen_at f w (start_of a) (region_offsets x a e) out
+  pub window-sees : (x : Record) → Readable bytes x a e (length out) → window_of bytes f w (Ok x) a e out ≡ seen_at f w (start_of a) (region_offsets x a e) out
   unfolding window_of window_in bounded_row window_region unless_refused
   window-sees x k =
-      let q : region_of bytes (byte_from f w) x (start_of a) (end_of x.length e) out ≡ leaves (Bytes (region_count x a e)) (map (byte_from f w) (region_offsets x a e) ++ drop (region_count x a e) out) =
+      let q : region_of bytes (byte_from f w) x (start_of a) (end_of x.length e) out ≡ leaves (Ok (region_count x a e)) (map (byte_from f w) (region_offsets x a e) ++ drop (region_count x a e) out) =
       sym (exact-region bytes (byte_from f w) x a e out k.bounds) ∙ exact-reads bytes (byte_from f w) x a e out k in
       rw (k.bounds, q)
 
@@ -97,17 +93,17 @@ part-byte s f m o h k = get_or-take m (drop f s) (o - f) 0 (omega arith) ∙ get
     q : f + (o - f) ≡ o
     q = omega arith
 
-module _ (s : List ℕ) (f m : ℕ) (fits : f + m ≤ length s) (h : Held) (a e : Bound) (c : Covers (length s) h a e f m) (out : List ℕ) where
+module _ (s : List ℕ) (f m : ℕ) (fits : f + m ≤ length s) (h : Result Record Refusal) (a e : Option Position) (c : Covers (length s) h a e f m) (out : List ℕ) where
   abbrev w : List ℕ
   w = take m (drop f s)
 
   whole-some : Reading (length s) h a e out → window_of (length s) f w h a e out ≡ exact_of (length s) (byte_at s) h a e out
   whole-some r =
-      ap (λ (y : Held). window_of (length s) f w y a e out) r.holds
+      ap (λ (y : Result Record Refusal). window_of (length s) f w y a e out) r.holds
       ∙ window-sees (length s) f w a e out x k
       ∙ sym (seen_read f w x (start_of a) (region_count x a e) out (in_part f (f + length w) os) refl (omega (arith, lie-all x (start_of a) (region_count x a e) (region-one (length s) x a e (length out) k) f (f + length w) lies)))
       ∙ rw (map_same (byte_from f w) (byte_at s) os same) (sym (exact-reads (length s) (byte_at s) x a e out k))
-      ∙ ap (λ (y : Held). exact_of (length s) (byte_at s) y a e out) (sym r.holds)
+      ∙ ap (λ (y : Result Record Refusal). exact_of (length s) (byte_at s) y a e out) (sym r.holds)
     where
       x : Record
       x = r.row
@@ -133,8 +129,8 @@ module _ (s : List ℕ) (f m : ℕ) (fits : f + m ≤ length s) (h : Held) (a e 
 
 -- ---- two windows
 
-module _ (bytes : ℕ) (h : Held) (a e : Bound) (f : ℕ) (w : List ℕ) (f' : ℕ) (w' : List ℕ) (g : Agree bytes h a e f w f' w') (out : List ℕ) where
-  seen_same : (x : Record) → h ≡ held.Row x → Readable bytes x a e (length out) → seen_at f w (start_of a) (region_offsets x a e) out ≡ seen_at f' w' (start_of a) (region_offsets x a e) out
+module _ (bytes : ℕ) (h : Result Record Refusal) (a e : Option Position) (f : ℕ) (w : List ℕ) (f' : ℕ) (w' : List ℕ) (g : Agree bytes h a e f w f' w') (out : List ℕ) where
+  seen_same : (x : Record) → h ≡ Ok x → Readable bytes x a e (length out) → seen_at f w (start_of a) (region_offsets x a e) out ≡ seen_at f' w' (start_of a) (region_offsets x a e) out
   unfolding seen_at
   seen_same x q k = rw parts (go (ltb (in_part f' (f' + length w') os) (length os)) refl)
     where
@@ -154,11 +150,11 @@ module _ (bytes : ℕ) (h : Held) (a e : Bound) (f : ℕ) (w : List ℕ) (f' : �
 
   alone-some : Reading bytes h a e out → window_of bytes f w h a e out ≡ window_of bytes f' w' h a e out
   alone-some r =
-      ap (λ (y : Held). window_of bytes f w y a e out) r.holds
+      ap (λ (y : Result Record Refusal). window_of bytes f w y a e out) r.holds
       ∙ window-sees bytes f w a e out r.row r.readable
       ∙ seen_same r.row r.holds r.readable
       ∙ sym (window-sees bytes f' w' a e out r.row r.readable)
-      ∙ ap (λ (y : Held). window_of bytes f' w' y a e out) (sym r.holds)
+      ∙ ap (λ (y : Result Record Refusal). window_of bytes f' w' y a e out) (sym r.holds)
 
   pub alone_of : window_of bytes f w h a e out ≡ window_of bytes f' w' h a e out
   alone_of = ⊎_elim (λ r. window-refuses bytes f w a e out h r ∙ sym (window-refuses bytes f' w' a e out h r)) alone-some (exact-either bytes h a e out)
@@ -172,30 +168,30 @@ read-other _ (past-length bases) h = omega arith
 read-other _ (no_room needed) h = omega arith
 read-other _ (not-in-file base) h = omega arith
 
-pub refused_as : {g k : Refusal} → Refused g ≡ Refused k → g ≡ k
+pub refused_as : {g k : Refusal} → ◌≡◌ {A = Result ℕ Refusal} (Err g) (Err k) → g ≡ k
 refused_as h = cc
 
-not-bounded : (a e : Bound) (h : Held) → ((q : ℕ) → h ≡ held.Refused (NotInWindow q) → ⊥) → (q : ℕ) → bounded_row a e h ≡ held.Refused (NotInWindow q) → ⊥
+not-bounded : (a e : Option Position) (h : Result Record Refusal) → ((q : ℕ) → h ≡ Err (NotInWindow q) → ⊥) → (q : ℕ) → bounded_row a e h ≡ Err (NotInWindow q) → ⊥
 unfolding bounded_row
 not-bounded a e h n q u = go (bad_bounds a e) u
   where
-    go : (b : Bool) → cond b (held.Refused BadBounds) h ≡ held.Refused (NotInWindow q) → ⊥
+    go : (b : Bool) → cond b (Err BadBounds) h ≡ Err (NotInWindow q) → ⊥
     go true v = let z : ◌≡◌ {A = ℕ} 0 1 = cc in omega arith
     go false v = n q v
 
-module _ (bytes : ℕ) (byte : ℕ → ℕ) (a e : Bound) (out : List ℕ) (p : ℕ) where
-  other-in : (b : Held) → ((q : ℕ) → b ≡ held.Refused (NotInWindow q) → ⊥) → exact_in bytes byte b a e out ≡ leaves (Refused (NotInWindow p)) out → ⊥
+module _ (bytes : ℕ) (byte : ℕ → ℕ) (a e : Option Position) (out : List ℕ) (p : ℕ) where
+  other-in : (b : Result Record Refusal) → ((q : ℕ) → b ≡ Err (NotInWindow q) → ⊥) → exact_in bytes byte b a e out ≡ leaves (Err (NotInWindow p)) out → ⊥
   unfolding exact_in numbers_of
-  other-in (held.Refused k) n q = n p (ap held.Refused (refused_as (ap (λ (o : Outcome Written). o.answer) q)))
-  other-in (held.Row x) n q = read-other (NotInWindow p) (region-refuses bytes byte x (start_of a) (end_of x.length e) out (NotInWindow p) (ap (λ (o : Outcome Written). o.answer) q)) refl
+  other-in (Err k) n q = n p (ap Err (refused_as (ap (λ (o : Outcome (Result ℕ Refusal)). o.answer) q)))
+  other-in (Ok x) n q = read-other (NotInWindow p) (region-refuses bytes byte x (start_of a) (end_of x.length e) out (NotInWindow p) (ap (λ (o : Outcome (Result ℕ Refusal)). o.answer) q)) refl
 
-  pub exact-other : (h : Held) → ((q : ℕ) → h ≡ held.Refused (NotInWindow q) → ⊥) → exact_of bytes byte h a e out ≡ leaves (Refused (NotInWindow p)) out → ⊥
+  pub exact-other : (h : Result Record Refusal) → ((q : ℕ) → h ≡ Err (NotInWindow q) → ⊥) → exact_of bytes byte h a e out ≡ leaves (Err (NotInWindow p)) out → ⊥
   unfolding exact_of
   exact-other h n q = other-in (bounded_row a e h) (not-bounded a e h n) q
 
 -- ---- the first base that is not in the window
 
-module _ (bytes f : ℕ) (w : List ℕ) (x : Record) (a e : Bound) (out : List ℕ) (k : Readable bytes x a e (length out)) where
+module _ (bytes f : ℕ) (w : List ℕ) (x : Record) (a e : Option Position) (out : List ℕ) (k : Readable bytes x a e (length out)) where
   abbrev os : List ℕ
   os = region_offsets x a e
 

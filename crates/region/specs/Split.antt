@@ -6,12 +6,11 @@
 --
 -- `missing-name`: what changed. A name that no row has is refused before a file that is too long, for which the one call gave 1 (`long-file-exact`,
 -- `long-file-raw`).
-use Rattle.std.specs.Prelude.{ℕ, ◌≡◌, List, true, false, length}
+use Rattle.std.specs.Prelude.{ℕ, ◌≡◌, List, true, false, length, Option, Err}
+use Rattle.record.specs.declared.Position.{Position}
 use Rattle.refusal.specs.Numbers.{over_limit}
 use Rattle.refusal.specs.declared.Refusal.TheVariants.{TooLong, NameUnknown}
-use Rattle.index.specs.declared.Found.TheVariants as found
 use Rattle.index.specs.Find.{row_from, row_named, row_read}
-use Rattle.region.specs.declared.Bound.{Bound}
 use Rattle.output.specs.Outcome.{refuses}
 use Rattle.region.specs.Exact.{exact_held, exact_read}
 use Rattle.region.specs.Raw.{raw_held, raw_read}
@@ -19,7 +18,7 @@ use Rattle.region.specs.Refusals.{exact-refuses, raw-refuses}
 use Rattle.region.specs.ByName.{row_for, read_found, exact_named, raw_named, Split, Small}
 use Rattle.region.specs.SplitLaws.{split}
 
-module _ (s names t : List ℕ) (u : ℕ) (name : List ℕ) (a e : Bound) (out : List ℕ) where
+module _ (s names t : List ℕ) (u : ℕ) (name : List ℕ) (a e : Option Position) (out : List ℕ) where
   module _ (small : Small s names name) where
     pub split-equals-exact : Split (exact_named s names t u name a e out) (row_read names t u name) (λ r. exact_read s t u r a e out) out
     unfolding exact_named
@@ -42,6 +41,6 @@ module _ (s names t : List ℕ) (u : ℕ) (name : List ℕ) (a e : Bound) (out :
     long-file-raw = (rw long, λ r. rw long)
 
   -- and the first refuses the name before that, since no file is lent to it: here a name that no row has, for no row is in use
-  pub missing-name : over_limit (length names) ≡ false → over_limit (length name) ≡ false → row_read names t 0 name ≡ found.Refused NameUnknown
+  pub missing-name : over_limit (length names) ≡ false → over_limit (length name) ≡ false → row_read names t 0 name ≡ Err NameUnknown
   unfolding row_read row_named row_from
   missing-name h k = rw (h, k)

@@ -1,20 +1,15 @@
 -- Laws of the window read. The code's proofs cite these.
-use Rattle.std.specs.Prelude.{ℕ, ◌+◌, ◌-◌, ◌%◌, ◌^◌, ◌≤◌, ◌<◌, min, ◌≡◌, refl, List, ◌++◌, map, Bool, true, false, length, drop, ltb}
+use Rattle.std.specs.Prelude.{ℕ, ◌+◌, ◌-◌, ◌%◌, ◌^◌, ◌≤◌, ◌<◌, min, ◌≡◌, refl, List, ◌++◌, map, Bool, true, false, length, drop, ltb, Option, Result, Ok, Err}
 use Rattle.std.proofs.Common.{sym, arith}
 use Rattle.std.proofs.Math.ListN.{length-map}
+use Rattle.record.specs.declared.Position.{Position}
 use borrow.Author.Tests.{ltb-true, ltb-false, lt-ltb, le-ltb}
 use Rattle.refusal.specs.Numbers.{over_limit}
 use Rattle.refusal.specs.declared.Refusal.{Refusal}
 use Rattle.refusal.specs.declared.Refusal.TheVariants.{TooLong, NotInWindow, WindowPastEnd}
 use Rattle.record.specs.declared.Record.{Record}
 use Rattle.record.specs.Place.{place_in}
-use Rattle.table.specs.declared.Held.{Held}
-use Rattle.table.specs.declared.Held.TheVariants as held
-use Rattle.output.specs.declared.Written.TheVariants.{Bytes, Refused}
 use Rattle.output.specs.Outcome.{leaves}
-use Rattle.region.specs.declared.Bound.{Bound}
-use Rattle.region.specs.declared.Needed.TheVariants as needed
-use Rattle.region.specs.declared.exact.Judged.TheVariants as judged
 use Rattle.region.specs.Region.{bounded_row, start_of, end_of}
 use Rattle.region.specs.Exact.{offsets_of}
 use Rattle.region.specs.Inside.{length-offsets, Addressable}
@@ -54,11 +49,11 @@ window-fits bytes m f h k = omega (arith, within-limit bytes h, ltb-false bytes 
 -- ---- 34, or the bytes
 
 module _ (f : ℕ) (w : List ℕ) (x : Record) (a n : ℕ) (out : List ℕ) (k : ℕ) (e : k ≡ in_part f (f + length w) (offsets_of x a n)) where
-  pub seen-outside : k < n → leaves (Refused (NotInWindow (a + k))) out ≡ seen_at f w a (offsets_of x a n) out
+  pub seen-outside : k < n → leaves (Err (NotInWindow (a + k))) out ≡ seen_at f w a (offsets_of x a n) out
   unfolding seen_at
   seen-outside h = rw (length-offsets x a n, ← e, lt-ltb _ _ h)
 
-  pub seen_read : n ≤ k → leaves (Bytes n) (map (byte_from f w) (offsets_of x a n) ++ drop n out) ≡ seen_at f w a (offsets_of x a n) out
+  pub seen_read : n ≤ k → leaves (Ok n) (map (byte_from f w) (offsets_of x a n) ++ drop n out) ≡ seen_at f w a (offsets_of x a n) out
   unfolding seen_at
   seen_read h = rw (length-offsets x a n, ← e, le-ltb _ _ h, length-map (offsets_of x a n) (byte_from f w), length-offsets x a n)
 
@@ -78,7 +73,7 @@ module _ (f : ℕ) (w : List ℕ) (x : Record) (a n k : ℕ) (e : k ≡ in_part 
 
 -- a region that is refused for the whole file is refused; else the window is judged
 module _ (bytes f : ℕ) (w : List ℕ) (x : Record) (a e : ℕ) (out : List ℕ) where
-  pub window-refused : (g : Refusal) → region_judged bytes x a e (length out) ≡ judged.Refused g → leaves (Refused g) out ≡ window_region bytes f w x a e out
+  pub window-refused : (g : Refusal) → region_judged bytes x a e (length out) ≡ Err g → leaves (Err g) out ≡ window_region bytes f w x a e out
   unfolding window_region unless_refused
   window-refused g h = rw (← refused-read bytes (byte_from f w) x a e out g h)
 
@@ -108,40 +103,40 @@ lie-more f t f' t' x a n h k l = record { each = λ p u v. let e = l.each p u v 
 
 -- ---- the calls
 
-module _ (bytes : ℕ) (w : List ℕ) (f : ℕ) (h : Held) (a e : Bound) (out : List ℕ) where
-  pub window-long : over_limit (length w) ≡ true → leaves (Refused TooLong) out ≡ window_held bytes w f h a e out
+module _ (bytes : ℕ) (w : List ℕ) (f : ℕ) (h : Result Record Refusal) (a e : Option Position) (out : List ℕ) where
+  pub window-long : over_limit (length w) ≡ true → leaves (Err TooLong) out ≡ window_held bytes w f h a e out
   unfolding window_held
   window-long l = rw l
 
   module _ (l : over_limit (length w) ≡ false) where
-    pub length-long : over_limit bytes ≡ true → leaves (Refused TooLong) out ≡ window_held bytes w f h a e out
+    pub length-long : over_limit bytes ≡ true → leaves (Err TooLong) out ≡ window_held bytes w f h a e out
     unfolding window_held
     length-long m = rw (l, m)
 
     module _ (m : over_limit bytes ≡ false) where
-      pub window-past : ltb bytes (f + length w) ≡ true → leaves (Refused WindowPastEnd) out ≡ window_held bytes w f h a e out
+      pub window-past : ltb bytes (f + length w) ≡ true → leaves (Err WindowPastEnd) out ≡ window_held bytes w f h a e out
       unfolding window_held
       window-past p = rw (l, m, p)
 
       module _ (p : ltb bytes (f + length w) ≡ false) where
-        pub window-none : (g : Refusal) → bounded_row a e h ≡ held.Refused g → leaves (Refused g) out ≡ window_held bytes w f h a e out
+        pub window-none : (g : Refusal) → bounded_row a e h ≡ Err g → leaves (Err g) out ≡ window_held bytes w f h a e out
         unfolding window_held window_of window_in
         window-none g q = rw (l, m, p, q)
 
-        pub window-row : (x : Record) → bounded_row a e h ≡ held.Row x → window_region bytes f w x (start_of a) (end_of x.length e) out ≡ window_held bytes w f h a e out
+        pub window-row : (x : Record) → bounded_row a e h ≡ Ok x → window_region bytes f w x (start_of a) (end_of x.length e) out ≡ window_held bytes w f h a e out
         unfolding window_held window_of window_in
         window-row x q = rw (l, m, p, q)
 
-module _ (bytes room : ℕ) (h : Held) (a e : Bound) where
-  pub needed-long : over_limit bytes ≡ true → needed.Refused TooLong ≡ needed_held bytes room h a e
+module _ (bytes room : ℕ) (h : Result Record Refusal) (a e : Option Position) where
+  pub needed-long : over_limit bytes ≡ true → Err TooLong ≡ needed_held bytes room h a e
   unfolding needed_held
   needed-long l = rw l
 
   module _ (l : over_limit bytes ≡ false) where
-    pub needed-none : (g : Refusal) → bounded_row a e h ≡ held.Refused g → needed.Refused g ≡ needed_held bytes room h a e
+    pub needed-none : (g : Refusal) → bounded_row a e h ≡ Err g → Err g ≡ needed_held bytes room h a e
     unfolding needed_held needed_of needed_in
     needed-none g q = rw (l, q)
 
-    pub needed-row : (x : Record) → bounded_row a e h ≡ held.Row x → needed_by x (start_of a) (region_judged bytes x (start_of a) (end_of x.length e) room) ≡ needed_held bytes room h a e
+    pub needed-row : (x : Record) → bounded_row a e h ≡ Ok x → needed_by x (start_of a) (region_judged bytes x (start_of a) (end_of x.length e) room) ≡ needed_held bytes room h a e
     unfolding needed_held needed_of needed_in
     needed-row x q = rw (l, q)

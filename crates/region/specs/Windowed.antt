@@ -9,23 +9,20 @@
 -- the smallest base position of such an offset, whichever way offsets go. The row is one of a table, so that 34 is not its own refusal.
 use Prim.Native.Nat.{ℕ, ◌+◌, ◌≤◌, ◌<◌}
 use Rattle.std.proofs.Math.Path.{◌≡◌, refl}
-use Rattle.std.proofs.Common.{ap, sym, ◌∙◌, ⊎_elim, arith}
+use Rattle.std.proofs.Common.{ap, sym, ◌∙◌, ⊎_elim, arith, Option, Result, Err}
 use mathlib.Core.List.{List, map}
 use Rattle.std.specs.Prelude.{Bool, take, drop}
 use Rattle.std.proofs.Math.Bool.{true, false, cond}
 use Rattle.std.proofs.Math.ListN.{length}
 use Rattle.std.proofs.Math.Dec.{ltb}
+use Rattle.record.specs.declared.Record.{Record}
+use Rattle.record.specs.declared.Position.{Position}
 use borrow.Author.Tests.{ltb-true, ltb-false, lt-ltb, le-ltb}
 use Rattle.refusal.specs.Numbers.{over_limit}
 use Rattle.refusal.specs.declared.Refusal.{Refusal}
 use Rattle.refusal.specs.declared.Refusal.TheVariants.{TooLong, NotInWindow, WindowPastEnd}
 use Rattle.record.specs.Bases.{byte_at}
-use Rattle.table.specs.declared.Held.{Held}
-use Rattle.table.specs.declared.Held.TheVariants as held
-use Rattle.output.specs.declared.Written.{Written}
-use Rattle.output.specs.declared.Written.TheVariants.{Refused}
 use Rattle.output.specs.Outcome.{Outcome, leaves, refuses, gives}
-use Rattle.region.specs.declared.Bound.{Bound}
 use Rattle.region.specs.Region.{start_of}
 use Rattle.region.specs.Exact.{exact_of, exact_held}
 use Rattle.region.specs.Part.{in_part}
@@ -39,7 +36,7 @@ use Rattle.region.specs.SeenLaws.{part_length, whole_of, alone_of, window-refuse
 
 -- ---- the whole file's answer
 
-module _ (s : List ℕ) (f m : ℕ) (fits : f + m ≤ length s) (h : Held) (a e : Bound) (out : List ℕ) where
+module _ (s : List ℕ) (f m : ℕ) (fits : f + m ≤ length s) (h : Result Record Refusal) (a e : Option Position) (out : List ℕ) where
   pub window-whole : Covers (length s) h a e f m → window_held (length s) (take m (drop f s)) f h a e out ≡ exact_held s h a e out
   unfolding window_held exact_held
   window-whole c = rw (part_length s f m fits, le-ltb (length s) (f + m) fits) (go (over_limit m) refl (over_limit (length s)) refl)
@@ -53,17 +50,17 @@ module _ (s : List ℕ) (f m : ℕ) (fits : f + m ≤ length s) (h : Held) (a e 
 
 -- ---- no other byte
 
-module _ (bytes : ℕ) (h : Held) (a e : Bound) (f : ℕ) (w : List ℕ) (f' : ℕ) (w' : List ℕ) (out : List ℕ) where
+module _ (bytes : ℕ) (h : Result Record Refusal) (a e : Option Position) (f : ℕ) (w : List ℕ) (f' : ℕ) (w' : List ℕ) (out : List ℕ) where
   pub window-alone : Within bytes w f → Within bytes w' f' → Agree bytes h a e f w f' w' → window_held bytes w f h a e out ≡ window_held bytes w' f' h a e out
   unfolding window_held
   window-alone i j g = rw (i.small, j.small, le-ltb _ _ i.ends, le-ltb _ _ j.ends, alone_of bytes h a e f w f' w' g out)
 
 -- ---- 34
 
-base-as : {p q : ℕ} → Refused (NotInWindow p) ≡ Refused (NotInWindow q) → p ≡ q
+base-as : {p q : ℕ} → ◌≡◌ {A = Result ℕ Refusal} (Err (NotInWindow p)) (Err (NotInWindow q)) → p ≡ q
 base-as h = cc
 
-module _ (bytes : ℕ) (w : List ℕ) (f : ℕ) (h : Held) (a e : Bound) (out : List ℕ) (p : ℕ) where
+module _ (bytes : ℕ) (w : List ℕ) (f : ℕ) (h : Result Record Refusal) (a e : Option Position) (out : List ℕ) (p : ℕ) where
   pub unseen-if : FirstUnseen bytes w f h a e out p → window_held bytes w f h a e out ≡ refuses (NotInWindow p) out
   unfolding window_held seen_at
   unseen-if u =
@@ -76,7 +73,7 @@ module _ (bytes : ℕ) (w : List ℕ) (f : ℕ) (h : Held) (a e : Bound) (out : 
       less : in_part f (f + length w) (region_offsets u.row a e) < length (region_offsets u.row a e)
       less = omega (arith, first, base-region bytes u.row a e (length out) u.readable p u.region, length-offsets u.row (start_of a) (region_count u.row a e))
 
-  seen_first : Within bytes w f → over_limit bytes ≡ false → (r : Reading bytes h a e out) → (seen_at f w (start_of a) (region_offsets r.row a e) out).answer ≡ Refused (NotInWindow p) → FirstUnseen bytes w f h a e out p
+  seen_first : Within bytes w f → over_limit bytes ≡ false → (r : Reading bytes h a e out) → (seen_at f w (start_of a) (region_offsets r.row a e) out).answer ≡ Err (NotInWindow p) → FirstUnseen bytes w f h a e out p
   unfolding seen_at
   seen_first i k r q = go (ltb (in_part f (f + length w) os) (length os)) refl q
     where
@@ -84,7 +81,7 @@ module _ (bytes : ℕ) (w : List ℕ) (f : ℕ) (h : Held) (a e : Bound) (out : 
       os = region_offsets r.row a e
 
       go : (t : Bool) → ltb (in_part f (f + length w) os) (length os) ≡ t
-          → (cond t (refuses (NotInWindow (start_of a + in_part f (f + length w) os)) out) (gives (map (byte_from f w) os) out)).answer ≡ Refused (NotInWindow p) → FirstUnseen bytes w f h a e out p
+          → (cond t (refuses (NotInWindow (start_of a + in_part f (f + length w) os)) out) (gives (map (byte_from f w) os) out)).answer ≡ Err (NotInWindow p) → FirstUnseen bytes w f h a e out p
       go false l v = let z : ◌≡◌ {A = ℕ} 0 1 = cc in absurd (omega arith)
       go true l v =
           let c = is-first bytes f w r.row a e out r.readable (ltb-true _ _ l) in
@@ -92,22 +89,22 @@ module _ (bytes : ℕ) (w : List ℕ) (f : ℕ) (h : Held) (a e : Bound) (out : 
           let u : FirstUnseen bytes w f h a e out (start_of a + in_part f (f + length w) os) = record { within = i; known = k; row = r.row; holds = r.holds; readable = r.readable; region = c.0; unseen = c.1; before = c.2 } in
           rw n at u
 
-  module _ (sound : (q : ℕ) → h ≡ held.Refused (NotInWindow q) → ⊥) where
-    unseen_of : Within bytes w f → over_limit bytes ≡ false → (window_of bytes f w h a e out).answer ≡ Refused (NotInWindow p) → FirstUnseen bytes w f h a e out p
+  module _ (sound : (q : ℕ) → h ≡ Err (NotInWindow q) → ⊥) where
+    unseen_of : Within bytes w f → over_limit bytes ≡ false → (window_of bytes f w h a e out).answer ≡ Err (NotInWindow p) → FirstUnseen bytes w f h a e out p
     unseen_of i k q = ⊎_elim none some (exact-either bytes h a e out)
       where
         none : Refusing bytes h a e out → FirstUnseen bytes w f h a e out p
-        none r = absurd (exact-other bytes (byte_from f w) a e out p h sound (r.always (byte_from f w) ∙ ap (λ (g : Refusal). leaves (Refused g) out) (refused_as (ap (λ (o : Outcome Written). o.answer) (sym (window-refuses bytes f w a e out h r)) ∙ q))))
+        none r = absurd (exact-other bytes (byte_from f w) a e out p h sound (r.always (byte_from f w) ∙ ap (λ (g : Refusal). leaves (Err g) out) (refused_as (ap (λ (o : Outcome (Result ℕ Refusal)). o.answer) (sym (window-refuses bytes f w a e out h r)) ∙ q))))
 
         some : Reading bytes h a e out → FirstUnseen bytes w f h a e out p
-        some r = seen_first i k r (ap (λ (o : Outcome Written). o.answer) (sym (window-sees bytes f w a e out r.row r.readable) ∙ ap (λ (y : Held). window_of bytes f w y a e out) (sym r.holds)) ∙ q)
+        some r = seen_first i k r (ap (λ (o : Outcome (Result ℕ Refusal)). o.answer) (sym (window-sees bytes f w a e out r.row r.readable) ∙ ap (λ (y : Result Record Refusal). window_of bytes f w y a e out) (sym r.holds)) ∙ q)
 
-    pub unseen-only-if : (window_held bytes w f h a e out).answer ≡ Refused (NotInWindow p) → FirstUnseen bytes w f h a e out p
+    pub unseen-only-if : (window_held bytes w f h a e out).answer ≡ Err (NotInWindow p) → FirstUnseen bytes w f h a e out p
     unfolding window_held
     unseen-only-if q = go (over_limit (length w)) refl (over_limit bytes) refl (ltb bytes (f + length w)) refl q
       where
         go : (b : Bool) → over_limit (length w) ≡ b → (c : Bool) → over_limit bytes ≡ c → (d : Bool) → ltb bytes (f + length w) ≡ d
-            → (cond b (refuses TooLong out) (cond c (refuses TooLong out) (cond d (refuses WindowPastEnd out) (window_of bytes f w h a e out)))).answer ≡ Refused (NotInWindow p)
+            → (cond b (refuses TooLong out) (cond c (refuses TooLong out) (cond d (refuses WindowPastEnd out) (window_of bytes f w h a e out)))).answer ≡ Err (NotInWindow p)
             → FirstUnseen bytes w f h a e out p
         go true l c m d n v = let z : ◌≡◌ {A = ℕ} 0 1 = cc in absurd (omega arith)
         go false l true m d n v = let z : ◌≡◌ {A = ℕ} 0 1 = cc in absurd (omega arith)

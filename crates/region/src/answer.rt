@@ -6,39 +6,38 @@ ghost use Rattle.region.specs.Region.{bad_bounds, start_of, end_of};
 ghost use Rattle.region.specs.Judge.{region_judged};
 ghost use Rattle.region.specs.Answer.{answer_of, exact_answer};
 
-use crate::exact::Judged;
-use crate::{Bound, exact};
-use output::Written;
-use record::Record;
+use crate::exact;
+use record::{Position, Record};
 use refusal::Refusal;
-use table::{Held, InUse};
 
 // How many bytes the region of a record has, by bounds that are not bad.
-fn judged_answer(bytes: usize, x: Record, start: Bound, end: Bound, room: usize) -> Written
+fn judged_answer(
+    bytes: usize,
+    x: Record,
+    start: Option<Position>,
+    end: Option<Position>,
+    room: usize,
+) -> Result<usize, Refusal>
     requires { (0 < x.line_bases) × (0 < x.line_width) × (bad_bounds start end ≡ false) }
     ensures { result ≡ answer_of (region_judged bytes x (start_of start) (end_of x.length end) room) }
 {
-    let judged = exact::judge_region(bytes, x, start, end, room);
-    match judged {
-        Judged::Refused(f) => Written::Refused(f),
-        Judged::Bases {
-            at: _,
-            run: _,
-            count,
-        } => Written::Bytes(count),
-    }
+    let bases = exact::judge_region(bytes, x, start, end, room)?;
+    Ok(bases.count)
 }
 
 // What the exact read of a region of a row answers.
-pub fn exact_answer(bytes: usize, row: InUse, start: Bound, end: Bound, room: usize) -> Written
+pub fn exact_answer(
+    bytes: usize,
+    row: Result<(usize, Record), Refusal>,
+    start: Option<Position>,
+    end: Option<Position>,
+    room: usize,
+) -> Result<usize, Refusal>
     ensures { result ≡ exact_answer bytes (held_of row) start end room }
 {
     if refusal::over_limit(bytes) {
-        return Written::Refused(Refusal::TooLong);
+        return Err(Refusal::TooLong);
     }
-    let held = crate::bounded_row(row, start, end);
-    match held {
-        Held::Refused(f) => Written::Refused(f),
-        Held::Row(x) => judged_answer(bytes, x, start, end, room),
-    }
+    let x = crate::bounded_row(row, start, end)?;
+    judged_answer(bytes, x, start, end, room)
 }

@@ -11,17 +11,16 @@ ghost use Rattle.region.specs.Judge.{places_judged, bases_judged, region_judged}
 ghost use Rattle.region.specs.Inside.{Addressable};
 ghost use Rattle.region.specs.Copy.{Begins, Copies};
 
-use crate::{Bound, Part, bounds, inside};
-use output::Written;
-use record::{Address, Offset, Position, Record};
+use crate::{Part, bounds, inside};
+use record::{Offset, Position, Record};
 use refusal::Refusal;
 
-// Where the bases of a region lie: the offset of the first, how many of them are in its line, and how many there are. Or why they
-// can't be read.
+// Bases that can be read: where the first lies, how many of them are in its line, and how many they are.
 #[derive(Clone, Copy)]
-pub(crate) enum Judged {
-    Bases { at: usize, run: usize, count: usize },
-    Refused(Refusal),
+pub(crate) struct Bases {
+    pub at: usize,
+    pub run: usize,
+    pub count: usize,
 }
 
 // How many bytes a file of so many has from base `p` on.
@@ -29,14 +28,10 @@ fn bytes_from(bytes: usize, x: Record, p: Position) -> usize
     requires { (0 < x.line_bases) × (0 < x.line_width) × (0 < p.0) }
     ensures { result ≡ bytes - place_in x (p.0 - 1) }
 {
-    let Address::At(o) = x.offset_of(p) else {
+    let Some(o) = x.offset_of(p) else {
         return 0;
     };
-    let all = bytes as u64;
-    if all <= o.0 {
-        return 0;
-    }
-    (all - o.0) as usize
+    (bytes as u64).saturating_sub(o.0) as usize
 }
 
 // Do offsets never go back, and is base `last` in a file of so many bytes: then so is every base before it.
@@ -44,10 +39,7 @@ fn last_inside(bytes: usize, x: Record, last: Position) -> bool
     requires { (0 < x.line_bases) × (0 < x.line_width) × (0 < last.0) }
     ensures { result ≡ (leb x.line_bases x.line_width && ltb (place_in x (last.0 - 1)) bytes) }
 {
-    if x.line_width < x.line_bases {
-        return false;
-    }
-    0 < bytes_from(bytes, x, last)
+    x.line_bases <= x.line_width && 0 < bytes_from(bytes, x, last)
 }
 
 // The part that is a whole file of so many bytes.
@@ -84,16 +76,18 @@ fn next_line(x: Record, end: usize) -> usize
     end + (x.line_width - x.line_bases) as usize
 }
 
-// Copies `n` bases to the front of the output. All lie in the bytes of the file that are at hand: the first at place `at`, and `run` of them
-// are in its line. The start of each further line follows from the line before.
-pub(crate) fn copy_bases(file: &[u8], x: Record, at: usize, run: usize, n: usize, out: &mut [u8])
-    requires begins { Begins file.now x n at run }
-    requires n_in_bounds { n ≤ length out.old }
-    ensures { Copies file.now x n at run out.old out.new }
+// Copies some bases to the front of the output. All lie in the bytes of the file that are at hand. The start of each further line follows
+// from the line before.
+pub(crate) fn copy_bases(file: &[u8], x: Record, bases: Bases, out: &mut [u8])
+    requires begins { Begins file.now x bases.count bases.at bases.run }
+    requires n_in_bounds { bases.count ≤ length out.old }
+    ensures { Copies file.now x bases.count bases.at bases.run out.old out.new }
 {
+    let n = bases.count;
     let mut k = 0;
-    let mut at = at;
-    let mut run = run;
+    let mut at = bases.at;
+    let mut run = bases.run;
+    // the first and the last run are shorter than a line, so the steps are not equal
     while run < n - k {
         copying::copy_run(file, at, run, out, k);
         k += run;
@@ -104,7 +98,7 @@ pub(crate) fn copy_bases(file: &[u8], x: Record, at: usize, run: usize, n: usize
 }
 
 // Judges `n` bases from base `first` on, which are in one line: they lie one behind the other.
-fn judge_line(bytes: usize, x: Record, first: Position, n: usize) -> Judged
+fn judge_line(bytes: usize, x: Record, first: Position, n: usize) -> Result<Bases, Refusal>
     requires addressable { Addressable x first.0 n }
     requires n_bound { n ≤ x.line_bases - (first.0 - 1) % x.line_bases }
     ensures { result ≡ places_judged bytes x first.0 n }
@@ -112,17 +106,23 @@ fn judge_line(bytes: usize, x: Record, first: Position, n: usize) -> Judged
     let rest = bytes_from(bytes, x, first);
     if rest < n {
         let base = first.0 + rest as u64;
-        return Judged::Refused(Refusal::NotInFile { base });
+        return Err(Refusal::NotInFile { base });
     }
-    Judged::Bases {
+    Ok(Bases {
         at: bytes - rest,
         run: n,
         count: n,
-    }
+    })
 }
 
 // Judges `n` bases from base `first` on, in any number of lines; the first line has `run` of them.
-fn judge_lines(bytes: usize, x: Record, first: Position, run: usize, n: usize) -> Judged
+fn judge_lines(
+    bytes: usize,
+    x: Record,
+    first: Position,
+    run: usize,
+    n: usize,
+) -> Result<Bases, Refusal>
     requires addressable { Addressable x first.0 n }
     requires run_value { run ≡ min n (x.line_bases - (first.0 - 1) % x.line_bases) }
     ensures { result ≡ places_judged bytes x first.0 n }
@@ -130,23 +130,29 @@ fn judge_lines(bytes: usize, x: Record, first: Position, run: usize, n: usize) -
     let inside = count_inside(bytes, x, first, n);
     if inside < n {
         let base = first.0 + inside as u64;
-        return Judged::Refused(Refusal::NotInFile { base });
+        return Err(Refusal::NotInFile { base });
     }
-    Judged::Bases {
+    Ok(Bases {
         at: inside::offset_in(x, first),
         run,
         count: n,
-    }
+    })
 }
 
 // Judges the bases from `first` to `last` of a record. A region in one line divides once.
-fn judge_bases(bytes: usize, x: Record, first: Position, last: Position, room: usize) -> Judged
+fn judge_bases(
+    bytes: usize,
+    x: Record,
+    first: Position,
+    last: Position,
+    room: usize,
+) -> Result<Bases, Refusal>
     requires { (0 < x.line_bases) × (0 < x.line_width) × (0 < first.0) × (first.0 ≤ last.0) }
     ensures { result ≡ bases_judged bytes x first.0 (bases_to first.0 last.0) room }
 {
     let needed = last.0 - first.0 + 1;
     if (room as u64) < needed {
-        return Judged::Refused(Refusal::NoRoom { needed });
+        return Err(Refusal::NoRoom { needed });
     }
     let n = needed as usize;
     let run = inside::in_line(x, first, n);
@@ -157,14 +163,20 @@ fn judge_bases(bytes: usize, x: Record, first: Position, last: Position, room: u
 }
 
 // Judges a region of a record, by bounds that are not bad, for a file of so many bytes and so much room. It reads no byte.
-pub(crate) fn judge_region(bytes: usize, x: Record, start: Bound, end: Bound, room: usize) -> Judged
+pub(crate) fn judge_region(
+    bytes: usize,
+    x: Record,
+    start: Option<Position>,
+    end: Option<Position>,
+    room: usize,
+) -> Result<Bases, Refusal>
     requires { (0 < x.line_bases) × (0 < x.line_width) × (bad_bounds start end ≡ false) }
     ensures { result ≡ region_judged bytes x (start_of start) (end_of x.length end) room }
 {
     let first = bounds::first_base(start);
     let last = bounds::last_base(x.length, end);
     if bounds::past_length(x.length, first, last) {
-        return Judged::Refused(Refusal::PastLength { length: x.length });
+        return Err(Refusal::PastLength { length: x.length });
     }
     judge_bases(bytes, x, first, last, room)
 }
@@ -173,19 +185,14 @@ pub(crate) fn judge_region(bytes: usize, x: Record, start: Bound, end: Bound, ro
 pub(crate) fn read_region(
     file: &[u8],
     x: Record,
-    start: Bound,
-    end: Bound,
+    start: Option<Position>,
+    end: Option<Position>,
     out: &mut [u8],
-) -> Written
+) -> Result<usize, Refusal>
     requires { (0 < x.line_bases) × (0 < x.line_width) × (bad_bounds start end ≡ false) }
     ensures { leaves result out.new ≡ region_of (length file.now) (byte_at file.now) x (start_of start) (end_of x.length end) out.old }
 {
-    let judged = judge_region(file.len(), x, start, end, out.len());
-    match judged {
-        Judged::Refused(f) => Written::Refused(f),
-        Judged::Bases { at, run, count } => {
-            copy_bases(file, x, at, run, count, out);
-            Written::Bytes(count)
-        }
-    }
+    let bases = judge_region(file.len(), x, start, end, out.len())?;
+    copy_bases(file, x, bases, out);
+    Ok(bases.count)
 }

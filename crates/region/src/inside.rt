@@ -11,16 +11,13 @@ ghost use Rattle.region.specs.Part.{is_in, in_part, part_of, LieIn};
 ghost use Rattle.region.specs.PartLaws.{second_line, line_before};
 
 use crate::Part;
-use record::{Address, Offset, Position, Record};
+use record::{Offset, Position, Record};
 
 // The smaller of what is left of a line and what is left of a region.
 pub(crate) fn shorter(line: u64, left: usize) -> usize
     ensures { result ≡ min left line }
 {
-    if line < left as u64 {
-        return line as usize;
-    }
-    left
+    line.min(left as u64) as usize
 }
 
 // How many of `left` bases from base `p` on are in one line, as the record has it.
@@ -45,10 +42,10 @@ pub(crate) fn offset_in(x: Record, p: Position) -> usize
     requires { (0 < x.line_bases) × (0 < x.line_width) × (0 < p.0) × (place_in x (p.0 - 1) < 2 ^ 64) }
     ensures { result ≡ place_in x (p.0 - 1) }
 {
-    match x.offset_of(p) {
-        Address::At(o) => o.0 as usize,
-        Address::Nowhere => 0,
-    }
+    let Some(o) = x.offset_of(p) else {
+        return 0;
+    };
+    o.0 as usize
 }
 
 // Does base `p` lie in a part.
@@ -56,13 +53,10 @@ fn is_in(part: Part, x: Record, p: Position) -> bool
     requires { (0 < x.line_bases) × (0 < x.line_width) × (0 < p.0) }
     ensures { result ≡ is_in part.from.0 part.to.0 (place_in x (p.0 - 1)) }
 {
-    let Address::At(o) = x.offset_of(p) else {
+    let Some(o) = x.offset_of(p) else {
         return false;
     };
-    if o.0 < part.from.0 {
-        return false;
-    }
-    o.0 < part.to.0
+    part.from.0 <= o.0 && o.0 < part.to.0
 }
 
 // The first base of the second line of `n` bases from base `a` on; `a` if they are in one line.
@@ -102,17 +96,11 @@ fn all_in(part: Part, x: Record, a: Position, n: usize) -> bool
     requires { Addressable x a.0 n }
     ensures { result ≡ leb n (in_part part.from.0 part.to.0 (offsets_of x a.0 n)) }
 {
-    if !is_in(part, x, a) {
-        return false;
-    }
     let last = last_of(a, n);
-    if !is_in(part, x, last) {
-        return false;
-    }
-    if !is_in(part, x, second_line(x, a, n)) {
-        return false;
-    }
-    is_in(part, x, line_before(x, last, n))
+    is_in(part, x, a)
+        && is_in(part, x, last)
+        && is_in(part, x, second_line(x, a, n))
+        && is_in(part, x, line_before(x, last, n))
 }
 
 // How many of `n` bases from base `a` on lie in a part, up to the first that does not, by halving: the first `low` of them all do, and the
@@ -124,6 +112,7 @@ fn count_to(part: Part, x: Record, a: Position, n: usize) -> usize
 {
     let mut low = 0;
     let mut high = n;
+    // a search by halves counts no index, and there is no slice to call `partition_point` of
     while 1 < high - low {
         let middle = low + (high - low) / 2;
         if all_in(part, x, a, middle) {
@@ -146,26 +135,6 @@ pub(crate) fn count_in(part: Part, x: Record, a: Position, n: usize) -> usize
     count_to(part, x, a, n)
 }
 
-// The smaller of two offsets.
-fn lower(a: usize, b: usize) -> usize
-    ensures { result ≡ min a b }
-{
-    if a < b {
-        return a;
-    }
-    b
-}
-
-// The larger.
-fn higher(a: usize, b: usize) -> usize
-    ensures { result ≡ max a b }
-{
-    if a < b {
-        return b;
-    }
-    a
-}
-
 // The part from the lowest of `n` bases from base `a` on to the highest, which all lie before some offset.
 pub(crate) fn part_of(x: Record, a: Position, n: usize) -> Part
     requires addressable { Addressable x a.0 n }
@@ -173,8 +142,8 @@ pub(crate) fn part_of(x: Record, a: Position, n: usize) -> Part
     ensures { result ≡ part_of (offsets_of x a.0 n) }
 {
     let last = last_of(a, n);
-    let from = lower(offset_in(x, a), offset_in(x, second_line(x, a, n)));
-    let to = higher(offset_in(x, last), offset_in(x, line_before(x, last, n)));
+    let from = offset_in(x, a).min(offset_in(x, second_line(x, a, n)));
+    let to = offset_in(x, last).max(offset_in(x, line_before(x, last, n)));
     Part {
         from: Offset(from as u64),
         to: Offset(to as u64 + 1),

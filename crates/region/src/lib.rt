@@ -28,17 +28,8 @@ ghost use Rattle.region.specs.Exact.{exact_held};
 ghost use Rattle.region.specs.Raw.{raw_held};
 ghost use Rattle.region.specs.Window.{window_held, needed_held};
 
-use output::Written;
-use record::{Offset, Position};
+use record::{Offset, Position, Record};
 use refusal::Refusal;
-use table::{Held, InUse};
-
-// A bound of a region: a base position, or none.
-#[derive(Clone, Copy)]
-pub enum Bound {
-    Given(Position),
-    Absent,
-}
 
 // A part of a file: the bytes from one offset up to another.
 #[derive(Clone, Copy)]
@@ -47,50 +38,54 @@ pub struct Part {
     pub to: Offset,
 }
 
-// The part of a file that a region needs, or why it can't be read.
-#[derive(Clone, Copy)]
-pub enum Needed {
-    Bytes(Part),
-    Refused(Refusal),
-}
-
 // The row that a region is read from, if its bounds are not bad.
-fn bounded_row(row: InUse, start: Bound, end: Bound) -> Held
+fn bounded_row(
+    row: Result<(usize, Record), Refusal>,
+    start: Option<Position>,
+    end: Option<Position>,
+) -> Result<Record, Refusal>
     ensures { result ≡ bounded_row start end (held_of row) }
 {
     if bounds::bad_bounds(start, end) {
-        return Held::Refused(Refusal::BadBounds);
+        return Err(Refusal::BadBounds);
     }
-    row.held()
+    table::held(row)
 }
 
 // The exact read: copies the bases of a region of a row to the front of the output.
-pub fn read_exact(file: &[u8], row: InUse, start: Bound, end: Bound, out: &mut [u8]) -> Written
+pub fn read_exact(
+    file: &[u8],
+    row: Result<(usize, Record), Refusal>,
+    start: Option<Position>,
+    end: Option<Position>,
+    out: &mut [u8],
+) -> Result<usize, Refusal>
     ensures { leaves result out.new ≡ exact_held file.now (held_of row) start end out.old }
 {
     if refusal::over_limit(file.len()) {
-        return Written::Refused(Refusal::TooLong);
+        return Err(Refusal::TooLong);
     }
-    let held = bounded_row(row, start, end);
-    match held {
-        Held::Refused(f) => Written::Refused(f),
-        Held::Row(x) => exact::read_region(file, x, start, end, out),
-    }
+    let x = bounded_row(row, start, end)?;
+    exact::read_region(file, x, start, end, out)
 }
 
 // The raw read: scans from where the first base of a region of a row lies, for as many bases as the bounds say, or without limit. It
 // ignores the record's length, and may go on into the next record.
-pub fn read_raw(file: &[u8], row: InUse, start: Bound, end: Bound, out: &mut [u8]) -> Written
+// It differs from `read_exact` in its last call; one function that takes that call as a closure is as long as both.
+pub fn read_raw(
+    file: &[u8],
+    row: Result<(usize, Record), Refusal>,
+    start: Option<Position>,
+    end: Option<Position>,
+    out: &mut [u8],
+) -> Result<usize, Refusal>
     ensures { leaves result out.new ≡ raw_held file.now (held_of row) start end out.old }
 {
     if refusal::over_limit(file.len()) {
-        return Written::Refused(Refusal::TooLong);
+        return Err(Refusal::TooLong);
     }
-    let held = bounded_row(row, start, end);
-    match held {
-        Held::Refused(f) => Written::Refused(f),
-        Held::Row(x) => raw::scan_region(file, x, start, end, out),
-    }
+    let x = bounded_row(row, start, end)?;
+    raw::scan_region(file, x, start, end, out)
 }
 
 // The window read: the exact read of a file of so many bytes, when only those in a window are at hand, which begins at offset `from`.
@@ -98,39 +93,39 @@ pub fn read_window(
     bytes: usize,
     window: &[u8],
     from: Offset,
-    row: InUse,
-    start: Bound,
-    end: Bound,
+    row: Result<(usize, Record), Refusal>,
+    start: Option<Position>,
+    end: Option<Position>,
     out: &mut [u8],
-) -> Written
+) -> Result<usize, Refusal>
     ensures { leaves result out.new ≡ window_held bytes window.now from.0 (held_of row) start end out.old }
 {
     if refusal::over_limit(window.len()) {
-        return Written::Refused(Refusal::TooLong);
+        return Err(Refusal::TooLong);
     }
     if refusal::over_limit(bytes) {
-        return Written::Refused(Refusal::TooLong);
+        return Err(Refusal::TooLong);
     }
     if window::passes_end(bytes, window.len(), from) {
-        return Written::Refused(Refusal::WindowPastEnd);
+        return Err(Refusal::WindowPastEnd);
     }
-    let held = bounded_row(row, start, end);
-    match held {
-        Held::Refused(f) => Written::Refused(f),
-        Held::Row(x) => window::read_region(bytes, window, from.0 as usize, x, start, end, out),
-    }
+    let x = bounded_row(row, start, end)?;
+    window::read_region(bytes, window, from.0 as usize, x, start, end, out)
 }
 
 // Which bytes of a file of so many the exact read of a region needs, for an output of so much room.
-pub fn needed_bytes(bytes: usize, room: usize, row: InUse, start: Bound, end: Bound) -> Needed
+pub fn needed_bytes(
+    bytes: usize,
+    room: usize,
+    row: Result<(usize, Record), Refusal>,
+    start: Option<Position>,
+    end: Option<Position>,
+) -> Result<Part, Refusal>
     ensures { result ≡ needed_held bytes room (held_of row) start end }
 {
     if refusal::over_limit(bytes) {
-        return Needed::Refused(Refusal::TooLong);
+        return Err(Refusal::TooLong);
     }
-    let held = bounded_row(row, start, end);
-    match held {
-        Held::Refused(f) => Needed::Refused(f),
-        Held::Row(x) => window::needed_region(bytes, room, x, start, end),
-    }
+    let x = bounded_row(row, start, end)?;
+    window::needed_region(bytes, room, x, start, end)
 }

@@ -6,50 +6,51 @@ ghost use Rattle.region.specs.Region.{bad_bounds, start_of, end_of};
 ghost use Rattle.region.specs.Raw.{scan_to, raw_at};
 ghost use Rattle.region.specs.Laws.{limit_of};
 
-use crate::{Bound, bounds};
-use output::Written;
-use record::{Address, Offset, Position, Record};
+use crate::bounds;
+use record::{Offset, Position, Record};
 use refusal::Refusal;
-use sequence::SequenceRead;
 
 // For how many bases to scan from `first` on.
-fn scan_limit(file: &[u8], first: Position, end: Bound) -> usize
+fn scan_limit(file: &[u8], first: Position, end: Option<Position>) -> usize
     requires { (0 < first.0) × (first.0 ≤ end_of first.0 end) }
     ensures { result ≡ limit_of (length file.now) first.0 end }
 {
-    match end {
-        Bound::Given(last) => (last.0 - first.0 + 1) as usize,
-        Bound::Absent => file.len() + 1,
-    }
+    let Some(last) = end else {
+        return file.len() + 1;
+    };
+    (last.0 - first.0 + 1) as usize
 }
 
 // Scans from an offset, which is that of base `first`.
-fn scan_from(file: &[u8], at: Offset, first: Position, end: Bound, out: &mut [u8]) -> Written
+fn scan_from(
+    file: &[u8],
+    at: Offset,
+    first: Position,
+    end: Option<Position>,
+    out: &mut [u8],
+) -> Result<usize, Refusal>
     requires { (0 < first.0) × (first.0 ≤ end_of first.0 end) }
     ensures { leaves result out.new ≡ pours (scan_to file.now at.0 first.0 end).bases out.old }
 {
     let limit = scan_limit(file, first, end);
-    let read = sequence::scan_into(file, at.0 as usize, limit, out);
-    match read {
-        SequenceRead::Bases { count, next: _ } => Written::Bytes(count),
-        SequenceRead::Refused(f) => Written::Refused(f),
-    }
+    let (count, _) = sequence::scan_into(file, at.0 as usize, limit, out)?;
+    Ok(count)
 }
 
 // Scans a region of a record, by bounds that are not bad.
 pub(crate) fn scan_region(
     file: &[u8],
     x: Record,
-    start: Bound,
-    end: Bound,
+    start: Option<Position>,
+    end: Option<Position>,
     out: &mut [u8],
-) -> Written
+) -> Result<usize, Refusal>
     requires { bad_bounds start end ≡ false }
     ensures { leaves result out.new ≡ raw_at file.now (address_of x (record { 0 = start_of start })) (start_of start) end out.old }
 {
     let first = bounds::first_base(start);
-    match x.offset_of(first) {
-        Address::At(o) => scan_from(file, o, first, end, out),
-        Address::Nowhere => Written::Refused(Refusal::NotInFile { base: first.0 }),
-    }
+    let Some(o) = x.offset_of(first) else {
+        return Err(Refusal::NotInFile { base: first.0 });
+    };
+    scan_from(file, o, first, end, out)
 }

@@ -10,9 +10,8 @@ ghost use Rattle.region.specs.Judge.{region_judged};
 ghost use Rattle.region.specs.Window.{seen_at, window_region, needed_by};
 ghost use Rattle.region.specs.WindowLaws.{Judged-in};
 
-use crate::exact::Judged;
-use crate::{Bound, Needed, Part, bounds, exact, inside};
-use output::Written;
+use crate::exact::Bases;
+use crate::{Part, bounds, exact, inside};
 use record::{Offset, Position, Record};
 use refusal::Refusal;
 
@@ -20,10 +19,7 @@ use refusal::Refusal;
 pub(crate) fn passes_end(bytes: usize, window: usize, from: Offset) -> bool
     ensures { result ≡ ltb bytes (from.0 + window) }
 {
-    if bytes < window {
-        return true;
-    }
-    ((bytes - window) as u64) < from.0
+    bytes < window || ((bytes - window) as u64) < from.0
 }
 
 // The part that a window of so many bytes is.
@@ -37,29 +33,32 @@ fn seen(window: usize, from: usize) -> Part
     }
 }
 
-// Reads `n` judged bases from base `first` on: the first lies at offset `at`, and `run` of them are in its line.
+// Reads judged bases from base `first` on.
 fn read_seen(
     window: &[u8],
     from: usize,
     x: Record,
     first: Position,
-    at: usize,
-    run: usize,
-    n: usize,
+    bases: Bases,
     out: &mut [u8],
-) -> Written
-    requires judged_in { Judged-in x first.0 at run n }
+) -> Result<usize, Refusal>
+    requires judged_in { Judged-in x first.0 bases.at bases.run bases.count }
     requires from_bound { (from ≤ 1099511627776) × (length window.now ≤ 1099511627776) }
-    requires n_in_bounds { n ≤ length out.old }
-    ensures { leaves result out.new ≡ seen_at from window.now first.0 (offsets_of x first.0 n) out.old }
+    requires n_in_bounds { bases.count ≤ length out.old }
+    ensures { leaves result out.new ≡ seen_at from window.now first.0 (offsets_of x first.0 bases.count) out.old }
 {
+    let n = bases.count;
     let covered = inside::count_in(seen(window.len(), from), x, first, n);
     if covered < n {
         let base = first.0 + covered as u64;
-        return Written::Refused(Refusal::NotInWindow { base });
+        return Err(Refusal::NotInWindow { base });
     }
-    exact::copy_bases(window, x, at - from, run, n, out);
-    Written::Bytes(n)
+    let here = Bases {
+        at: bases.at - from,
+        ..bases
+    };
+    exact::copy_bases(window, x, here, out);
+    Ok(n)
 }
 
 // Reads a region of a record from a window of a file of so many bytes, by bounds that are not bad.
@@ -68,22 +67,16 @@ pub(crate) fn read_region(
     window: &[u8],
     from: usize,
     x: Record,
-    start: Bound,
-    end: Bound,
+    start: Option<Position>,
+    end: Option<Position>,
     out: &mut [u8],
-) -> Written
+) -> Result<usize, Refusal>
     requires line_bases_nonzero { (0 < x.line_bases) × (0 < x.line_width) × (bad_bounds start end ≡ false) }
     requires from_bound { (from ≤ 1099511627776) × (length window.now ≤ 1099511627776) }
     ensures { leaves result out.new ≡ window_region bytes from window.now x (start_of start) (end_of x.length end) out.old }
 {
-    let judged = exact::judge_region(bytes, x, start, end, out.len());
-    match judged {
-        Judged::Refused(f) => Written::Refused(f),
-        Judged::Bases { at, run, count } => {
-            let first = bounds::first_base(start);
-            read_seen(window, from, x, first, at, run, count, out)
-        }
-    }
+    let bases = exact::judge_region(bytes, x, start, end, out.len())?;
+    read_seen(window, from, x, bounds::first_base(start), bases, out)
 }
 
 // The part of a file of so many bytes that a region of a record needs, by bounds that are not bad.
@@ -91,23 +84,13 @@ pub(crate) fn needed_region(
     bytes: usize,
     room: usize,
     x: Record,
-    start: Bound,
-    end: Bound,
-) -> Needed
+    start: Option<Position>,
+    end: Option<Position>,
+) -> Result<Part, Refusal>
     requires line_bases_nonzero { (0 < x.line_bases) × (0 < x.line_width) × (bad_bounds start end ≡ false) }
     requires bytes_bound { bytes ≤ 1099511627776 }
     ensures { result ≡ needed_by x (start_of start) (region_judged bytes x (start_of start) (end_of x.length end) room) }
 {
-    let judged = exact::judge_region(bytes, x, start, end, room);
-    match judged {
-        Judged::Refused(f) => Needed::Refused(f),
-        Judged::Bases {
-            at: _,
-            run: _,
-            count,
-        } => {
-            let first = bounds::first_base(start);
-            Needed::Bytes(inside::part_of(x, first, count))
-        }
-    }
+    let bases = exact::judge_region(bytes, x, start, end, room)?;
+    Ok(inside::part_of(x, bounds::first_base(start), bases.count))
 }

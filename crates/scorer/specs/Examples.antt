@@ -1,6 +1,8 @@
 -- The user's case, computed: a hundred bases asked, fifty typed, 49 of them right. The score is 490, never 980; and if only fifty bases are left
 -- there is no key and no score.
-use Rattle.std.specs.Prelude.{ℕ, ◌≡◌, refl, List, [], ◌∷◌, ◌++◌}
+use Rattle.std.specs.Prelude.{ℕ, ◌≡◌, refl, List, [], ◌∷◌, ◌++◌, Result, Ok, Err}
+use Rattle.refusal.specs.declared.Refusal.{Refusal}
+use Rattle.scoring.specs.declared.Score.{Score}
 use Rattle.ascii.specs.Text.{text}
 use Rattle.refusal.specs.Numbers.{over_limit}
 use Rattle.refusal.specs.declared.Refusal.TheVariants.{PastLength}
@@ -17,8 +19,6 @@ use Rattle.exercise.specs.Reading.{known_to, bad, name_field, start_field, end_f
 use Rattle.exercise.specs.Writing.{text_of}
 use Rattle.letters.specs.Letters.{set_of}
 use Rattle.letters.specs.Sets.{inside}
-use Rattle.scoring.specs.declared.Scored.{Scored}
-use Rattle.scoring.specs.declared.Scored.TheVariants as scored
 use Rattle.scoring.specs.Rules.{folded, same, coded, lies}
 use Rattle.scoring.specs.Places.{count_below, right_of, wrong_of, missing_of, surplus_of, tenths, tenths_of, score_by, key_scored}
 use Rattle.scoring.specs.Theorems.{copies}
@@ -32,18 +32,18 @@ abbrev row : ℕ → List ℕ
 row n = 1 ∷ 1 ∷ n ∷ 3 ∷ 100 ∷ 101 ∷ 0 ∷ 0 ∷ []
 
 -- bases 1 to 100 of s, of a record that has so many; 49 of them typed right, and one wrong
-abbrev typed_of : ℕ → ℕ → Outcome Scored
+abbrev typed_of : ℕ → ℕ → Outcome (Result Score Refusal)
 typed_of edition n = scorer_of (text_of (text "s") 1 100 edition) (copies 49 97 ++ text "C") (drill n) (drill n) (row n) 1 (copies 102 46)
 
-unfoldable pub asked : List (Outcome Scored)
+unfoldable pub asked : List (Outcome (Result Score Refusal))
 asked = typed_of 1 100 ∷ typed_of 2 100 ∷ typed_of 1 50 ∷ typed_of 2 50 ∷ []
 
-unfoldable pub answers : List (Outcome Scored)
+unfoldable pub answers : List (Outcome (Result Score Refusal))
 answers =
-    leaves (scored.Score (record { right = 49; wrong = 1; missing = 50; surplus = 0; score = 490 })) (copies 100 65 ++ text "..")
-    ∷ leaves (scored.Score (record { right = 49; wrong = 1; missing = 50; surplus = 0; score = 490 })) (copies 100 65 ++ text "..")
-    ∷ leaves (scored.Refused (PastLength 50)) (copies 102 46)
-    ∷ leaves (scored.Refused (PastLength 50)) (copies 102 46)
+    leaves (Ok (record { right = 49; wrong = 1; missing = 50; surplus = 0; score = 490 })) (copies 100 65 ++ text "..")
+    ∷ leaves (Ok (record { right = 49; wrong = 1; missing = 50; surplus = 0; score = 490 })) (copies 100 65 ++ text "..")
+    ∷ leaves (Err (PastLength 50)) (copies 102 46)
+    ∷ leaves (Err (PastLength 50)) (copies 102 46)
     ∷ []
 
 pub users-case : asked ≡ answers

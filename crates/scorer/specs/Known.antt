@@ -1,21 +1,18 @@
 -- What is known of a score that the scorer gives: the exercise that was read, the row that was found, the whole key that was fetched, and the rule
 -- that counted what was typed. And of a refusal: the room is as it was.
-use Rattle.std.specs.Prelude.{ℕ, ◌+◌, ◌-◌, ◌≤◌, ◌≡◌, List, ◌++◌, map, Bool, cond, ◌||◌, ◌⊎◌, eqb, drop}
+use Rattle.std.specs.Prelude.{ℕ, ◌+◌, ◌-◌, ◌≤◌, ◌≡◌, List, ◌++◌, map, Bool, cond, ◌||◌, ◌⊎◌, eqb, drop, Result, Ok, Err}
 use Rattle.std.proofs.Math.Path.{refl}
 use Rattle.std.proofs.Common.{sym, ap, ◌∙◌, true≢false, inl, inr, arith, take_at, eqb-true}
 use Rattle.std.proofs.Math.Bool.{true, false}
 use Rattle.std.proofs.Math.Logic.{⊎_elim}
 use Rattle.std.proofs.Math.ListN.{length, length-map}
+use Rattle.record.specs.declared.Record.{Record}
 use Rattle.refusal.specs.Numbers.{over_limit}
 use Rattle.refusal.specs.declared.Refusal.{Refusal}
 use Rattle.refusal.specs.declared.Refusal.TheVariants.{TooLong, UnknownEdition}
-use Rattle.output.specs.declared.Written.{Written}
 use Rattle.output.specs.Outcome.{Outcome, leaves, refuses, gives}
 use Rattle.record.specs.Bases.{byte_at}
-use Rattle.table.specs.declared.Held.{Held}
 use Rattle.table.specs.Rows.{held_at}
-use Rattle.index.specs.declared.Found.{Found}
-use Rattle.index.specs.declared.Found.TheVariants as found
 use Rattle.index.specs.Find.{row_read}
 use Rattle.region.specs.Region.{start_of, end_of}
 use Rattle.region.specs.Exact.{exact_held}
@@ -23,13 +20,9 @@ use Rattle.region.specs.Inside.{length-offsets}
 use Rattle.region.specs.Laws.{good-bounds}
 use Rattle.region.specs.Dependence.{region_offsets, exact-reads, exact-either, Reading}
 use Rattle.exercise.specs.declared.Exercise.{Exercise}
-use Rattle.exercise.specs.declared.ExerciseRead.{ExerciseRead}
-use Rattle.exercise.specs.declared.ExerciseRead.TheVariants as read
 use Rattle.exercise.specs.Reading.{read_as}
 use Rattle.exercise.specs.Within.{read-sound, known_two}
 use Rattle.scoring.specs.declared.Score.{Score}
-use Rattle.scoring.specs.declared.Scored.{Scored}
-use Rattle.scoring.specs.declared.Scored.TheVariants as scored
 use Rattle.scoring.specs.Rules.{same, lies, rule_for}
 use Rattle.scoring.specs.Places.{score_by, key_scored}
 use Rattle.scorer.specs.Scorer.{any_over, name_asked, refuses_score, counted_as, key_counted, first, last, row_scored, scorer_of}
@@ -41,26 +34,26 @@ rule_of edition = rule_for (eqb edition 2)
 
 -- ---- a score is no refusal
 
-no-score : {f : Refusal} {room : List ℕ} {c : Score} {after : List ℕ} → refuses_score f room ≡ leaves (scored.Score c) after → ⊥
-no-score q = let p = ap (λ (o : Outcome Scored). o.answer) q in let z : ◌≡◌ {A = ℕ} 0 1 = cc in omega arith
+no-score : {f : Refusal} {room : List ℕ} {c : Score} {after : List ℕ} → refuses_score f room ≡ leaves (Ok c) after → ⊥
+no-score q = let p = ap (λ (o : Outcome (Result Score Refusal)). o.answer) q in let z : ◌≡◌ {A = ℕ} 0 1 = cc in omega arith
 
-no-refusal : {f : Refusal} {c : Score} → scored.Refused f ≡ scored.Score c → ⊥
+no-refusal : {f : Refusal} {c : Score} → Err f ≡ Ok c → ⊥
 no-refusal q = let z : ◌≡◌ {A = ℕ} 0 1 = cc in omega arith
 
-same-refusal : {f g : Refusal} → scored.Refused f ≡ scored.Refused g → f ≡ g
+same-refusal : {f g : Refusal} → ◌≡◌ {A = Result Score Refusal} (Err f) (Err g) → f ≡ g
 same-refusal q = cc
 
-same-score : {c d : Score} → scored.Score c ≡ scored.Score d → c ≡ d
+same-score : {c d : Score} → ◌≡◌ {A = Result Score Refusal} (Ok c) (Ok d) → c ≡ d
 same-score q = cc
 
 -- ---- counted by the rule of the edition
 
-key-known : (key typed : List ℕ) (edition : ℕ) (c : Score) → key_scored key typed edition ≡ scored.Score c → score_by (rule_of edition) key typed ≡ c
+key-known : (key typed : List ℕ) (edition : ℕ) (c : Score) → key_scored key typed edition ≡ Ok c → score_by (rule_of edition) key typed ≡ c
 unfolding key_scored
 key-known key typed edition c q = go (over_limit (length typed)) (eqb edition 1) refl (eqb edition 2) refl q
   where
     go : (l a : Bool) → eqb edition 1 ≡ a → (b : Bool) → eqb edition 2 ≡ b
-        → cond l (scored.Refused TooLong) (cond a (scored.Score (score_by same key typed)) (cond b (scored.Score (score_by lies key typed)) (scored.Refused (UnknownEdition 0)))) ≡ scored.Score c
+        → cond l (Err TooLong) (cond a (Ok (score_by same key typed)) (cond b (Ok (score_by lies key typed)) (Err (UnknownEdition 0)))) ≡ Ok c
         → score_by (rule_for b) key typed ≡ c
     go true a e b f q = absurd (no-refusal q)
     go false true e true f q = absurd (omega (arith, eqb-true edition 1 e, eqb-true edition 2 f))
@@ -70,12 +63,12 @@ key-known key typed edition c q = go (over_limit (length typed)) (eqb edition 1)
 
 -- with nothing too long and a known edition there is a score
 key-scores : (key typed : List ℕ) (edition : ℕ) → over_limit (length typed) ≡ false → (eqb edition 1 ≡ true) ⊎ (eqb edition 2 ≡ true)
-    → (c : Score) × (key_scored key typed edition ≡ scored.Score c)
+    → (c : Score) × (key_scored key typed edition ≡ Ok c)
 unfolding key_scored
 key-scores key typed edition l (inl e) = (score_by same key typed, rw (l, e))
 key-scores key typed edition l (inr e) = go (eqb edition 1) refl
   where
-    go : (t : Bool) → eqb edition 1 ≡ t → (c : Score) × (key_scored key typed edition ≡ scored.Score c)
+    go : (t : Bool) → eqb edition 1 ≡ t → (c : Score) × (key_scored key typed edition ≡ Ok c)
     go true f = (score_by same key typed, rw (l, f))
     go false f = (score_by lies key typed, rw (l, f, e))
 
@@ -92,7 +85,7 @@ typed-small s typed file names h = go (over_limit (length s)) (over_limit (lengt
 -- ---- of what a row holds
 
 -- the key is all that was asked, and stands at the front of the room
-pub record KeyKnown (x : Exercise) (typed file : List ℕ) (h : Held) (room : List ℕ) (c : Score) (after : List ℕ) : Type 0 where
+pub record KeyKnown (x : Exercise) (typed file : List ℕ) (h : Result Record Refusal) (room : List ℕ) (c : Score) (after : List ℕ) : Type 0 where
   pub key : List ℕ
   pub read : exact_held file h (first x) (last x) room ≡ gives key room
   pub in_order : x.start ≤ x.end
@@ -100,8 +93,8 @@ pub record KeyKnown (x : Exercise) (typed file : List ℕ) (h : Held) (room : Li
   pub left : after ≡ key ++ drop (length key) room
   pub counts : c ≡ score_by (rule_of x.edition) key typed
 
-module _ (x : Exercise) (typed file : List ℕ) (h : Held) (room : List ℕ) where
-  by_read : (o : Outcome Written) → exact_held file h (first x) (last x) room ≡ o → row_scored x typed file h room ≡ key_counted x.edition typed o
+module _ (x : Exercise) (typed file : List ℕ) (h : Result Record Refusal) (room : List ℕ) where
+  by_read : (o : Outcome (Result ℕ Refusal)) → exact_held file h (first x) (last x) room ≡ o → row_scored x typed file h room ≡ key_counted x.edition typed o
   unfolding row_scored
   by_read o q = rw q
 
@@ -134,7 +127,7 @@ module _ (x : Exercise) (typed file : List ℕ) (h : Held) (room : List ℕ) whe
       go true l = refuses-it TooLong (rw l)
       go false l = ⊎_elim (λ r. refuses-it r.refusal (rw l (r.always (byte_at file)))) (λ r. given r l) (exact-either (length file) h (first x) (last x) room)
 
-  pub row-known : (c : Score) (after : List ℕ) → row_scored x typed file h room ≡ leaves (scored.Score c) after → KeyKnown x typed file h room c after
+  pub row-known : (c : Score) (after : List ℕ) → row_scored x typed file h room ≡ leaves (Ok c) after → KeyKnown x typed file h room c after
   row-known c after q = go read-either
     where
       go : ReadEither → KeyKnown x typed file h room c after
@@ -146,8 +139,8 @@ module _ (x : Exercise) (typed file : List ℕ) (h : Held) (room : List ℕ) whe
             read = e;
             in_order = o;
             all = n;
-            left = sym (ap (λ (y : Outcome Scored). y.output) w);
-            counts = sym (key-known key typed x.edition c (ap (λ (y : Outcome Scored). y.answer) w));
+            left = sym (ap (λ (y : Outcome (Result Score Refusal)). y.output) w);
+            counts = sym (key-known key typed x.edition c (ap (λ (y : Outcome (Result Score Refusal)). y.answer) w));
           }
 
   -- a read that refuses is the answer
@@ -156,19 +149,19 @@ module _ (x : Exercise) (typed file : List ℕ) (h : Held) (room : List ℕ) whe
 
   -- and there is no other refusal, if what was typed is within the limit and the edition is known
   module _ (l : over_limit (length typed) ≡ false) (known : (eqb x.edition 1 ≡ true) ⊎ (eqb x.edition 2 ≡ true)) (f : Refusal) (after : List ℕ)
-      (q : row_scored x typed file h room ≡ leaves (scored.Refused f) after) where
+      (q : row_scored x typed file h room ≡ leaves (Err f) after) where
     pub read-refused : exact_held file h (first x) (last x) room ≡ refuses f room
     read-refused = go read-either
       where
         go : ReadEither → exact_held file h (first x) (last x) room ≡ refuses f room
-        go (refuses-it g e) = e ∙ ap (λ (r : Refusal). refuses r room) (same-refusal (ap (λ (y : Outcome Scored). y.answer) (sym (refused-read g e) ∙ q)))
+        go (refuses-it g e) = e ∙ ap (λ (r : Refusal). refuses r room) (same-refusal (ap (λ (y : Outcome (Result Score Refusal)). y.answer) (sym (refused-read g e) ∙ q)))
         go (gives-it key e o n) =
-            let w = ap (λ (y : Outcome Scored). y.answer) (sym (by_read _ e ∙ counted-given key) ∙ q) in
+            let w = ap (λ (y : Outcome (Result Score Refusal)). y.answer) (sym (by_read _ e ∙ counted-given key) ∙ q) in
             let s = key-scores key typed x.edition l known in
             absurd (no-refusal (sym w ∙ s.1))
 
     pub row-unchanged : after ≡ room
-    row-unchanged = ap (λ (y : Outcome Scored). y.output) (sym q ∙ refused-read f read-refused)
+    row-unchanged = ap (λ (y : Outcome (Result Score Refusal)). y.output) (sym q ∙ refused-read f read-refused)
 
 -- ---- of the call
 
@@ -176,34 +169,34 @@ module _ (x : Exercise) (typed file : List ℕ) (h : Held) (room : List ℕ) whe
 pub record Known (s typed file names t : List ℕ) (u : ℕ) (room : List ℕ) (c : Score) (after : List ℕ) : Type 0 where
   pub small : any_over s typed file names ≡ false
   pub exercise : Exercise
-  pub reads : read_as 2 s ≡ read.Read exercise
+  pub reads : read_as 2 s ≡ Ok exercise
   pub row : ℕ
-  pub found : row_read names t u (name_asked s exercise) ≡ found.Row row
+  pub found : row_read names t u (name_asked s exercise) ≡ Ok row
   pub fetched : KeyKnown exercise typed file (held_at t u row) room c after
 
 module _ (s typed file names t : List ℕ) (u : ℕ) (room : List ℕ) where
   -- the call's outcome
   pub data Either : Type 0 where
     too-long : any_over s typed file names ≡ true → scorer_of s typed file names t u room ≡ refuses_score TooLong room → Either
-    unread : (f : Refusal) → any_over s typed file names ≡ false → read_as 2 s ≡ read.Refused f → scorer_of s typed file names t u room ≡ refuses_score f room → Either
-    unfound : (f : Refusal) (x : Exercise) → any_over s typed file names ≡ false → read_as 2 s ≡ read.Read x → row_read names t u (name_asked s x) ≡ found.Refused f
+    unread : (f : Refusal) → any_over s typed file names ≡ false → read_as 2 s ≡ Err f → scorer_of s typed file names t u room ≡ refuses_score f room → Either
+    unfound : (f : Refusal) (x : Exercise) → any_over s typed file names ≡ false → read_as 2 s ≡ Ok x → row_read names t u (name_asked s x) ≡ Err f
         → scorer_of s typed file names t u room ≡ refuses_score f room → Either
-    row-found : (x : Exercise) (r : ℕ) → any_over s typed file names ≡ false → read_as 2 s ≡ read.Read x → row_read names t u (name_asked s x) ≡ found.Row r
+    row-found : (x : Exercise) (r : ℕ) → any_over s typed file names ≡ false → read_as 2 s ≡ Ok x → row_read names t u (name_asked s x) ≡ Ok r
         → scorer_of s typed file names t u room ≡ row_scored x typed file (held_at t u r) room → Either
 
   pub either : Either
   either = go (any_over s typed file names) refl (read_as 2 s) refl
     where
-      sought : (x : Exercise) → any_over s typed file names ≡ false → read_as 2 s ≡ read.Read x → (d : Found) → row_read names t u (name_asked s x) ≡ d → Either
-      sought x l q (found.Refused f) e = unfound f x l q e (sym (scorer-refused s typed file names t u room l f (sym (asked-unfound s names t u x q f e))))
-      sought x l q (found.Row r) e = row-found x r l q e (sym (scorer-row s typed file names t u room l x r (sym (asked-found s names t u x q r e))))
+      sought : (x : Exercise) → any_over s typed file names ≡ false → read_as 2 s ≡ Ok x → (d : Result ℕ Refusal) → row_read names t u (name_asked s x) ≡ d → Either
+      sought x l q (Err f) e = unfound f x l q e (sym (scorer-refused s typed file names t u room l f (sym (asked-unfound s names t u x q f e))))
+      sought x l q (Ok r) e = row-found x r l q e (sym (scorer-row s typed file names t u room l x r (sym (asked-found s names t u x q r e))))
 
-      go : (b : Bool) → any_over s typed file names ≡ b → (e : ExerciseRead) → read_as 2 s ≡ e → Either
+      go : (b : Bool) → any_over s typed file names ≡ b → (e : Result Exercise Refusal) → read_as 2 s ≡ e → Either
       go true l e q = too-long l (sym (scorer-long s typed file names t u room l))
-      go false l (read.Refused f) q = unread f l q (sym (scorer-refused s typed file names t u room l f (sym (asked-unread s names t u f q))))
-      go false l (read.Read x) q = sought x l q (row_read names t u (name_asked s x)) refl
+      go false l (Err f) q = unread f l q (sym (scorer-refused s typed file names t u room l f (sym (asked-unread s names t u f q))))
+      go false l (Ok x) q = sought x l q (row_read names t u (name_asked s x)) refl
 
-  pub known : (c : Score) (after : List ℕ) → scorer_of s typed file names t u room ≡ leaves (scored.Score c) after → Known s typed file names t u room c after
+  pub known : (c : Score) (after : List ℕ) → scorer_of s typed file names t u room ≡ leaves (Ok c) after → Known s typed file names t u room c after
   known c after q = go either
     where
       go : Either → Known s typed file names t u room c after
@@ -214,11 +207,11 @@ module _ (s typed file names t : List ℕ) (u : ℕ) (room : List ℕ) where
           record { small = l; exercise = x; reads = p; row = r; found = d; fetched = row-known x typed file (held_at t u r) room c after (sym e ∙ q) }
 
   -- a refusal leaves the room as it was
-  pub unchanged : (f : Refusal) (after : List ℕ) → scorer_of s typed file names t u room ≡ leaves (scored.Refused f) after → after ≡ room
+  pub unchanged : (f : Refusal) (after : List ℕ) → scorer_of s typed file names t u room ≡ leaves (Err f) after → after ≡ room
   unchanged f after q = go either
     where
       same-room : {g : Refusal} → scorer_of s typed file names t u room ≡ refuses_score g room → after ≡ room
-      same-room e = ap (λ (y : Outcome Scored). y.output) (sym q ∙ e)
+      same-room e = ap (λ (y : Outcome (Result Score Refusal)). y.output) (sym q ∙ e)
 
       go : Either → after ≡ room
       go (too-long l e) = same-room e

@@ -6,20 +6,17 @@
 -- `counted`: each count is how many places satisfy its rule. `fetched`: the key is what the exact read gives of the row that has the name, and stands at
 -- the front of the room; what is behind it stays. That a refusal leaves all of the room as it was is `unchanged` in Known.antt.
 -- `first-edition`, `second-edition`: tag 4 chooses the rule. `edition-rise`: from edition 1 to edition 2 the score never falls.
-use Rattle.std.specs.Prelude.{ℕ, ◌+◌, ◌-◌, ◌*◌, ◌/◌, ◌≤◌, ◌<◌, ◌≡◌, refl, List, [], ◌∷◌, ◌++◌, Bool, length, take, drop}
+use Rattle.std.specs.Prelude.{ℕ, ◌+◌, ◌-◌, ◌*◌, ◌/◌, ◌≤◌, ◌<◌, ◌≡◌, refl, List, [], ◌∷◌, ◌++◌, Bool, length, take, drop, Result, Ok}
 use Rattle.std.proofs.Common.{sym, ◌∙◌, arith, take_at}
 use Rattle.std.proofs.Math.Path.{ap}
-use Rattle.output.specs.declared.Written.{Written}
+use Rattle.refusal.specs.declared.Refusal.{Refusal}
 use Rattle.output.specs.Outcome.{Outcome, leaves, gives}
 use Rattle.table.specs.Rows.{held_at}
-use Rattle.index.specs.declared.Found.TheVariants as found
 use Rattle.index.specs.Find.{row_read}
 use Rattle.region.specs.Exact.{exact_read}
 use Rattle.exercise.specs.declared.Exercise.{Exercise}
-use Rattle.exercise.specs.declared.ExerciseRead.TheVariants as read
 use Rattle.exercise.specs.Reading.{read_as}
 use Rattle.scoring.specs.declared.Score.{Score}
-use Rattle.scoring.specs.declared.Scored.TheVariants as scored
 use Rattle.scoring.specs.Rules.{same, lies}
 use Rattle.scoring.specs.Places.{right_of, wrong_of, missing_of, surplus_of, tenths_of, score_by}
 use Rattle.scoring.specs.Laws as counts
@@ -31,7 +28,7 @@ use Rattle.scorer.specs.Known.{rule_of, KeyKnown, Known, known}
 abbrev pub asked_by : Exercise → ℕ
 asked_by x = x.end - x.start + 1
 
-read_same : {x y : Exercise} → read.Read x ≡ read.Read y → x ≡ y
+read_same : {x y : Exercise} → ◌≡◌ {A = Result Exercise Refusal} (Ok x) (Ok y) → x ≡ y
 read_same q = cc
 
 -- the score by the counts of a key
@@ -40,8 +37,8 @@ unfolding score_by tenths_of
 by_key rule key typed z = sym (counts.tenths-some (right_of rule key typed) (length key + surplus_of key typed) (λ e. omega arith))
 
 -- a score of an exercise
-module _ (s typed file names t : List ℕ) (u : ℕ) (room : List ℕ) (x : Exercise) (reads : read_as 2 s ≡ read.Read x) (c : Score) (after : List ℕ)
-    (q : scorer_of s typed file names t u room ≡ leaves (scored.Score c) after) where
+module _ (s typed file names t : List ℕ) (u : ℕ) (room : List ℕ) (x : Exercise) (reads : read_as 2 s ≡ Ok x) (c : Score) (after : List ℕ)
+    (q : scorer_of s typed file names t u room ≡ leaves (Ok c) after) where
   k : Known s typed file names t u room c after
   k = known s typed file names t u room c after q
 
@@ -51,7 +48,7 @@ module _ (s typed file names t : List ℕ) (u : ℕ) (room : List ℕ) (x : Exer
   -- its key, as the exact read of the row that has its name gives it
   pub record Fetched : Type 0 where
     pub row : ℕ
-    pub found : row_read names t u (name_asked s x) ≡ found.Row row
+    pub found : row_read names t u (name_asked s x) ≡ Ok row
     pub key : List ℕ
     pub read : exact_read file t u row (first x) (last x) room ≡ gives key room
     pub in_order : x.start ≤ x.end
@@ -63,7 +60,7 @@ module _ (s typed file names t : List ℕ) (u : ℕ) (room : List ℕ) (x : Exer
   unfolding exact_read
   fetched = go k.exercise it k.found k.fetched
     where
-      go : (y : Exercise) → y ≡ x → row_read names t u (name_asked s y) ≡ found.Row k.row → KeyKnown y typed file (held_at t u k.row) room c after → Fetched
+      go : (y : Exercise) → y ≡ x → row_read names t u (name_asked s y) ≡ Ok k.row → KeyKnown y typed file (held_at t u k.row) room c after → Fetched
       go y e d w =
           let v : KeyKnown x typed file (held_at t u k.row) room c after = rw e at w in
           record { row = k.row; found = rw e at d; key = v.key; read = v.read; in_order = v.in_order; all = v.all; left = v.left; counts = v.counts }
@@ -102,19 +99,19 @@ module _ (s typed file names t : List ℕ) (u : ℕ) (room : List ℕ) (x : Exer
 
 -- ---- two calls
 
-row_same : {a b : ℕ} → found.Row a ≡ found.Row b → a ≡ b
+row_same : {a b : ℕ} → ◌≡◌ {A = Result ℕ Refusal} (Ok a) (Ok b) → a ≡ b
 row_same q = cc
 
 -- what a read gives is given once
 gives_same : (a b room : List ℕ) → gives a room ≡ gives b room → length a ≡ length b → a ≡ b
 gives_same a b room q n =
     sym (take_at a (drop (length a) room) (length a) refl)
-    ∙ (ap (take (length a)) (ap (λ (o : Outcome Written). o.output) q) ∙ take_at b (drop (length b) room) (length a) (sym n))
+    ∙ (ap (take (length a)) (ap (λ (o : Outcome (Result ℕ Refusal)). o.output) q) ∙ take_at b (drop (length b) room) (length a) (sym n))
 
 -- if no more was typed than asked, leaving out the last typed base never raises the score
-pub left_out : (s typed : List ℕ) (b : ℕ) (file names t : List ℕ) (u : ℕ) (room : List ℕ) (x : Exercise) → read_as 2 s ≡ read.Read x → length typed < asked_by x
-    → (c d : Score) (after after' : List ℕ) → scorer_of s typed file names t u room ≡ leaves (scored.Score c) after
-    → scorer_of s (typed ++ (b ∷ [])) file names t u room ≡ leaves (scored.Score d) after' → (c.right ≤ d.right) × (c.score ≤ d.score)
+pub left_out : (s typed : List ℕ) (b : ℕ) (file names t : List ℕ) (u : ℕ) (room : List ℕ) (x : Exercise) → read_as 2 s ≡ Ok x → length typed < asked_by x
+    → (c d : Score) (after after' : List ℕ) → scorer_of s typed file names t u room ≡ leaves (Ok c) after
+    → scorer_of s (typed ++ (b ∷ [])) file names t u room ≡ leaves (Ok d) after' → (c.right ≤ d.right) × (c.score ≤ d.score)
 unfolding score_by
 left_out s typed b file names t u room x reads short c d after after' p q =
     let f = fetched s typed file names t u room x reads c after p in
@@ -125,10 +122,10 @@ left_out s typed b file names t u room x reads short c d after after' p q =
     rw (f.counts, g.counts, ← e) (rules.left_out (rule_of x.edition) f.key typed b (omega (arith, f.all)))
 
 -- two exercises that ask the same, the one by edition 1, the other by edition 2: neither the right places nor the score fall
-pub edition-rise : (s s' typed file names t : List ℕ) (u : ℕ) (room : List ℕ) (x y : Exercise) → read_as 2 s ≡ read.Read x → read_as 2 s' ≡ read.Read y
+pub edition-rise : (s s' typed file names t : List ℕ) (u : ℕ) (room : List ℕ) (x y : Exercise) → read_as 2 s ≡ Ok x → read_as 2 s' ≡ Ok y
     → x.edition ≡ 1 → y.edition ≡ 2 → name_asked s x ≡ name_asked s' y → x.start ≡ y.start → x.end ≡ y.end
-    → (c d : Score) (after after' : List ℕ) → scorer_of s typed file names t u room ≡ leaves (scored.Score c) after
-    → scorer_of s' typed file names t u room ≡ leaves (scored.Score d) after' → (c.right ≤ d.right) × (c.score ≤ d.score)
+    → (c d : Score) (after after' : List ℕ) → scorer_of s typed file names t u room ≡ leaves (Ok c) after
+    → scorer_of s' typed file names t u room ≡ leaves (Ok d) after' → (c.right ≤ d.right) × (c.score ≤ d.score)
 unfolding score_by
 edition-rise s s' typed file names t u room x y reads reads' one two named start end c d after after' p q =
     let f = fetched s typed file names t u room x reads c after p in

@@ -12,40 +12,30 @@ ghost use Rattle.table.specs.Numbers.{numbers_in};
 ghost use Rattle.table.specs.Rows.{held_of};
 ghost use Rattle.scorer.specs.Scorer.{any_over, name_asked, asked_of, row_scored, scorer_of};
 
-use exercise::{Exercise, ExerciseRead};
-use index::Found;
-use output::Written;
-use record::Position;
+use exercise::Exercise;
+use record::{Position, Record};
 use refusal::Refusal;
-use region::Bound;
-use scoring::Scored;
-use table::InUse;
-
-// What is asked: an exercise, and the row of its sequence; or why not.
-#[derive(Clone, Copy)]
-enum Asked {
-    Row(Exercise, usize),
-    Refused(Refusal),
-}
+use scoring::Score;
 
 // Is one of the lent inputs over the limit.
+#[tactic(auto, unfolding(crate::specs::Scorer::any_over))]
 fn any_over(exercise: &[u8], typed: &[u8], file: &[u8], names: &[u8]) -> bool
     ensures { result ≡ any_over exercise.now typed.now file.now names.now }
 {
-    if refusal::over_limit(exercise.len()) {
-        return true;
-    }
-    if refusal::over_limit(typed.len()) {
-        return true;
-    }
-    if refusal::over_limit(file.len()) {
-        return true;
-    }
-    refusal::over_limit(names.len())
+    refusal::over_limit(exercise.len())
+        || refusal::over_limit(typed.len())
+        || refusal::over_limit(file.len())
+        || refusal::over_limit(names.len())
 }
 
 // The row of the sequence that an exercise names.
-fn find_row(exercise: &[u8], x: Exercise, names: &[u8], table: &[u8], in_use: usize) -> Found
+fn find_row(
+    exercise: &[u8],
+    x: Exercise,
+    names: &[u8],
+    table: &[u8],
+    in_use: usize,
+) -> Result<usize, Refusal>
     requires { x.name_start + x.name_length ≤ length exercise.now }
     ensures { result ≡ row_read names.now (numbers_in table.now) in_use (name_asked exercise.now x) }
 {
@@ -55,29 +45,33 @@ fn find_row(exercise: &[u8], x: Exercise, names: &[u8], table: &[u8], in_use: us
 }
 
 // What an exercise asks: 31 to 33, then 25 and 15.
-fn asked_row(exercise: &[u8], names: &[u8], table: &[u8], in_use: usize) -> Asked
+fn asked_row(
+    exercise: &[u8],
+    names: &[u8],
+    table: &[u8],
+    in_use: usize,
+) -> Result<(Exercise, usize), Refusal>
     ensures { result ≡ asked_of exercise.now names.now (numbers_in table.now) in_use }
 {
-    match exercise::read_exercise(exercise) {
-        ExerciseRead::Refused(f) => Asked::Refused(f),
-        ExerciseRead::Read(x) => match find_row(exercise, x, names, table, in_use) {
-            Found::Refused(f) => Asked::Refused(f),
-            Found::Row(row) => Asked::Row(x, row),
-        },
-    }
+    let x = exercise::read_exercise(exercise)?;
+    let row = find_row(exercise, x, names, table, in_use)?;
+    Ok((x, row))
 }
 
 // Reads the key of an exercise from a row into the room, and counts what was typed against it.
-fn score_row(x: Exercise, typed: &[u8], file: &[u8], row: InUse, room: &mut [u8]) -> Scored
+fn score_row(
+    x: Exercise,
+    typed: &[u8],
+    file: &[u8],
+    row: Result<(usize, Record), Refusal>,
+    room: &mut [u8],
+) -> Result<Score, Refusal>
     ensures { leaves result room.new ≡ row_scored x typed.now file.now (held_of row) room.old }
 {
-    let start = Bound::Given(Position(x.start));
-    let end = Bound::Given(Position(x.end));
-    let read = region::read_exact(file, row, start, end, room);
-    match read {
-        Written::Refused(f) => Scored::Refused(f),
-        Written::Bytes(n) => scoring::score_key(&room[..n], typed, x.edition),
-    }
+    let start = Some(Position(x.start));
+    let end = Some(Position(x.end));
+    let n = region::read_exact(file, row, start, end, room)?;
+    scoring::score_key(&room[..n], typed, x.edition)
 }
 
 // The whole, from the bytes of an exercise to a score. Names are spans of `names`; the table is lent as bytes.
@@ -89,20 +83,13 @@ pub fn score_exercise(
     table: &[u8],
     in_use: usize,
     room: &mut [u8],
-) -> Scored
+) -> Result<Score, Refusal>
     ensures { leaves result room.new ≡ scorer_of exercise.now typed.now file.now names.now (numbers_in table.now) in_use room.old }
 {
     if any_over(exercise, typed, file, names) {
-        return Scored::Refused(Refusal::TooLong);
+        return Err(Refusal::TooLong);
     }
-    match asked_row(exercise, names, table, in_use) {
-        Asked::Refused(f) => Scored::Refused(f),
-        Asked::Row(x, row) => score_row(
-            x,
-            typed,
-            file,
-            table::bytes::row(table, in_use, row),
-            room,
-        ),
-    }
+    let (x, row) = asked_row(exercise, names, table, in_use)?;
+    let held = table::bytes::row(table, in_use, row);
+    score_row(x, typed, file, held, room)
 }

@@ -1,6 +1,6 @@
 -- Laws of counting.
 use Rattle.std.specs.Prelude.{ℕ, zero, suc, ◌+◌, ◌-◌, ◌≤◌, ◌<◌, ◌≡◌, refl, Bool, true, false, not, List, ltb, get_or}
-use Rattle.std.proofs.Common.{ap, add-zero, add-suc, zero-add, add-one, arith, ltb-true, ltb-false}
+use Rattle.std.proofs.Common.{sym, ap, add-zero, add-suc, zero-add, add-one, arith, ltb-true, ltb-false}
 use Rattle.letters.specs.Sets.{bit, bit-lt}
 use Rattle.scoring.specs.Places.{count_below}
 
@@ -104,6 +104,13 @@ counted-as f g h at n r e d c = record { counts = omega (arith, count-as f g h a
 
 unfoldable pub agrees : (ℕ → ℕ → Bool) → List ℕ → List ℕ → ℕ → Bool
 agrees rule key typed p = rule (get_or key p 0) (get_or typed p 0)
+
+-- where a look tells all places, what it takes for right is right by the rule
+pub counted-sound : (look rule tells : ℕ → ℕ → Bool) → ((k t : ℕ) → tells k t ≡ true → look k t ≡ rule k t)
+    → (key typed : List ℕ) (at n r : ℕ) → Counted (agrees tells key typed) at n n → Counted (agrees look key typed) at n r → Counted (agrees rule key typed) at n r
+unfolding agrees
+counted-sound look rule tells e key typed at n r =
+    counted-as (agrees look key typed) (agrees rule key typed) (agrees tells key typed) at n r (λ p h. sym (e (get_or key p 0) (get_or typed p 0) h))
 
 pub counted-front : (f : ℕ → Bool) (n r : ℕ) → Counted f 0 n r → r ≡ count_below f n
 counted-front f n r c = omega (arith, rw (zero-add n) at c.counts, count_none f)

@@ -1,5 +1,6 @@
 pub mod Rules
 pub mod Places
+pub mod Tables
 pub mod Counting
 pub mod RuleLaws
 pub mod Laws

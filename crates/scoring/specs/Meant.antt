@@ -1,12 +1,12 @@
 -- Where edition 2 is told by the letter that the key means: its own, or the typed one where the key has N. T and U are one letter.
-use Rattle.std.specs.Prelude.{ℕ, ◌<◌, ◌≡◌, refl, Bool, true, false, cond, not, ◌&&◌, ◌||◌, List, [], ◌∷◌, T, eqb, ltb, leb, get_or}
+use Rattle.std.specs.Prelude.{ℕ, ◌<◌, ◌≡◌, refl, Bool, true, false, cond, not, ◌&&◌, ◌||◌, List, [], ◌∷◌, T, eqb, ltb, leb}
 use Rattle.std.proofs.Common.{sym, true≢false, ltb-true, eqb-true}
 use Rattle.std.specs.Int.Bits.{bit_or, bit_xor}
 use Rattle.letters.specs.Letters.{set_of}
 use Rattle.letters.specs.Sets.{bit, inside}
 use Rattle.scoring.specs.Rules.{folded, same, coded, lies}
 use Rattle.scoring.specs.RuleLaws.{holds, holds_at}
-use Rattle.scoring.specs.Counting.{Counted, agrees, counted-as}
+use Rattle.scoring.specs.Counting.{Counted, agrees, counted-sound}
 use Rattle.scoring.specs.Theorems.{among, all-at, beq, beq_same}
 
 -- the letter that the key's means, in lower case
@@ -82,5 +82,4 @@ clear-fits k t h = go (is_clear (meant k t)) refl (ltb k 256) refl (ltb t 256) r
 
 -- a part that is clear all along: right by edition 2 is what fits
 pub counted-clear : (key typed : List ℕ) (at n r : ℕ) → Counted (agrees clear key typed) at n n → Counted (agrees fits key typed) at n r → Counted (agrees lies key typed) at n r
-unfolding agrees
-counted-clear key typed at n r h c = counted-as (agrees fits key typed) (agrees lies key typed) (agrees clear key typed) at n r (λ p e. sym (clear-fits (get_or key p 0) (get_or typed p 0) e)) h c
+counted-clear = counted-sound fits lies clear clear-fits

@@ -1,12 +1,11 @@
 -- The counts of a key and what was typed, for any rule of what is right, each by a rule of its own over places; and the score.
-use Rattle.std.specs.Prelude.{ℕ, zero, suc, ◌+◌, ◌*◌, ◌/◌, Bool, cond, not, ◌&&◌, List, eqb, ltb, length, get_or}
+use Rattle.std.specs.Prelude.{ℕ, zero, suc, ◌+◌, ◌*◌, ◌/◌, Bool, cond, not, ◌&&◌, List, eqb, ltb, length, get_or, Result, Ok, Err}
+use Rattle.refusal.specs.declared.Refusal.{Refusal}
 use Rattle.refusal.specs.Numbers.{over_limit}
 use Rattle.refusal.specs.declared.Refusal.TheVariants.{TooLong, UnknownEdition}
 use Rattle.letters.specs.Sets.{bit}
 use Rattle.scoring.specs.Rules.{same, lies}
 use Rattle.scoring.specs.declared.Score.{Score}
-use Rattle.scoring.specs.declared.Scored.{Scored}
-use Rattle.scoring.specs.declared.Scored.TheVariants as is
 
 -- how many of the numbers below n pass a test
 unfoldable pub count_below : (ℕ → Bool) → ℕ → ℕ
@@ -62,12 +61,12 @@ score_by rule key typed = record {
 }
 
 -- the call with a key that was fetched: 1 for what was typed, then 33
-unfoldable pub key_scored : List ℕ → List ℕ → ℕ → Scored
+unfoldable pub key_scored : List ℕ → List ℕ → ℕ → Result Score Refusal
 key_scored key typed edition =
-    cond (over_limit (length typed)) (is.Refused TooLong)
-    (cond (eqb edition 1) (is.Score (score_by same key typed))
-    (cond (eqb edition 2) (is.Score (score_by lies key typed)) (is.Refused (UnknownEdition 0))))
+    cond (over_limit (length typed)) (Err TooLong)
+    (cond (eqb edition 1) (Ok (score_by same key typed))
+    (cond (eqb edition 2) (Ok (score_by lies key typed)) (Err (UnknownEdition 0))))
 
 -- the call with a key that is lent: 1 for it first
-unfoldable pub scored_as : List ℕ → List ℕ → ℕ → Scored
-scored_as key typed edition = cond (over_limit (length key)) (is.Refused TooLong) (key_scored key typed edition)
+unfoldable pub scored_as : List ℕ → List ℕ → ℕ → Result Score Refusal
+scored_as key typed edition = cond (over_limit (length key)) (Err TooLong) (key_scored key typed edition)

@@ -1,6 +1,6 @@
 -- Bytes by their bits. Eight bytes are turned to eight planes, of which plane i has bit i of all eight, by swapping parts of two bytes.
 use Prim.Native.Nat.{ℕ, zero, suc, ◌+◌, ◌-◌, ◌*◌, ◌/◌, ◌%◌, ◌^◌, ◌≤◌, ◌<◌, min, max}
-use Rattle.std.specs.Prelude.{◌≡◌, Bool, not, ◌&&◌, ◌||◌, T}
+use Rattle.std.specs.Prelude.{◌≡◌, ◌⊎◌, Bool, not, ◌&&◌, ◌||◌, T}
 use Rattle.std.proofs.Math.Path.{refl, ap, ap₂}
 use Rattle.std.proofs.Common.{sym, ◌∙◌, pow-suc, add-zero, add-suc, mul_assoc, mul-one, add-one}
 use Rattle.std.proofs.Math.Bool.{true, false, cond, xor}
@@ -178,6 +178,10 @@ swap-one a b =
     let t = bit_and (bit_xor (a / 2) b) 85 in
     let e : t * 2 % 256 ≡ t * 2 ^ 1 = omega (arith, and_le_r (bit_xor (a / 2) b) 85) in
     swapped 1 85 a b (a / 2) (t * 2 % 256) (λ i. rw (add-one i)) (λ i h. ap (bit_at i) e ∙ left-none 1 i t h) (λ i h. ap (bit_at i) e ∙ left-some 1 i t h) (mask_at 1 85 tt) (first-at 1 tt) (later-at 1 85 tt)
+
+-- halves, quarters or bits, and the even ones of a byte
+abbrev pub AreParts : ℕ → ℕ → Type 0
+AreParts s m = ((s ≡ 4) × (m ≡ 15)) ⊎ (((s ≡ 2) × (m ≡ 51)) ⊎ ((s ≡ 1) × (m ≡ 85)))
 
 -- ---- how many bits are set
 

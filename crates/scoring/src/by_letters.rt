@@ -1,9 +1,12 @@
 // Looks at places by their letters alone, and by the letters that the key means: where these tell edition 2, no set of bases is looked up.
-ghost use Rattle.std.specs.Prelude.{◌≡◌, ◌+◌, ◌≤◌, length};
+ghost use Rattle.std.specs.Prelude.{◌≡◌, ℕ, Bool, true, ◌+◌, ◌≤◌, length};
 ghost use Rattle.letters.specs.Sets.{bit};
-ghost use Rattle.scoring.specs.Plain.{is_lone, is_uracil, alike, told};
-ghost use Rattle.scoring.specs.Meant.{is_clear, is_thymine, meant, clear, fits};
+ghost use Rattle.scoring.specs.Rules.{lies};
+ghost use Rattle.scoring.specs.Plain.{is_lone, is_uracil, alike, told, told-alike};
+ghost use Rattle.scoring.specs.Meant.{is_clear, is_thymine, meant, clear, fits, clear-fits};
 ghost use Rattle.scoring.specs.Counting.{Counted, agrees};
+
+use crate::places::Places;
 
 // What is seen of some places: how many are right if all of them are told, and how many are told.
 #[derive(Clone, Copy)]
@@ -82,39 +85,75 @@ fn fits_bit(k: u8, t: u8) -> u8
     (x ^ (t | 32) <= is_thymine(x) as u8) as u8
 }
 
-// How many of some places are right if all are told by the letters alone, and how many are told: of `ACGN` and typed `acTa` two and three.
-// Both are counted in one loop, in bytes, so that the compiler counts 32 places at once; 224 is the most times 32 that a byte holds.
-pub(crate) fn alike_in(key: &[u8], typed: &[u8], at: usize, n: usize) -> Seen
-    requires { (n ≤ 224) × (at + n ≤ length key.now) × (at + n ≤ length typed.now) }
-    ensures { Counted (agrees alike key.now typed.now) at n result.right × Counted (agrees told key.now typed.now) at n result.told }
-{
-    let mut right: u8 = 0;
-    let mut told: u8 = 0;
-    let mut j = 0;
-    while j < n {
-        let k = key[at + j];
-        let t = typed[at + j];
-        right = right + alike_bit(k, t);
-        told = told + told_bit(k, t);
-        j += 1;
-    }
-    Seen { right, told }
+// A look at single places that tells edition 2 at some of them.
+pub(crate) trait Look {
+    ghost right: { ℕ → ℕ → Bool };
+
+    ghost tells: { ℕ → ℕ → Bool };
+
+    // Is what was typed right if the look tells it, as a number.
+    fn right_bit(k: u8, t: u8) -> u8
+        ensures { result ≡ bit (right k t) };
+
+    // Does the look tell it, as a number.
+    fn told_bit(k: u8, t: u8) -> u8
+        ensures { result ≡ bit (tells k t) };
+
+    ghost sound: { (k t : ℕ) → tells k t ≡ true → right k t ≡ lies k t };
 }
 
-// The same by the letters that the key means: of `ACGN` and typed `acTa` three and four.
-pub(crate) fn fits_in(key: &[u8], typed: &[u8], at: usize, n: usize) -> Seen
-    requires { (n ≤ 224) × (at + n ≤ length key.now) × (at + n ≤ length typed.now) }
-    ensures { Counted (agrees fits key.now typed.now) at n result.right × Counted (agrees clear key.now typed.now) at n result.told }
+// By the letters alone.
+pub(crate) struct ByLetter;
+
+// By the letters that the key means.
+pub(crate) struct ByMeaning;
+
+impl Look for ByLetter {
+    ghost right = { alike };
+
+    ghost tells = { told };
+
+    ghost sound = { told-alike };
+
+    fn right_bit(k: u8, t: u8) -> u8 {
+        alike_bit(k, t)
+    }
+
+    fn told_bit(k: u8, t: u8) -> u8 {
+        told_bit(k, t)
+    }
+}
+
+impl Look for ByMeaning {
+    ghost right = { fits };
+
+    ghost tells = { clear };
+
+    ghost sound = { clear-fits };
+
+    fn right_bit(k: u8, t: u8) -> u8 {
+        fits_bit(k, t)
+    }
+
+    fn told_bit(k: u8, t: u8) -> u8 {
+        clear_bit(k, t)
+    }
+}
+
+// How many of some places are right if all are told, and how many are told: of `ACGN` and typed `acTa` two and three by the letters alone, three
+// and four by those that the key means. Both are counted in one loop, in bytes, so that the compiler counts 32 places at once; 224 is the most
+// times 32 that a byte holds.
+pub(crate) fn seen_in<L: Look>(places: &Places, at: usize, n: usize) -> Seen
+    requires { (n ≤ 224) × (at + n ≤ length places.now.key.now) }
+    ensures { Counted (agrees L.right places.now.key.now places.now.typed.now) at n result.right × Counted (agrees L.tells places.now.key.now places.now.typed.now) at n result.told }
 {
     let mut right: u8 = 0;
     let mut told: u8 = 0;
-    let mut j = 0;
-    while j < n {
-        let k = key[at + j];
-        let t = typed[at + j];
-        right = right + fits_bit(k, t);
-        told = told + clear_bit(k, t);
-        j += 1;
+    for j in 0..n {
+        let k = places.key[at + j];
+        let t = places.typed[at + j];
+        right += L::right_bit(k, t);
+        told += L::told_bit(k, t);
     }
     Seen { right, told }
 }

@@ -11,6 +11,8 @@ ghost use Rattle.scoring.specs.Open.{is_single, near, hit, is_open};
 ghost use Rattle.scoring.specs.Lanes.{IsLanes, sum_to};
 ghost use Rattle.scoring.specs.Bits.{place, word_at};
 
+use crate::places::Places;
+
 // What the lanes have: how many of their places are right and settled, and the bits of their open places, the first block's the lowest.
 #[derive(Clone, Copy)]
 pub(crate) struct Lanes {
@@ -41,33 +43,21 @@ fn open_bit(x: u8) -> u8
 
 // The lanes of some blocks, from the last to the first: of the key `ACRT` and typed `ACGU`, in one block, the lanes 0 to 3 have 1, 1, 0 and 1
 // right, and 0, 0, 1 and 0 open.
-pub(crate) fn lanes_in(key: &[u8], typed: &[u8], at: usize, blocks: usize) -> Lanes
-    requires { (blocks ≤ 7) × (at + 32 * blocks ≤ length key.now) × (at + 32 * blocks ≤ length typed.now) }
-    ensures { IsLanes (agrees hit key.now typed.now) 1 at blocks result.right × IsLanes (agrees is_open key.now typed.now) 2 at blocks result.opens }
+pub(crate) fn lanes_in(places: &Places, at: usize, blocks: usize) -> Lanes
+    requires { (blocks ≤ 7) × (at + 32 * blocks ≤ length places.now.key.now) }
+    ensures { IsLanes (agrees hit places.now.key.now places.now.typed.now) 1 at blocks result.right × IsLanes (agrees is_open places.now.key.now places.now.typed.now) 2 at blocks result.opens }
 {
     let mut right = [0u8; 32];
     let mut opens = [0u8; 32];
-    let mut b = blocks;
-    while 0 < b {
-        b -= 1;
+    for b in (0..blocks).rev() {
         let q = at + 32 * b;
-        let mut l = 0;
-        while l < 32 {
-            let x = key[q + l] | 32;
-            right[l] = right[l] + hit_bit(x, typed[q + l]);
-            opens[l] = opens[l] + opens[l] + open_bit(x);
-            l += 1;
+        for l in 0..32 {
+            let x = places.key[q + l] | 32;
+            right[l] += hit_bit(x, places.typed[q + l]);
+            opens[l] = opens[l] * 2 + open_bit(x);
         }
     }
     Lanes { right, opens }
-}
-
-// A byte more below a number.
-fn push(x: u64, b: u8) -> u64
-    requires { x < 72057594037927936 }
-    ensures { (result ≡ x * 256 + b) × (result < x * 256 + 256) }
-{
-    x * 256 + b as u64
 }
 
 // The number of eight lanes, the first being the lowest byte.
@@ -75,10 +65,16 @@ pub(crate) fn word(lanes: &[u8; 32], w: usize) -> u64
     requires { w + 8 ≤ 32 }
     ensures { result ≡ word_at lanes.now w }
 {
-    let two = push(push(0, lanes[w + 7]), lanes[w + 6]);
-    let four = push(push(two, lanes[w + 5]), lanes[w + 4]);
-    let six = push(push(four, lanes[w + 3]), lanes[w + 2]);
-    push(push(six, lanes[w + 1]), lanes[w])
+    u64::from_le_bytes([
+        lanes[w],
+        lanes[w + 1],
+        lanes[w + 2],
+        lanes[w + 3],
+        lanes[w + 4],
+        lanes[w + 5],
+        lanes[w + 6],
+        lanes[w + 7],
+    ])
 }
 
 // The sum of the lanes, each of which is 7 at most: 256 is one more than 255, so the rest by 255 is the sum of bytes.
@@ -87,10 +83,8 @@ pub(crate) fn total(lanes: &[u8; 32]) -> usize
     ensures { result ≡ sum_to (λ i. get_or lanes.now i 0) 32 }
 {
     let mut x: u64 = 0;
-    let mut i = 0;
-    while i < 4 {
-        x = x + word(lanes, 8 * i);
-        i += 1;
+    for i in 0..4 {
+        x += word(lanes, 8 * i);
     }
     (x % 255) as usize
 }

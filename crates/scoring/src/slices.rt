@@ -7,9 +7,11 @@
 ghost use Rattle.std.specs.Prelude.{◌≡◌, ℕ, ◌+◌, ◌*◌, ◌≤◌, ◌<◌, length, get_or};
 ghost use Rattle.scoring.specs.Rules.{lies};
 ghost use Rattle.scoring.specs.Counting.{Counted, agrees};
-ghost use Rattle.scoring.specs.Planes.{Swapped};
+ghost use Rattle.scoring.specs.Planes.{Swapped, AreParts};
 ghost use Rattle.scoring.specs.Turning.{row, Turned};
 ghost use Rattle.scoring.specs.Slices.{Gated, IsSets, IsLane};
+
+use crate::places::Places;
 
 // Two bytes.
 #[derive(Clone, Copy)]
@@ -49,36 +51,22 @@ pub(crate) struct Cut {
     pub(crate) coded: u8,
 }
 
-// Swaps the upper half of the first byte and the lower half of the second: of 0x21 and 0x43 it makes 0x31 and 0x42. The halves that differ are
-// the bits to change in both.
-fn swap_four(a: u8, b: u8) -> Pair
-    ensures { Swapped 4 a b result.low result.high }
-{
-    let t = (a >> 4 ^ b) & 15;
-    Pair {
-        low: a ^ t << 4,
-        high: b ^ t,
-    }
-}
+// The even halves of a byte, its even quarters, and its even bits: the lower ones.
+const HALVES: u8 = 15;
 
-// The same with parts of two bits: the odd ones of the first byte, and the even ones of the second.
-fn swap_two(a: u8, b: u8) -> Pair
-    ensures { Swapped 2 a b result.low result.high }
-{
-    let t = (a >> 2 ^ b) & 51;
-    Pair {
-        low: a ^ t << 2,
-        high: b ^ t,
-    }
-}
+const QUARTERS: u8 = 51;
 
-// The same with bits.
-fn swap_one(a: u8, b: u8) -> Pair
-    ensures { Swapped 1 a b result.low result.high }
+const BITS: u8 = 85;
+
+// Swaps the odd parts of the first byte and the even ones of the second. A part has S bits, and M has the even ones. Of 0x21 and 0x43 it makes
+// 0x31 and 0x42 by halves. The parts that differ are the bits to change in both.
+fn swap<const S: u32, const M: u8>(a: u8, b: u8) -> Pair
+    requires { AreParts S M }
+    ensures { Swapped S a b result.low result.high }
 {
-    let t = (a >> 1 ^ b) & 85;
+    let t = (a >> S ^ b) & M;
     Pair {
-        low: a ^ t << 1,
+        low: a ^ t << S,
         high: b ^ t,
     }
 }
@@ -87,18 +75,18 @@ fn swap_one(a: u8, b: u8) -> Pair
 fn turned(x: Eight) -> Eight
     ensures { Turned (row x.p0 x.p1 x.p2 x.p3 x.p4 x.p5 x.p6 x.p7) (row result.p0 result.p1 result.p2 result.p3 result.p4 result.p5 result.p6 result.p7) }
 {
-    let a = swap_four(x.p0, x.p4);
-    let b = swap_four(x.p1, x.p5);
-    let c = swap_four(x.p2, x.p6);
-    let d = swap_four(x.p3, x.p7);
-    let e = swap_two(a.low, c.low);
-    let f = swap_two(b.low, d.low);
-    let g = swap_two(a.high, c.high);
-    let h = swap_two(b.high, d.high);
-    let i = swap_one(e.low, f.low);
-    let j = swap_one(e.high, f.high);
-    let k = swap_one(g.low, h.low);
-    let l = swap_one(g.high, h.high);
+    let a = swap::<4, HALVES>(x.p0, x.p4);
+    let b = swap::<4, HALVES>(x.p1, x.p5);
+    let c = swap::<4, HALVES>(x.p2, x.p6);
+    let d = swap::<4, HALVES>(x.p3, x.p7);
+    let e = swap::<2, QUARTERS>(a.low, c.low);
+    let f = swap::<2, QUARTERS>(b.low, d.low);
+    let g = swap::<2, QUARTERS>(a.high, c.high);
+    let h = swap::<2, QUARTERS>(b.high, d.high);
+    let i = swap::<1, BITS>(e.low, f.low);
+    let j = swap::<1, BITS>(e.high, f.high);
+    let k = swap::<1, BITS>(g.low, h.low);
+    let l = swap::<1, BITS>(g.high, h.high);
     Eight {
         p0: i.low,
         p1: i.high,
@@ -172,18 +160,19 @@ fn letters_of(s: &[u8], q: usize) -> Eight
 }
 
 // All lanes of 128 places.
-pub(crate) fn cut_at(key: &[u8], typed: &[u8], at: usize) -> Cut
-    requires { (at + 128 ≤ length key.now) × (at + 128 ≤ length typed.now) }
-    ensures { result.coded ≡ 255 → Counted (agrees lies key.now typed.now) at 128 result.right }
+pub(crate) fn cut_at(places: &Places, at: usize) -> Cut
+    requires { at + 128 ≤ length places.now.key.now }
+    ensures { result.coded ≡ 255 → Counted (agrees lies places.now.key.now places.now.typed.now) at 128 result.right }
 {
     let mut right: u8 = 0;
     let mut coded: u8 = 255;
-    let mut l = 0;
-    while l < 16 {
-        let x = lane(letters_of(key, at + l), letters_of(typed, at + l));
-        right = right + x.right;
-        coded = coded & x.coded;
-        l += 1;
+    for l in 0..16 {
+        let x = lane(
+            letters_of(places.key, at + l),
+            letters_of(places.typed, at + l),
+        );
+        right += x.right;
+        coded &= x.coded;
     }
     Cut { right, coded }
 }

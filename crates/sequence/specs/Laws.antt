@@ -1,7 +1,7 @@
 -- Laws of the scanning rule: how the bytes at a place decide a scan from there.
-use Prim.Native.Nat.{ℕ, zero, suc, ◌+◌, ◌-◌, ◌≤◌, ◌<◌}
+use Prim.Native.Nat.{ℕ, zero, suc, ◌+◌, ◌-◌, min, ◌≤◌, ◌<◌}
 use Rattle.std.proofs.Math.Path.{◌≡◌, refl, ap}
-use Rattle.std.proofs.Common.{sym, ◌∙◌, drop_of_length-le, length-drop, take-append-drop, length-append, length-take, drop-cons, take-take, length-take-le, arith, zero-add, add_assoc}
+use Rattle.std.proofs.Common.{sym, ◌∙◌, drop_of_length-le, length-drop, take-append-drop, length-append, length-take, drop-cons, take-take, length-take-le, arith, zero-add, add_assoc, Result, Ok}
 use mathlib.Core.List.{List, [], ◌∷◌, ◌++◌, append-nil, append_assoc}
 use Rattle.std.specs.Prelude.{Bool, take, drop, get_or}
 use Rattle.std.proofs.Math.Bool.{true, false, cond}
@@ -13,19 +13,26 @@ use Rattle.std.proofs.Math.Dec.{eqb, leb, leb-suc-zero}
 use borrow.Author.Tests.{eqb-true, leb-true, leb-false, lt-leb}
 use Rattle.std.proofs.Math.Numerals.{add-one}
 use Rattle.std.proofs.Math.Nat.{add-zero, add-suc, suc-add, sub-zero, sub_self}
+use Rattle.refusal.specs.declared.Refusal.{Refusal}
+use Rattle.lines.specs.declared.Cursor.{Cursor}
 use Rattle.lines.specs.declared.Span.{Span}
 use Rattle.lines.specs.Lines.{lines, line_len, onto, chop, bases_of, begins, seq_of, seq_at, first_line, sum_widths}
 use Rattle.lines.specs.Sums.{widths-lines}
 use Rattle.lines.specs.Laws.{chop-front, chop-le, bases-front, lines_cut, bases-le, first-within, seq_at-end}
 use Rattle.sequence.specs.Scan.{ends_line, skipped, skip_to, run_at, Scan, nothing, joined, bare, up_to, scan_from, scan_at, scan_all}
-use Rattle.sequence.specs.declared.SequenceRead.{SequenceRead}
 use Rattle.output.specs.Outcome.{Outcome, leaves}
 use Rattle.sequence.specs.Read.{written}
-use Rattle.sequence.specs.declared.SequenceRead.TheVariants.{Bases}
 
 -- the smaller of two numbers
 abbrev pub capped : ℕ → ℕ → ℕ
 capped m n = cond (leb m n) m n
+
+pub capped-min : (m n r : ℕ) → r ≡ min n m → r ≡ capped m n
+capped-min m n r e = go (leb m n) refl
+  where
+    go : (t : Bool) → leb m n ≡ t → r ≡ cond t m n
+    go true h = omega (arith, leb-true m n h)
+    go false h = omega (arith, leb-false m n h)
 
 -- one step that gives at most so many bases
 unfoldable pub piece_at : List ℕ → ℕ → ℕ → Span
@@ -316,14 +323,14 @@ piece-full s limit n i h = ap (λ (m : ℕ). scan_at s m i) full ∙ scan-zero s
 -- ---- what a read leaves
 
 -- a scan's bases written behind n bytes of the output
-unfoldable pub filled : ℕ → List ℕ → Scan → Outcome SequenceRead
-filled n out c = leaves (Bases (n + length c.bases) (record { at = c.place })) (take n out ++ c.bases ++ drop (n + length c.bases) out)
+unfoldable pub filled : ℕ → List ℕ → Scan → Outcome (Result (ℕ × Cursor) Refusal)
+filled n out c = leaves (Ok ((n + length c.bases), (record { at = c.place }))) (take n out ++ c.bases ++ drop (n + length c.bases) out)
 
 pub filled-start : (out : List ℕ) (c : Scan) → filled 0 out c ≡ written c out
 unfolding filled written
 filled-start out c = rw (zero-add (length c.bases))
 
-pub filled-end : (n : ℕ) (out : List ℕ) (at : ℕ) → filled n out (nothing at) ≡ leaves (Bases n (record { at = at })) out
+pub filled-end : (n : ℕ) (out : List ℕ) (at : ℕ) → filled n out (nothing at) ≡ leaves (Ok (n, (record { at = at }))) out
 unfolding filled
 filled-end n out at = rw (add-zero n, append-nil (take n out), take-append-drop n out)
 

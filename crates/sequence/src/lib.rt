@@ -14,35 +14,19 @@ ghost use Rattle.sequence.specs.Laws.{piece_at};
 use lines::{Cursor, Span};
 use refusal::Refusal;
 
-// How many bases were read, and the place where the scan stopped: just behind the last base if it gave as many as were wanted, and else
-// at a '>' or the end.
-#[derive(Clone, Copy)]
-pub enum SequenceRead {
-    Bases { count: usize, next: Cursor },
-    Refused(Refusal),
-}
-
-// Where the bases of one step are.
-#[derive(Clone, Copy)]
-pub enum RunRead {
-    Run(Span),
-    Refused(Refusal),
-}
-
 // Is a byte a CR or an LF.
+#[tactic(auto, unfolding(crate::specs::Scan::ends_line))]
 fn ends_line(b: u8) -> bool
     ensures { result ≡ ends_line b }
 {
-    if b == b'\r' {
-        return true;
-    }
-    b == b'\n'
+    matches!(b, b'\r' | b'\n')
 }
 
 // The place behind the CR and LF that stand at `at`.
 fn skip_ends(s: &[u8], at: usize) -> usize
     ensures { result ≡ skip_to s.now at }
 {
+    // `for i in at..s.len()` was tried: a read takes 129 instructions a line of 60, and 118 of this.
     let mut i = at;
     while i < s.len() {
         if !ends_line(s[i]) {
@@ -54,6 +38,7 @@ fn skip_ends(s: &[u8], at: usize) -> usize
 }
 
 // One step of the scanning rule from `at`: where its bases begin, and how many they are; none at '>' or the end.
+#[tactic(auto, unfolding(crate::specs::Scan::run_at))]
 pub(crate) fn next_run(s: &[u8], at: usize) -> Span
     ensures { result ≡ run_at s.now at }
 {
@@ -70,16 +55,14 @@ fn next_piece(s: &[u8], at: usize, limit: usize) -> Span
     ensures { result ≡ piece_at s.now limit at }
 {
     let run = next_run(s, at);
-    if limit <= run.length {
-        return Span {
-            start: run.start,
-            length: limit,
-        };
+    Span {
+        length: run.length.min(limit),
+        ..run
     }
-    run
 }
 
 // How many bases a scan for `limit` of them gives.
+// Its `while` counts no index: each piece tells where the next begins. `copy_bases` walks in the same way, and what both share is `next_piece`.
 fn count_bases(s: &[u8], at: usize, limit: usize) -> usize
     ensures { result ≡ length (scan_at s.now limit at).bases }
 {
@@ -100,14 +83,11 @@ fn count_bases(s: &[u8], at: usize, limit: usize) -> usize
 fn has_room(s: &[u8], at: usize, limit: usize, room: usize) -> bool
     ensures { result ≡ leb (length (scan_at s.now limit at).bases) room }
 {
-    if limit <= room {
-        return true;
-    }
-    count_bases(s, at, limit) <= room
+    limit <= room || count_bases(s, at, limit) <= room
 }
 
 // Copies the bases of a scan for `limit` of them to the front of the output, which has room for them.
-fn copy_bases(s: &[u8], at: usize, limit: usize, out: &mut [u8]) -> SequenceRead
+fn copy_bases(s: &[u8], at: usize, limit: usize, out: &mut [u8]) -> Result<(usize, Cursor), Refusal>
     requires { length (scan_at s.now limit at).bases ≤ length out.old }
     ensures { leaves result out.new ≡ written (scan_at s.now limit at) out.old }
 {
@@ -118,28 +98,28 @@ fn copy_bases(s: &[u8], at: usize, limit: usize, out: &mut [u8]) -> SequenceRead
         let start = piece.start;
         let taken = piece.length;
         if taken == 0 {
-            return SequenceRead::Bases {
-                count: to,
-                next: Cursor { at: start },
-            };
+            return Ok((to, Cursor { at: start }));
         }
         copying::copy_run(s, start, taken, out, to);
         to += taken;
         i = start + taken;
     }
-    SequenceRead::Bases {
-        count: to,
-        next: Cursor { at: i },
-    }
+    Ok((to, Cursor { at: i }))
 }
 
 // Scans for at most `limit` bases from `at`, into the front of the output; the bytes behind them stay. The file's size is not judged.
-pub fn scan_into(s: &[u8], at: usize, limit: usize, out: &mut [u8]) -> SequenceRead
+#[tactic(auto, unfolding(crate::specs::Read::scan_into, crate::specs::Read::poured))]
+pub fn scan_into(
+    s: &[u8],
+    at: usize,
+    limit: usize,
+    out: &mut [u8],
+) -> Result<(usize, Cursor), Refusal>
     ensures { leaves result out.new ≡ scan_into s.now limit at out.old }
 {
     if !has_room(s, at, limit, out.len()) {
         let needed = count_bases(s, at, limit);
-        return SequenceRead::Refused(Refusal::NoRoom {
+        return Err(Refusal::NoRoom {
             needed: needed as u64,
         });
     }
@@ -148,31 +128,39 @@ pub fn scan_into(s: &[u8], at: usize, limit: usize, out: &mut [u8]) -> SequenceR
 
 // Reads at most `limit` bases from a place. A limit of 0 moves nothing, and a place past the end stays as it is. It walks the file once,
 // or twice if the output has fewer than `limit` bytes.
-pub fn read_sequence_limit(s: &[u8], at: Cursor, limit: usize, out: &mut [u8]) -> SequenceRead
+#[tactic(auto, unfolding(crate::specs::Read::read_limit, crate::specs::Read::scan_into))]
+pub fn read_sequence_limit(
+    s: &[u8],
+    at: Cursor,
+    limit: usize,
+    out: &mut [u8],
+) -> Result<(usize, Cursor), Refusal>
     ensures { leaves result out.new ≡ read_limit s.now limit at out.old }
 {
     if refusal::over_limit(s.len()) {
-        return SequenceRead::Refused(Refusal::TooLong);
+        return Err(Refusal::TooLong);
     }
     scan_into(s, at.at, limit, out)
 }
 
 // Reads all the bases from a place up to '>' or the end.
-pub fn read_sequence(s: &[u8], at: Cursor, out: &mut [u8]) -> SequenceRead
+#[tactic(auto, unfolding(crate::specs::Read::read_whole, crate::specs::Read::scan_into, crate::specs::Scan::scan_all))]
+pub fn read_sequence(s: &[u8], at: Cursor, out: &mut [u8]) -> Result<(usize, Cursor), Refusal>
     ensures { leaves result out.new ≡ read_whole s.now at out.old }
 {
     if refusal::over_limit(s.len()) {
-        return SequenceRead::Refused(Refusal::TooLong);
+        return Err(Refusal::TooLong);
     }
     scan_into(s, at.at, s.len() + 1, out)
 }
 
 // Where the bases of one step from a place are.
-pub fn read_run(s: &[u8], at: Cursor) -> RunRead
+#[tactic(auto, unfolding(crate::specs::Read::read_run))]
+pub fn read_run(s: &[u8], at: Cursor) -> Result<Span, Refusal>
     ensures { result ≡ read_run s.now at }
 {
     if refusal::over_limit(s.len()) {
-        return RunRead::Refused(Refusal::TooLong);
+        return Err(Refusal::TooLong);
     }
-    RunRead::Run(reader::first_run(s, at.at))
+    Ok(reader::first_run(s, at.at))
 }

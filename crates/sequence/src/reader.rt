@@ -30,7 +30,7 @@ impl<'a> Reader<'a> {
     pub fn moved(self, at: usize) -> Reader<'a>
         ensures { result ≡ record { src = self.entry.src; at = at } }
     {
-        Reader { src: self.src, at }
+        Reader { at, ..self }
     }
 }
 

@@ -1,19 +1,18 @@
 -- Regions that are lent as bytes: five numbers to a region.
-use Rattle.std.specs.Prelude.{ℕ, zero, suc, ◌+◌, ◌-◌, ◌*◌, ◌/◌, ◌≤◌, ◌<◌, ◌≡◌, cond, length, get_or, take, drop, eqb}
+use Rattle.std.specs.Prelude.{ℕ, zero, suc, ◌+◌, ◌-◌, ◌*◌, ◌/◌, ◌≤◌, ◌<◌, ◌≡◌, cond, length, get_or, take, drop, eqb, Option, Some, None}
 use Rattle.std.proofs.Math.Path.{refl, ap, sym}
 use Rattle.std.proofs.Common.{◌∙◌, drop-cons, add-zero}
 use mathlib.Core.List.{List, [], ◌∷◌}
 use native.Mathlib.Omega.{arith}
 use Rattle.std.proofs.Math.Numerals.{add-one}
+use Rattle.record.specs.declared.Position.{Position}
 use Rattle.table.specs.Numbers.{from_bytes, numbers_in}
 use Rattle.table.specs.NumberLaws.{length-numbers, number-inside, number-here}
-use Rattle.region.specs.declared.Bound.{Bound}
-use Rattle.region.specs.declared.Bound.TheVariants.{Given, Absent}
 use Rattle.sheet.specs.declared.Region.{Region}
 
 -- a bound is absent if its flag is 0, and given otherwise, whatever its number
-unfoldable pub bound_by : ℕ → ℕ → Bound
-bound_by flag p = cond (eqb flag 0) Absent (Given (record { 0 = p }))
+unfoldable pub bound_by : ℕ → ℕ → Option Position
+bound_by flag p = cond (eqb flag 0) None (Some (record { 0 = p }))
 
 -- how many numbers a region has
 abbrev pub region_words : ℕ

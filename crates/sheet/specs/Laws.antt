@@ -1,23 +1,20 @@
 -- Laws of pieces and of the first refused region. Callers cite these and unfold nothing.
 use Prim.Native.Nat.{ℕ, zero, suc, ◌+◌, ◌≤◌, ◌<◌}
-use Rattle.std.specs.Prelude.{◌≡◌, Bool, true, false, length, get_or, take, drop, ltb}
+use Rattle.std.specs.Prelude.{◌≡◌, Bool, true, false, length, get_or, take, drop, ltb, Result, Ok, Err}
 use Rattle.std.proofs.Math.Path.{refl, ap}
 use Rattle.std.proofs.Common.{sym, ◌∙◌, length-append, take_all, ltb-true, ltb-false, le-ltb, zero-add, add-one}
 use mathlib.Core.List.{List, [], ◌∷◌, ◌++◌, append_assoc, append-nil}
 use native.Mathlib.Omega.{arith}
 use Rattle.std.proofs.Math.Nat.{add-zero}
+use Rattle.sheet.specs.declared.RegionRefused.{RegionRefused}
 use Rattle.refusal.specs.declared.Refusal.{Refusal}
-use Rattle.output.specs.declared.Written.{Written}
-use Rattle.output.specs.declared.Written.TheVariants.{Bytes, Refused}
 use Rattle.output.specs.Outcome.{Outcome}
 use Rattle.sheet.specs.declared.Region.{Region}
-use Rattle.sheet.specs.declared.SheetRead.{SheetRead}
-use Rattle.sheet.specs.declared.SheetRead.TheVariants as sheet
 use Rattle.sheet.specs.Sheet.{SheetOutcome, leaves_both, refuses_at, given, pieces, joined, starts_from, capped, poured, unless_refused, sheet_of}
 
 -- ---- pieces
 
-module _ (read : Region → Outcome Written) where
+module _ (read : Region → Outcome (Result ℕ Refusal)) where
   pub pieces-length : (rs : List Region) → length (pieces read rs) ≡ length rs
   unfolding pieces
   pieces-length [] = refl
@@ -97,30 +94,30 @@ capped_fits n room s h = (omega arith, omega arith)
 -- ---- good regions
 
 -- a read gave as many bytes as it says
-abbrev pub Fine : Outcome Written → Type 0
-Fine o = o.answer ≡ Bytes (length (given o))
+abbrev pub Fine : Outcome (Result ℕ Refusal) → Type 0
+Fine o = o.answer ≡ Ok (length (given o))
 
 -- the first i regions are good
-abbrev pub Good : (Region → Outcome Written) → List Region → Region → ℕ → Type 0
+abbrev pub Good : (Region → Outcome (Result ℕ Refusal)) → List Region → Region → ℕ → Type 0
 Good read rs d i = (k : ℕ) → k < i → Fine (read (get_or rs k d))
 
-pub good_none : (read : Region → Outcome Written) (rs : List Region) (d : Region) → Good read rs d 0
+pub good_none : (read : Region → Outcome (Result ℕ Refusal)) (rs : List Region) (d : Region) → Good read rs d 0
 good_none read rs d k h = absurd (omega arith)
 
-pub good_more : (read : Region → Outcome Written) (rs : List Region) (d : Region) (i : ℕ) → Good read rs d i → Fine (read (get_or rs i d)) → Good read rs d (i + 1)
+pub good_more : (read : Region → Outcome (Result ℕ Refusal)) (rs : List Region) (d : Region) (i : ℕ) → Good read rs d i → Fine (read (get_or rs i d)) → Good read rs d (i + 1)
 good_more read rs d i g f k h = go (ltb k i) refl
   where
     go : (t : Bool) → ltb k i ≡ t → Fine (read (get_or rs k d))
     go true e = g k (ltb-true _ _ e)
     go false e = let q : k ≡ i = omega (arith, ltb-false k i e) in rw q f
 
-module _ (read : Region → Outcome Written) (d : Region) (out starts : List ℕ) (fine : SheetOutcome SheetRead) where
+module _ (read : Region → Outcome (Result ℕ Refusal)) (d : Region) (out starts : List ℕ) (fine : SheetOutcome (Result ℕ RegionRefused)) where
   pub none-refused : (rs : List Region) (j : ℕ) → Good read rs d (length rs) → unless_refused read j rs out starts fine ≡ fine
   unfolding unless_refused
   none-refused [] j g = refl
   none-refused (r ∷ rs) j g = let e = g 0 (omega arith) in rw e (none-refused rs (suc j) (λ k h. g (suc k) (omega arith)))
 
-  pub first-refused : (rs : List Region) (j i : ℕ) → Good read rs d i → i < length rs → (f : Refusal) → (read (get_or rs i d)).answer ≡ Refused f
+  pub first-refused : (rs : List Region) (j i : ℕ) → Good read rs d i → i < length rs → (f : Refusal) → (read (get_or rs i d)).answer ≡ Err f
       → unless_refused read j rs out starts fine ≡ refuses_at (j + i) f out starts
   unfolding unless_refused
   first-refused [] j i g h f q = absurd (omega arith)
@@ -133,7 +130,7 @@ module _ (read : Region → Outcome Written) (d : Region) (out starts : List ℕ
       s = omega arith
 
 -- no regions: nothing
-pub sheet-empty : (read : Region → Outcome Written) (rs : List Region) (out starts : List ℕ) → length rs ≡ 0 → sheet_of read rs out starts ≡ leaves_both (sheet.Bytes 0) out starts
+pub sheet-empty : (read : Region → Outcome (Result ℕ Refusal)) (rs : List Region) (out starts : List ℕ) → length rs ≡ 0 → sheet_of read rs out starts ≡ leaves_both (Ok 0) out starts
 unfolding sheet_of unless_refused pieces poured joined starts_from
 sheet-empty read [] out starts h = rw (le-ltb (length out) 0 (omega arith))
 sheet-empty read (r ∷ rs) out starts h = absurd (omega arith)

@@ -1,7 +1,7 @@
 -- How a sheet goes on, turn by turn, and why it leaves in the end what the definition says: a turn for each region to judge it, then one for
 -- each to write it.
 use Prim.Native.Nat.{ℕ, suc, ◌+◌, ◌-◌, ◌≤◌, ◌<◌}
-use Rattle.std.specs.Prelude.{◌≡◌, get_or, set}
+use Rattle.std.specs.Prelude.{◌≡◌, get_or, set, None, Result, Ok, Err}
 use Rattle.std.proofs.Math.Path.{refl, ap, sym}
 use Rattle.std.proofs.Common.{◌∙◌, drop_of_length-le, drop-cons, drop-drop, take_at, drop_at, zero-add, add-one}
 use mathlib.Core.List.{List, [], ◌++◌, append_assoc, append-nil}
@@ -12,21 +12,16 @@ use Rattle.std.proofs.lemmas.List.{set_at}
 use Rattle.std.proofs.Math.Dec.{ltb}
 use borrow.Author.Tests.{ltb-true, ltb-false, lt-ltb, le-ltb}
 use native.Mathlib.Omega.{arith}
+use Rattle.record.specs.declared.Record.{Record}
+use Rattle.sheet.specs.declared.RegionRefused.{RegionRefused}
 use Rattle.refusal.specs.Numbers.{over_limit}
 use Rattle.refusal.specs.declared.Refusal.{Refusal}
 use Rattle.refusal.specs.declared.Refusal.TheVariants.{TooLong, NoRoom, TooManyRegions, TooFewStarts}
-use Rattle.output.specs.declared.Written.{Written}
-use Rattle.output.specs.declared.Written.TheVariants.{Bytes, Refused}
 use Rattle.output.specs.Outcome.{Outcome, leaves}
-use Rattle.table.specs.declared.Held.{Held}
-use Rattle.table.specs.declared.InUse.{InUse}
 use Rattle.table.specs.Rows.{used_at, held_of, held_at}
-use Rattle.region.specs.declared.Bound.TheVariants.{Absent}
 use Rattle.region.specs.Exact.{exact_held, exact_read}
 use Rattle.region.specs.Answer.{exact_answer, answer-same, read-gave}
 use Rattle.sheet.specs.declared.Region.{Region}
-use Rattle.sheet.specs.declared.SheetRead.{SheetRead}
-use Rattle.sheet.specs.declared.SheetRead.TheVariants as sheet
 use Rattle.sheet.specs.declared.going.Pass.{Pass}
 use Rattle.sheet.specs.declared.going.Pass.TheVariants as pass
 use Rattle.sheet.specs.declared.going.Going.{Going}
@@ -35,7 +30,7 @@ use Rattle.sheet.specs.Laws.{pieces-length, pieces-at, joined-more, joined-all, 
 
 -- what lies behind the last region
 abbrev pub no_region : Region
-no_region = record { row = 0; start = Absent; end = Absent }
+no_region = record { row = 0; start = None; end = None }
 
 -- ---- a turn
 
@@ -67,39 +62,39 @@ weighed g total room =
     (cond (ltb room total) (stops g.count g.count (NoRoom total)) (record { left = g.left - 1; count = g.count; place = 0; pass = pass.Writing 0 }))
 
 -- it is judged
-unfoldable pub judged_as : Going → ℕ → Written → ℕ → Going
-judged_as g total (Bytes n) room = weighed g (capped (total + n)) room
-judged_as g total (Refused f) room = stops g.count g.place f
+unfoldable pub judged_as : Going → ℕ → Result ℕ Refusal → ℕ → Going
+judged_as g total (Ok n) room = weighed g (capped (total + n)) room
+judged_as g total (Err f) room = stops g.count g.place f
 
 -- it is written, and the output is filled up to a place
 unfoldable pub wrote_to : Going → ℕ → Going
 wrote_to g at = record { left = g.left - 1; count = g.count; place = g.place + 1; pass = pass.Writing at }
 
-unfoldable pub wrote_as : Going → ℕ → Written → Going
-wrote_as g at (Bytes n) = wrote_to g (at + n)
-wrote_as g at (Refused f) = stops g.count g.place f
+unfoldable pub wrote_as : Going → ℕ → Result ℕ Refusal → Going
+wrote_as g at (Ok n) = wrote_to g (at + n)
+wrote_as g at (Err f) = stops g.count g.place f
 
-unfoldable pub writes : List ℕ → Held → Region → Going → ℕ → List ℕ → List ℕ → Stage
+unfoldable pub writes : List ℕ → Result Record Refusal → Region → Going → ℕ → List ℕ → List ℕ → Stage
 writes s h r g at out starts =
-    let w : Outcome Written = exact_held s h r.start r.end (drop at out) in
+    let w : Outcome (Result ℕ Refusal) = exact_held s h r.start r.end (drop at out) in
     stage (wrote_as g at w.answer) (take at out ++ w.output) (set starts g.place at)
 
-abbrev turned_at : Pass → List ℕ → Held → Region → Going → List ℕ → List ℕ → Stage
+abbrev turned_at : Pass → List ℕ → Result Record Refusal → Region → Going → List ℕ → List ℕ → Stage
 turned_at (pass.Refused f) s h r g out starts = stage (stops g.count g.place f) out starts
 turned_at (pass.Judging total) s h r g out starts = stage (judged_as g total (exact_answer (length s) h r.start r.end (length out)) (length out)) out starts
 turned_at (pass.Writing at) s h r g out starts = writes s h r g at out starts
 
 -- a turn on a region, whose row holds h
-unfoldable pub turned : List ℕ → Held → Region → Going → List ℕ → List ℕ → Stage
+unfoldable pub turned : List ℕ → Result Record Refusal → Region → Going → List ℕ → List ℕ → Stage
 turned s h r g out starts = turned_at g.pass s h r g out starts
 
 -- the answer in the end
-abbrev told_at : Pass → ℕ → SheetRead
-told_at (pass.Judging total) place = sheet.Bytes 0
-told_at (pass.Writing at) place = sheet.Bytes at
-told_at (pass.Refused f) place = sheet.Refused place f
+abbrev told_at : Pass → ℕ → Result ℕ RegionRefused
+told_at (pass.Judging total) place = Ok 0
+told_at (pass.Writing at) place = Ok at
+told_at (pass.Refused f) place = Err (record { place = place; refusal = f })
 
-unfoldable pub told_of : Going → SheetRead
+unfoldable pub told_of : Going → Result ℕ RegionRefused
 told_of g = told_at g.pass g.place
 
 -- ---- what each test says
@@ -136,16 +131,16 @@ module _ (g : Going) (total room : ℕ) where
     unfolding weighed
     weighed-fits m = rw (le-ltb (g.place + 1) g.count h, le-ltb room total m)
 
-  pub judged-stops : (w : Written) (f : Refusal) → w ≡ Refused f → stops g.count g.place f ≡ judged_as g total w room
+  pub judged-stops : (w : Result ℕ Refusal) (f : Refusal) → w ≡ Err f → stops g.count g.place f ≡ judged_as g total w room
   unfolding judged_as
   judged-stops w f e = rw e
 
-  pub judged-goes : (w : Written) (n : ℕ) → w ≡ Bytes n → (m : ℕ) → m ≡ capped (total + n) → weighed g m room ≡ judged_as g total w room
+  pub judged-goes : (w : Result ℕ Refusal) (n : ℕ) → w ≡ Ok n → (m : ℕ) → m ≡ capped (total + n) → weighed g m room ≡ judged_as g total w room
   unfolding judged_as
   judged-goes w n e m q = rw (e, q)
 
 -- a piece that is written to a part of the output: it ends inside of it, and nothing is behind the part
-module _ (s : List ℕ) (h : Held) (r : Region) (g : Going) (at : ℕ) (out starts : List ℕ) (fits : at ≤ length out) (w : Written) (bs : List ℕ)
+module _ (s : List ℕ) (h : Result Record Refusal) (r : Region) (g : Going) (at : ℕ) (out starts : List ℕ) (fits : at ≤ length out) (w : Result ℕ Refusal) (bs : List ℕ)
     (e : leaves w bs ≡ exact_held s h r.start r.end (take (length out - at) (drop at out))) where
   part : take (length out - at) (drop at out) ≡ drop at out
   part = take_all (length out - at) (drop at out) (omega (arith, length-drop at out))
@@ -160,21 +155,21 @@ module _ (s : List ℕ) (h : Held) (r : Region) (g : Going) (at : ℕ) (out star
   unfolding writes
   wrote-all n q = rw (none, append-nil bs, q, ← did)
 
-  pub wrote-stops : (f : Refusal) → w ≡ Refused f → (n : Going) → n ≡ stops g.count g.place f
+  pub wrote-stops : (f : Refusal) → w ≡ Err f → (n : Going) → n ≡ stops g.count g.place f
       → stage n (take at out ++ (bs ++ drop (length out - at) (drop at out))) (set starts g.place at) ≡ writes s h r g at out starts
   wrote-stops f q n m = wrote-all n (unfold wrote_as in rw q m)
 
-  pub wrote-goes : (k : ℕ) → w ≡ Bytes k → (n : Going) → n ≡ wrote_to g (at + k)
+  pub wrote-goes : (k : ℕ) → w ≡ Ok k → (n : Going) → n ≡ wrote_to g (at + k)
       → stage n (take at out ++ (bs ++ drop (length out - at) (drop at out))) (set starts g.place at) ≡ writes s h r g at out starts
   wrote-goes k q n m = wrote-all n (unfold wrote_as in rw q m)
 
-  pub wrote-inside : (k : ℕ) → w ≡ Bytes k → at + k ≤ length out
+  pub wrote-inside : (k : ℕ) → w ≡ Ok k → at + k ≤ length out
   wrote-inside k q =
-      let a : (exact_held s h r.start r.end (drop at out)).answer ≡ Bytes k = sym (ap (λ (o : Outcome Written). o.answer) did) ∙ q in
+      let a : (exact_held s h r.start r.end (drop at out)).answer ≡ Ok k = sym (ap (λ (o : Outcome (Result ℕ Refusal)). o.answer) did) ∙ q in
       omega (arith, length-drop at out, (read-gave s h r.start r.end (drop at out) k a).room)
 
 -- a turn, by its pass
-module _ (s : List ℕ) (h : Held) (r : Region) (g : Going) (out starts : List ℕ) where
+module _ (s : List ℕ) (h : Result Record Refusal) (r : Region) (g : Going) (out starts : List ℕ) where
   pub turns_stopped : (f : Refusal) → g.pass ≡ pass.Refused f → (n : Going) → n ≡ stops g.count g.place f → stage n out starts ≡ turned s h r g out starts
   unfolding turned
   turns_stopped f e n m = ap (λ (k : Going). stage k out starts) m ∙ sym (ap (λ (p : Pass). turned_at p s h r g out starts) e)
@@ -189,9 +184,9 @@ module _ (s : List ℕ) (h : Held) (r : Region) (g : Going) (out starts : List �
   turns-writing at e = sym (ap (λ (p : Pass). turned_at p s h r g out starts) e)
 
 -- the row that a table has
-pub turned-row : (s t : List ℕ) (u : ℕ) (w : InUse) (r : Region) (g : Going) (out starts : List ℕ) → w ≡ used_at t u r.row → turned s (held_of w) r g out starts ≡ turned s (held_at t u r.row) r g out starts
+pub turned-row : (s t : List ℕ) (u : ℕ) (w : Result (ℕ × Record) Refusal) (r : Region) (g : Going) (out starts : List ℕ) → w ≡ used_at t u r.row → turned s (held_of w) r g out starts ≡ turned s (held_at t u r.row) r g out starts
 unfolding held_at
-turned-row s t u w r g out starts e = ap (λ (v : InUse). turned s (held_of v) r g out starts) e
+turned-row s t u w r g out starts e = ap (λ (v : Result (ℕ × Record) Refusal). turned s (held_of v) r g out starts) e
 
 -- what a turn asks: there is a region at the place; one that is to be written has a start, and begins inside the output
 abbrev pub filled_to : Pass → ℕ → ℕ → ℕ → Type 0
@@ -214,13 +209,13 @@ ready-writes g room starts at y e =
 
 module _ (s t : List ℕ) (u : ℕ) (rs : List Region) (out₀ starts₀ : List ℕ) where
   -- each region's own read, with all the room, and what it gives
-  abbrev read : Region → Outcome Written
+  abbrev read : Region → Outcome (Result ℕ Refusal)
   read = read_of s t u out₀
 
   abbrev ps : List (List ℕ)
   ps = pieces read rs
 
-  abbrev whole : SheetOutcome SheetRead
+  abbrev whole : SheetOutcome (Result ℕ RegionRefused)
   whole = sheet_read s t u rs out₀ starts₀
 
   -- while it judges: the regions before the place are good, and have so many bytes
@@ -293,13 +288,13 @@ module _ (s t : List ℕ) (u : ℕ) (rs : List Region) (out₀ starts₀ : List 
   stands-begun n e g q = rw (q, e) stands-started
 
   -- the bytes that a region's read gives, by its answer
-  pub read-size : (r : Region) (n : ℕ) → (read r).answer ≡ Bytes n → length (given (read r)) ≡ n
+  pub read-size : (r : Region) (n : ℕ) → (read r).answer ≡ Ok n → length (given (read r)) ≡ n
   unfolding read_of exact_read given
   read-size r n q = rw q (read-gave s (held_at t u r.row) r.start r.end out₀ n q).size
 
   -- and to every output that has room for them
-  read-elsewhere : (r : Region) (n : ℕ) → (read r).answer ≡ Bytes n → (other : List ℕ) → n ≤ length other
-      → exact_held s (held_at t u r.row) r.start r.end other ≡ leaves (Bytes n) (given (read r) ++ drop n other)
+  read-elsewhere : (r : Region) (n : ℕ) → (read r).answer ≡ Ok n → (other : List ℕ) → n ≤ length other
+      → exact_held s (held_at t u r.row) r.start r.end other ≡ leaves (Ok n) (given (read r) ++ drop n other)
   unfolding read_of exact_read given
   read-elsewhere r n q other h = rw q ((read-gave s (held_at t u r.row) r.start r.end out₀ n q).elsewhere other h)
 
@@ -330,7 +325,7 @@ module _ (s t : List ℕ) (u : ℕ) (rs : List Region) (out₀ starts₀ : List 
       judges-inside : g.place < length rs
       judges-inside = j.inside (omega (arith, j.left))
 
-      weighs : (n : ℕ) → (read here).answer ≡ Bytes n → Stands (stage (weighed g (capped (total + n)) (length out₀)) out₀ starts₀)
+      weighs : (n : ℕ) → (read here).answer ≡ Ok n → Stands (stage (weighed g (capped (total + n)) (length out₀)) out₀ starts₀)
       unfolding Stands weighed
       weighs n q = go (ltb (g.place + 1) g.count) refl (ltb (length out₀) (capped (total + n))) refl
         where
@@ -338,7 +333,7 @@ module _ (s t : List ℕ) (u : ℕ) (rs : List Region) (out₀ starts₀ : List 
           size = read-size here n q
 
           good : Good read rs no_region (g.place + 1)
-          good = good_more read rs no_region g.place j.good (q ∙ ap Bytes (sym size))
+          good = good_more read rs no_region g.place j.good (q ∙ ap Ok (sym size))
 
           sum : capped (total + n) ≡ capped (length (joined (take (g.place + 1) ps)))
           sum = ap (λ (k : ℕ). capped (k + n)) j.sum ∙ capped-add (length (joined (take g.place ps))) n ∙ ap capped (omega (arith, piece-size g.place judges-inside, size))
@@ -395,9 +390,9 @@ module _ (s t : List ℕ) (u : ℕ) (rs : List Region) (out₀ starts₀ : List 
       unfolding judged_as Stands stops sheet_of
       stands-judged = rw (j.output, j.same) (go (exact_answer (length s) (held_at t u here.row) here.start here.end (length out₀)) (read_answer here))
         where
-          go : (w : Written) → (read here).answer ≡ w → Stands (stage (judged_as g total w (length out₀)) out₀ starts₀)
-          go (Bytes n) q = weighs n q
-          go (Refused f) q =
+          go : (w : Result ℕ Refusal) → (read here).answer ≡ w → Stands (stage (judged_as g total w (length out₀)) out₀ starts₀)
+          go (Ok n) q = weighs n q
+          go (Err f) q =
               record {
                 left = refl;
                 output = refl;
@@ -429,11 +424,11 @@ module _ (s t : List ℕ) (u : ℕ) (rs : List Region) (out₀ starts₀ : List 
       kept : take at out ≡ joined (take i ps)
       kept = ap (take at) w.output ∙ take_at (joined (take i ps)) (drop at out₀) at (sym w.filled)
 
-      reads : exact_held s (held_at t u here.row) here.start here.end (drop at out) ≡ leaves (Bytes k) (given (read here) ++ drop (at + k) out₀)
+      reads : exact_held s (held_at t u here.row) here.start here.end (drop at out) ≡ leaves (Ok k) (given (read here) ++ drop (at + k) out₀)
       reads =
           ap (λ (l : List ℕ). exact_held s (held_at t u here.row) here.start here.end l) rest
           ∙ read-elsewhere here k (w.good i writes-inside) (drop at out₀) (omega (arith, length-drop at out₀, fits))
-          ∙ ap (λ (l : List ℕ). leaves (Bytes k) (given (read here) ++ l)) (drop-drop k at out₀)
+          ∙ ap (λ (l : List ℕ). leaves (Ok k) (given (read here) ++ l)) (drop-drop k at out₀)
 
       begins : set starts i at ≡ take (i + 1) (starts_from 0 ps) ++ drop (i + 1) starts₀
       begins =
@@ -531,17 +526,17 @@ module _ (g : Going) (some : 0 < g.left) where
       go false true = some
       go false false = omega arith
 
-  judged-less : (total : ℕ) (w : Written) (room : ℕ) → (judged_as g total w room).left < g.left
+  judged-less : (total : ℕ) (w : Result ℕ Refusal) (room : ℕ) → (judged_as g total w room).left < g.left
   unfolding judged_as stops
-  judged-less total (Bytes n) room = weighed-less (capped (total + n)) room
-  judged-less total (Refused f) room = some
+  judged-less total (Ok n) room = weighed-less (capped (total + n)) room
+  judged-less total (Err f) room = some
 
-  wrote-less : (at : ℕ) (w : Written) → (wrote_as g at w).left < g.left
+  wrote-less : (at : ℕ) (w : Result ℕ Refusal) → (wrote_as g at w).left < g.left
   unfolding wrote_as wrote_to stops
-  wrote-less at (Bytes n) = omega arith
-  wrote-less at (Refused f) = some
+  wrote-less at (Ok n) = omega arith
+  wrote-less at (Err f) = some
 
-pub turned-less : (s : List ℕ) (h : Held) (r : Region) (g : Going) (out starts : List ℕ) → 0 < g.left → (turned s h r g out starts).going.left < g.left
+pub turned-less : (s : List ℕ) (h : Result Record Refusal) (r : Region) (g : Going) (out starts : List ℕ) → 0 < g.left → (turned s h r g out starts).going.left < g.left
 unfolding turned writes stops
 turned-less s h r g out starts some = go g.pass
   where

@@ -7,11 +7,9 @@ ghost use Rattle.table.specs.Rows.{row_words, row_at, used_at};
 ghost use Rattle.sheet.specs.Sheet.{leaves_both, sheet_read};
 ghost use Rattle.sheet.specs.Bytes.{bound_by, region_of, region_words, regions_in};
 
-use crate::{Region, SheetRead, going};
+use crate::{Region, RegionRefused, Source};
 use record::{Offset, Position, Record};
 use refusal::Refusal;
-use region::Bound;
-use table::InUse;
 
 // The numbers of a region.
 const WORDS: usize = 5;
@@ -53,35 +51,12 @@ fn record_at(table: &[u8], row: usize) -> Record
     }
 }
 
-// Row `row` of a table that has `in_use` rows in use, as `table::bytes::row` gives it.
-fn row_at(table: &[u8], in_use: usize, row: usize) -> InUse
-    ensures { result ≡ used_at (numbers_in table.now) in_use row }
-{
-    let all = table::bytes::rows(table);
-    if all < in_use {
-        return InUse::Refused(Refusal::BadRow { row: all as u64 });
-    }
-    if in_use <= row {
-        return InUse::Refused(Refusal::BadRow { row: row as u64 });
-    }
-    InUse::Row(row, record_at(table, row))
-}
-
 // A bound as a host gives it: absent if its flag is 0.
-fn bound(flag: u64, p: u64) -> Bound
+#[tactic(auto, unfolding(crate::specs::Bytes::bound_by))]
+fn bound(flag: u64, p: u64) -> Option<Position>
     ensures { result ≡ bound_by flag p }
 {
-    if flag == 0 {
-        return Bound::Absent;
-    }
-    Bound::Given(Position(p))
-}
-
-// How many regions there are.
-fn count(regions: &[u8]) -> usize
-    ensures { result ≡ length (regions_in regions.now) }
-{
-    regions.len() / 8 / WORDS
+    if flag == 0 { None } else { Some(Position(p)) }
 }
 
 // Region `i`.
@@ -99,6 +74,42 @@ fn region_at(regions: &[u8], i: usize) -> Region
     }
 }
 
+// Regions and a table, both as bytes.
+#[derive(Clone, Copy)]
+struct Lent<'a> {
+    regions: &'a [u8],
+    table: &'a [u8],
+    in_use: usize,
+}
+
+impl<'a> Source for Lent<'a> {
+    ghost regions = { λ s. regions_in s.regions.now };
+
+    ghost table = { λ s. numbers_in s.table.now };
+
+    ghost in_use = { λ s. s.in_use };
+
+    fn count(&self) -> usize {
+        self.regions.len() / 8 / WORDS
+    }
+
+    fn region(&self, place: usize) -> Region {
+        region_at(self.regions, place)
+    }
+
+    // As `table::bytes::row` gives it.
+    fn row(&self, row: usize) -> Result<(usize, Record), Refusal> {
+        let all = table::bytes::rows(self.table);
+        if all < self.in_use {
+            return Err(Refusal::BadRow { row: all as u64 });
+        }
+        if self.in_use <= row {
+            return Err(Refusal::BadRow { row: row as u64 });
+        }
+        Ok((row, record_at(self.table, row)))
+    }
+}
+
 // Reads the regions of a sheet, of a table with so many rows in use.
 pub fn read_sheet(
     file: &[u8],
@@ -107,14 +118,13 @@ pub fn read_sheet(
     regions: &[u8],
     out: &mut [u8],
     starts: &mut [u64],
-) -> SheetRead
+) -> Result<usize, RegionRefused>
     ensures { leaves_both result out.new starts.new ≡ sheet_read file.now (numbers_in table.now) in_use (regions_in regions.now) out.old starts.old }
 {
-    let mut g = going::start(file.len(), count(regions), starts.len());
-    while 0 < g.left {
-        let r = region_at(regions, g.place);
-        let row = row_at(table, in_use, r.row);
-        g = going::turn(file, row, r, g, out, starts);
-    }
-    going::told(g)
+    let source = Lent {
+        regions,
+        table,
+        in_use,
+    };
+    crate::read_from(file, &source, out, starts)
 }

@@ -2,14 +2,12 @@
 // is written.
 ghost use Rattle.std.specs.Prelude.{◌≡◌, ◌+◌, ◌≤◌, ◌<◌, length};
 ghost use Rattle.table.specs.Rows.{held_of};
-ghost use Rattle.sheet.specs.Sheet.{capped};
 ghost use Rattle.region.specs.Answer.{exact_answer};
 ghost use Rattle.sheet.specs.Turns.{Ready, stage, stops, started, told_of, weighed, judged_as, wrote_to, writes, turned};
 
-use crate::{MOST, Region, SheetRead};
-use output::Written;
+use crate::{MOST, Region, RegionRefused};
+use record::Record;
 use refusal::Refusal;
-use table::InUse;
 
 // What is known so far: the bytes of the regions judged, or of those written; or why there is no more to do.
 #[derive(Clone, Copy)]
@@ -28,20 +26,8 @@ pub(crate) struct Going {
     pub pass: Pass,
 }
 
-// The most that 64 bits hold.
-const GREATEST: u64 = 18446744073709551615;
-
-// The sum of two numbers, or the greatest number if the sum is larger.
-fn add(a: u64, b: u64) -> u64
-    ensures { result ≡ capped (a + b) }
-{
-    if GREATEST - a < b {
-        return GREATEST;
-    }
-    a + b
-}
-
 // No turn is left: the region at `place` is refused.
+#[tactic(auto, unfolding(crate::specs::Turns::stops))]
 fn stop(count: usize, place: usize, f: Refusal) -> Going
     ensures { result ≡ stops count place f }
 {
@@ -74,113 +60,123 @@ pub(crate) fn start(bytes: usize, count: usize, starts: usize) -> Going
     }
 }
 
-// The region at the place is good, and with it the regions judged have so many bytes.
-fn weigh(g: Going, total: u64, room: usize) -> Going
-    requires { (0 < g.left) × (g.place < g.count) }
-    ensures { result ≡ weighed g total room }
-{
-    let next = g.place + 1;
-    if next < g.count {
-        return Going {
-            left: g.left - 1,
-            count: g.count,
-            place: next,
-            pass: Pass::Judging(total),
-        };
+impl Going {
+    // No turn is left: the region at the place is refused.
+    fn refused(self, f: Refusal) -> Going
+        ensures { result ≡ stops self.count self.place f }
+    {
+        stop(self.count, self.place, f)
     }
-    if (room as u64) < total {
-        return stop(g.count, g.count, Refusal::NoRoom { needed: total });
-    }
-    Going {
-        left: g.left - 1,
-        count: g.count,
-        place: 0,
-        pass: Pass::Writing(0),
-    }
-}
 
-// Judges the region at the place, for a file of so many bytes and all the room.
-fn judge(bytes: usize, row: InUse, r: Region, g: Going, total: u64, room: usize) -> Going
-    requires { (0 < g.left) × (g.place < g.count) }
-    ensures { result ≡ judged_as g total (exact_answer bytes (held_of row) r.start r.end room) room }
-{
-    let start = r.start;
-    let end = r.end;
-    let answer = region::answer::exact_answer(bytes, row, start, end, room);
-    match answer {
-        Written::Refused(f) => stop(g.count, g.place, f),
-        Written::Bytes(n) => weigh(g, add(total, n as u64), room),
+    // The region at the place is good, and with it the regions judged have so many bytes.
+    #[tactic(auto, unfolding(crate::specs::Turns::weighed))]
+    fn weigh(self, total: u64, room: usize) -> Going
+        requires { (0 < self.left) × (self.place < self.count) }
+        ensures { result ≡ weighed self total room }
+    {
+        let next = self.place + 1;
+        if next < self.count {
+            return Going {
+                left: self.left - 1,
+                place: next,
+                pass: Pass::Judging(total),
+                ..self
+            };
+        }
+        if (room as u64) < total {
+            return stop(self.count, self.count, Refusal::NoRoom { needed: total });
+        }
+        Going {
+            left: self.left - 1,
+            place: 0,
+            pass: Pass::Writing(0),
+            ..self
+        }
     }
-}
 
-// The region at the place is written, and the output is filled up to `at`.
-fn wrote(g: Going, at: usize) -> Going
-    requires { (0 < g.left) × (g.place < g.count) }
-    ensures { result ≡ wrote_to g at }
-{
-    Going {
-        left: g.left - 1,
-        count: g.count,
-        place: g.place + 1,
-        pass: Pass::Writing(at),
+    // Judges the region at the place, for a file of so many bytes and all the room.
+    fn judge(
+        self,
+        bytes: usize,
+        row: Result<(usize, Record), Refusal>,
+        r: Region,
+        total: u64,
+        room: usize,
+    ) -> Going
+        requires { (0 < self.left) × (self.place < self.count) }
+        ensures { result ≡ judged_as self total (exact_answer bytes (held_of row) r.start r.end room) room }
+    {
+        match region::answer::exact_answer(bytes, row, r.start, r.end, room) {
+            Err(f) => self.refused(f),
+            Ok(n) => self.weigh(total.saturating_add(n as u64), room),
+        }
     }
-}
 
-// Writes the region at the place from `at` on, and that it begins there.
-fn write(
-    file: &[u8],
-    row: InUse,
-    r: Region,
-    g: Going,
-    at: usize,
-    out: &mut [u8],
-    starts: &mut [u64],
-) -> Going
-    requires { (0 < g.left) × (g.place < g.count) × (at ≤ length out.old) × (g.place < length starts.old) }
-    ensures { stage result out.new starts.new ≡ writes file.now (held_of row) r g at out.old starts.old }
-{
-    let place = g.place;
-    let start = r.start;
-    let end = r.end;
-    starts[place] = at as u64;
-    let answer = region::read_exact(file, row, start, end, &mut out[at..]);
-    match answer {
-        Written::Refused(f) => stop(g.count, place, f),
-        Written::Bytes(n) => wrote(g, at + n),
+    // The region at the place is written, and the output is filled up to `at`.
+    #[tactic(auto, unfolding(crate::specs::Turns::wrote_to))]
+    fn wrote(self, at: usize) -> Going
+        requires { (0 < self.left) × (self.place < self.count) }
+        ensures { result ≡ wrote_to self at }
+    {
+        Going {
+            left: self.left - 1,
+            place: self.place + 1,
+            pass: Pass::Writing(at),
+            ..self
+        }
     }
-}
 
-// A turn on region `r`, which is that at the place, with its row.
-pub(crate) fn turn(
-    file: &[u8],
-    row: InUse,
-    r: Region,
-    g: Going,
-    out: &mut [u8],
-    starts: &mut [u64],
-) -> Going
-    requires { Ready g (length out.old) (length starts.old) }
-    ensures { stage result out.new starts.new ≡ turned file.now (held_of row) r g out.old starts.old }
-{
-    let pass = g.pass;
-    match pass {
-        Pass::Refused(f) => stop(g.count, g.place, f),
-        Pass::Judging(total) => judge(file.len(), row, r, g, total, out.len()),
-        Pass::Writing(at) => write(file, row, r, g, at, out, starts),
+    // Writes the region at the place from `at` on, and that it begins there.
+    fn write(
+        self,
+        file: &[u8],
+        row: Result<(usize, Record), Refusal>,
+        r: Region,
+        at: usize,
+        out: &mut [u8],
+        starts: &mut [u64],
+    ) -> Going
+        requires { (0 < self.left) × (self.place < self.count) × (at ≤ length out.old) × (self.place < length starts.old) }
+        ensures { stage result out.new starts.new ≡ writes file.now (held_of row) r self at out.old starts.old }
+    {
+        starts[self.place] = at as u64;
+        match region::read_exact(file, row, r.start, r.end, &mut out[at..]) {
+            Err(f) => self.refused(f),
+            Ok(n) => self.wrote(at + n),
+        }
     }
-}
 
-// The answer of a sheet that has no turn left.
-pub(crate) fn told(g: Going) -> SheetRead
-    ensures { result ≡ told_of g }
-{
-    let pass = g.pass;
-    match pass {
-        Pass::Judging(_) => SheetRead::Bytes(0),
-        Pass::Writing(at) => SheetRead::Bytes(at),
-        Pass::Refused(f) => SheetRead::Refused {
-            place: g.place,
-            refusal: f,
-        },
+    // A turn on region `r`, which is that at the place, with its row.
+    pub(crate) fn turn(
+        self,
+        file: &[u8],
+        row: Result<(usize, Record), Refusal>,
+        r: Region,
+        out: &mut [u8],
+        starts: &mut [u64],
+    ) -> Going
+        requires { Ready self (length out.old) (length starts.old) }
+        ensures { stage result out.new starts.new ≡ turned file.now (held_of row) r self out.old starts.old }
+    {
+        match self.pass {
+            Pass::Refused(f) => self.refused(f),
+            Pass::Judging(total) => self.judge(file.len(), row, r, total, out.len()),
+            Pass::Writing(at) => self.write(file, row, r, at, out, starts),
+        }
+    }
+
+    // The answer of a sheet that has no turn left.
+    #[tactic(auto, unfolding(crate::specs::Turns::told_of))]
+    pub(crate) fn told(self) -> Result<usize, RegionRefused>
+        ensures { result ≡ told_of self }
+    {
+        match self.pass {
+            Pass::Judging(_) => Ok(0),
+            Pass::Writing(at) => Ok(at),
+            Pass::Refused(refusal) => Err(RegionRefused {
+                place: self.place,
+                refusal,
+            }),
+        }
     }
 }

@@ -1,10 +1,8 @@
 -- The records that a file or an index gives, and a table filled with them: rows of one kind, of which Kinds.antt has the definitions.
-use Rattle.std.specs.Prelude.{ℕ, List}
+use Rattle.std.specs.Prelude.{ℕ, List, Option, Result}
+use Rattle.refusal.specs.declared.Refusal.{Refusal}
 use Rattle.record.specs.declared.Record.{Record}
 use Rattle.table.specs.declared.Filled.{Filled}
-use Rattle.table.specs.declared.Next.{Next}
-use Rattle.table.specs.declared.Next.TheVariants as given
-use Rattle.table.specs.declared.Kept.{Kept}
 use Rattle.table.specs.Rows.{records}
 use Rattle.table.specs.Kinds
 unfoldable pub use Rattle.table.specs.Kinds.{nothing, with_first, held_in}
@@ -18,14 +16,13 @@ abbrev pub FilledAs : Found → List ℕ → List ℕ → Filled → Type 0
 FilledAs = Kinds.FilledAs records
 
 -- what the code has as the next of the records
-abbrev pub turn_of : Next → Kinds.Turn Record
-turn_of (given.Row y b) = Kinds.next y b
-turn_of (given.Stop s) = Kinds.none s
+abbrev pub turn_of : Result (Option (Record × ℕ)) Refusal → Kinds.Turn Record
+turn_of = Kinds.turn_of
 
 -- the next of the records that there are from a place on, which is before an end
-abbrev pub NextOf : Found → (ℕ → Found) → ℕ → ℕ → Next → Type 0
+abbrev pub NextOf : Found → (ℕ → Found) → ℕ → ℕ → Result (Option (Record × ℕ)) Refusal → Type 0
 NextOf here behind at end x = Kinds.NextOf records here behind at end (turn_of x)
 
 -- what a turn that puts the next record in row n tells, and the table afterwards
-abbrev pub KeptAs : List ℕ → ℕ → Next → Kept → List ℕ → Type 0
+abbrev pub KeptAs : List ℕ → ℕ → Result (Option (Record × ℕ)) Refusal → Result (Option ℕ) Refusal → List ℕ → Type 0
 KeptAs before n x told after = Kinds.KeptAs records before n (turn_of x) told after

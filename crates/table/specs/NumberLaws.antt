@@ -1,6 +1,6 @@
 -- Laws of a table as bytes. Callers go by these and unfold nothing.
 use Rattle.std.specs.Prelude.{ℕ, zero, suc, ◌+◌, ◌-◌, ◌*◌, ◌/◌, ◌%◌, ◌^◌, ◌≤◌, ◌<◌, ◌≡◌, refl, List, [], ◌∷◌, ◌++◌, get_or, take, drop, set}
-use Rattle.std.proofs.Common.{ap, sym, ◌∙◌, append_assoc, append-nil, add-one, pow-suc, div-lt_iff_lt-mul, length-append, take-append-drop, take-suc, take_all, take-suc-set, drop-cons, drop-drop, take-add, get_or-take, get_or-drop, take_at, drop_at, lit<}
+use Rattle.std.proofs.Common.{ap, sym, ◌∙◌, append_assoc, append-nil, add-one, pow-suc, div-lt_iff_lt-mul, length-append, take-append-drop, take_all, take-suc-set, drop-cons, drop-drop, take-add, get_or-take, get_or-drop, take_at, drop_at, lit<}
 use native.Mathlib.Omega.{arith}
 use Rattle.std.proofs.Math.Nat.{one-le-pow}
 use Rattle.std.proofs.Math.ListN.{length, get_or-eq_default, length-drop}
@@ -72,6 +72,13 @@ length-numbers_of (suc n) t = ap suc (length-numbers_of n (drop 8 t))
 pub length-numbers : (t : List ℕ) → length (numbers_in t) ≡ length t / 8
 unfolding numbers_in
 length-numbers t = length-numbers_of (length t / 8) t
+
+-- no more numbers than numbers, or bytes
+pub length-own : (t : List ℕ) → length t ≤ length t
+length-own t = omega arith
+
+pub length-few : (t : List ℕ) → length (numbers_in t) ≤ length t
+length-few t = omega (arith, length-numbers t)
 
 -- eight bytes on
 eight : (k : ℕ) → suc k * 8 ≡ 8 + k * 8
@@ -147,17 +154,6 @@ module _ (t : List ℕ) (k v n : ℕ) (e : n ≡ length (numbers_in t)) where
         numbers = rw (q, w, d) (numbers_of-laid (length t / 8) t k v (omega arith) m f);
         rest = rw (q, w, d) (rest-laid t k (to_bytes 8 v) (length t / 8) m (omega arith) (length-to_bytes 8 v));
       }
-
--- ---- numbers one after another
-
--- one number copied, and all of them
-pub copy_more : (r l : List ℕ) (i v : ℕ) → i < length r → i < length l → take i r ≡ take i l → v ≡ get_or l i 0 → take (i + 1) (set r i v) ≡ take (i + 1) l
-copy_more r l i v h m e q = rw (add-one, take-suc-set r i v h, take-suc l i 0 m, e, q)
-
-pub copy-all : (r l : List ℕ) (i n : ℕ) → length r ≡ n → i ≤ n → n ≤ i → take i r ≡ take i l → r ≡ take n l
-copy-all r l i n e h m q =
-    let z : i ≡ n = omega arith in
-    sym (take_all n r (omega arith)) ∙ (rw z at q)
 
 -- ---- a table's bytes from its numbers and its rest
 

@@ -1,5 +1,5 @@
 -- Laws of the rows of a table. Callers go by these and unfold nothing.
-use Rattle.std.specs.Prelude.{ℕ, suc, ◌+◌, ◌-◌, ◌*◌, ◌≤◌, ◌<◌, ◌≢◌, ◌⊎◌, List, [], ◌∷◌, ◌++◌, Bool, length, get_or, set, eqb}
+use Rattle.std.specs.Prelude.{ℕ, suc, ◌+◌, ◌-◌, ◌*◌, ◌≤◌, ◌<◌, ◌≢◌, ◌⊎◌, List, [], ◌∷◌, ◌++◌, Bool, length, get_or, set, eqb, Result, Ok, Err}
 use Rattle.std.proofs.Math.Path.{◌≡◌, refl, ap}
 use Rattle.std.proofs.Common.{sym, ◌∙◌, inl, inr, append_assoc, get_or-append-add, get_or-set_other, lit<, arith, zero-add, add_assoc, add-zero}
 use Rattle.std.proofs.Math.Bool.{true, false, cond}
@@ -9,11 +9,6 @@ use borrow.Author.Tests.{lt-ltb, le-ltb, ltb-true, ltb-false, eq-eqb, ne_eqb, eq
 use Rattle.refusal.specs.declared.Refusal.{Refusal}
 use Rattle.refusal.specs.declared.Refusal.TheVariants.{TableFull}
 use Rattle.record.specs.declared.Record.{Record}
-use Rattle.table.specs.declared.InUse.{InUse}
-use Rattle.table.specs.declared.InUse.TheVariants as used
-use Rattle.table.specs.declared.Held.{Held}
-use Rattle.table.specs.declared.Held.TheVariants as held
-use Rattle.table.specs.declared.Stored.TheVariants as stored
 use Rattle.table.specs.KindLaws
 use Rattle.table.specs.KindLaws.{sets-append}
 use Rattle.table.specs.Rows.{row_words, words_of, words, numbers_at, row_count, row_at, records, with_rows, no_row, used_at, bad_row, sound_row, held_of, named_in, named_of, held_at, named_at, stored_of, with_row, StoredAt}
@@ -111,17 +106,17 @@ module _ (t : List ℕ) (r : ℕ) where
       go false h l m = rw (without-row x (ltb-false _ _ h))
 
   -- the answer, and the table afterwards
-  pub stored-kept : (x : Record) → r < row_count t → StoredAt t r x stored.Kept (sets t (r * row_words) (words_of x))
+  pub stored-kept : (x : Record) → r < row_count t → StoredAt t r x (Ok tt) (sets t (r * row_words) (words_of x))
   stored-kept = KindLaws.stored-kept records t r
 
-  pub stored-full : (x : Record) → row_count t ≤ r → StoredAt t r x (stored.Refused (TableFull (row_count t))) t
+  pub stored-full : (x : Record) → row_count t ≤ r → StoredAt t r x (Err (TableFull (row_count t))) t
   stored-full = KindLaws.stored-full records t r
 
   -- what an answer tells of the table
-  pub kept-inside : stored_of t r ≡ stored.Kept → r < row_count t
+  pub kept-inside : stored_of t r ≡ Ok tt → r < row_count t
   kept-inside = KindLaws.kept-inside records t r
 
-  pub full-outside : (f : Refusal) → stored_of t r ≡ stored.Refused f → (row_count t ≤ r) × (f ≡ TableFull (row_count t))
+  pub full-outside : (f : Refusal) → stored_of t r ≡ Err f → (row_count t ≤ r) × (f ≡ TableFull (row_count t))
   full-outside = KindLaws.full-outside records t r
 
 -- ---- spans
@@ -150,27 +145,27 @@ module _ (r : ℕ) (x : Record) where
   unfolding sound_row
   sound-no-width b w = rw (ne_eqb _ _ b, eq-eqb _ _ w)
 
-  pub sound-row : (x.line_bases ≡ 0 → ⊥) → (x.line_width ≡ 0 → ⊥) → held.Row x ≡ sound_row r x
+  pub sound-row : (x.line_bases ≡ 0 → ⊥) → (x.line_width ≡ 0 → ⊥) → Ok x ≡ sound_row r x
   unfolding sound_row
   sound-row b w = rw (ne_eqb _ _ b, ne_eqb _ _ w)
 
   -- by its name and its description
   module _ (bytes : ℕ) where
-    pub name-outside : ltb bytes (x.name_start + x.name_length) ≡ true → bad_row r ≡ named_in bytes r (held.Row x)
+    pub name-outside : ltb bytes (x.name_start + x.name_length) ≡ true → bad_row r ≡ named_in bytes r (Ok x)
     unfolding named_in
     name-outside h = rw h
 
     pub description-outside : ltb bytes (x.name_start + x.name_length) ≡ false → ltb bytes (x.description_start + x.description_length) ≡ true
-        → bad_row r ≡ named_in bytes r (held.Row x)
+        → bad_row r ≡ named_in bytes r (Ok x)
     unfolding named_in
     description-outside h k = rw (h, k)
 
     pub spans-inside : ltb bytes (x.name_start + x.name_length) ≡ false → ltb bytes (x.description_start + x.description_length) ≡ false
-        → held.Row x ≡ named_in bytes r (held.Row x)
+        → Ok x ≡ named_in bytes r (Ok x)
     unfolding named_in
     spans-inside h k = rw (h, k)
 
-    pub name-inside : x.name_start + x.name_length ≤ bytes → x.description_start + x.description_length ≤ bytes → held.Row x ≡ named_in bytes r (held.Row x)
+    pub name-inside : x.name_start + x.name_length ≤ bytes → x.description_start + x.description_length ≤ bytes → Ok x ≡ named_in bytes r (Ok x)
     name-inside h k = spans-inside (le-ltb _ _ h) (le-ltb _ _ k)
 
 -- what is known of a row that holds a record
@@ -182,18 +177,18 @@ pub record HeldRow (t : List ℕ) (n r : ℕ) (x : Record) : Type 0 where
   pub some-width : 0 < x.line_width
 
 -- what is known of a row in use that holds a record
-pub record HeldIn (u : InUse) (x : Record) : Type 0 where
+pub record HeldIn (u : Result (ℕ × Record) Refusal) (x : Record) : Type 0 where
   pub row : ℕ
-  pub is : u ≡ used.Row row x
+  pub is : u ≡ Ok (row, x)
   pub some-bases : 0 < x.line_bases
   pub some-width : 0 < x.line_width
 
-pub held-of : (u : InUse) (x : Record) → held_of u ≡ held.Row x → HeldIn u x
+pub held-of : (u : Result (ℕ × Record) Refusal) (x : Record) → held_of u ≡ Ok x → HeldIn u x
 unfolding held_of sound_row
-held-of (used.Refused f) x e = let z : ◌≡◌ {A = ℕ} 0 1 = cc in absurd (omega arith)
-held-of (used.Row r y) x e = go (eqb y.line_bases 0) refl (eqb y.line_width 0) refl e
+held-of (Err f) x e = let z : ◌≡◌ {A = ℕ} 0 1 = cc in absurd (omega arith)
+held-of (Ok (r, y)) x e = go (eqb y.line_bases 0) refl (eqb y.line_width 0) refl e
   where
-    go : (b : Bool) → eqb y.line_bases 0 ≡ b → (w : Bool) → eqb y.line_width 0 ≡ w → cond b (bad_row r) (cond w (bad_row r) (held.Row y)) ≡ held.Row x → HeldIn (used.Row r y) x
+    go : (b : Bool) → eqb y.line_bases 0 ≡ b → (w : Bool) → eqb y.line_width 0 ≡ w → cond b (bad_row r) (cond w (bad_row r) (Ok y)) ≡ Ok x → HeldIn (Ok (r, y)) x
     go true b w h q = let z : ◌≡◌ {A = ℕ} 0 1 = cc in absurd (omega arith)
     go false b true w q = let z : ◌≡◌ {A = ℕ} 0 1 = cc in absurd (omega arith)
     go false b false w q =
@@ -203,29 +198,29 @@ held-of (used.Row r y) x e = go (eqb y.line_bases 0) refl (eqb y.line_width 0) r
         rw (← m) (record { row = r; is = refl; some-bases = omega arith; some-width = omega arith })
 
 -- for a call that uses its name, step by step
-module _ (bytes : ℕ) (u : InUse) where
-  pub named_none : (f : Refusal) → u ≡ used.Refused f → held.Refused f ≡ named_of bytes u
+module _ (bytes : ℕ) (u : Result (ℕ × Record) Refusal) where
+  pub named_none : (f : Refusal) → u ≡ Err f → Err f ≡ named_of bytes u
   unfolding named_of
   named_none f e = rw e
 
-  module _ (r : ℕ) (x : Record) (e : u ≡ used.Row r x) (d : Held) (s : d ≡ sound_row r x) where
-    pub named-bad : (f : Refusal) → d ≡ held.Refused f → held.Refused f ≡ named_of bytes u
+  module _ (r : ℕ) (x : Record) (e : u ≡ Ok (r, x)) (d : Result Record Refusal) (s : d ≡ sound_row r x) where
+    pub named-bad : (f : Refusal) → d ≡ Err f → Err f ≡ named_of bytes u
     unfolding named_of named_in
     named-bad f q = rw (e, ← s, q)
 
-    pub named-good : (y : Record) → d ≡ held.Row y → named_in bytes r (held.Row y) ≡ named_of bytes u
+    pub named-good : (y : Record) → d ≡ Ok y → named_in bytes r (Ok y) ≡ named_of bytes u
     unfolding named_of
     named-good y q = rw (e, ← s, q)
 
 -- by its name: one that has it inside so many bytes is held
 module _ (bytes : ℕ) where
-  pub named-of : (u : InUse) (x : Record) → named_of bytes u ≡ held.Row x → (held_of u ≡ held.Row x) × (x.name_start + x.name_length ≤ bytes)
+  pub named-of : (u : Result (ℕ × Record) Refusal) (x : Record) → named_of bytes u ≡ Ok x → (held_of u ≡ Ok x) × (x.name_start + x.name_length ≤ bytes)
   unfolding named_of named_in held_of
-  named-of (used.Refused f) x e = let z : ◌≡◌ {A = ℕ} 0 1 = cc in absurd (omega arith)
-  named-of (used.Row r y) x e = go (sound_row r y) e
+  named-of (Err f) x e = let z : ◌≡◌ {A = ℕ} 0 1 = cc in absurd (omega arith)
+  named-of (Ok (r, y)) x e = go (sound_row r y) e
     where
-      row : (z : Record) (b : Bool) → ltb bytes (z.name_start + z.name_length) ≡ b → (d : Bool) → cond b (bad_row r) (cond d (bad_row r) (held.Row z)) ≡ held.Row x
-          → (held.Row z ≡ held.Row x) × (x.name_start + x.name_length ≤ bytes)
+      row : (z : Record) (b : Bool) → ltb bytes (z.name_start + z.name_length) ≡ b → (d : Bool) → cond b (bad_row r) (cond d (bad_row r) (Ok z)) ≡ Ok x
+          → ◌≡◌ {A = Result Record Refusal} (Ok z) (Ok x) × (x.name_start + x.name_length ≤ bytes)
       row z true h d q = let z : ◌≡◌ {A = ℕ} 0 1 = cc in absurd (omega arith)
       row z false h true q = let z : ◌≡◌ {A = ℕ} 0 1 = cc in absurd (omega arith)
       row z false h false q =
@@ -233,9 +228,9 @@ module _ (bytes : ℕ) where
           let e : z ≡ x = cc in
           (q, rw e at m)
 
-      go : (o : Held) → named_in bytes r o ≡ held.Row x → (o ≡ held.Row x) × (x.name_start + x.name_length ≤ bytes)
-      go (held.Row z) q = row z (ltb bytes (z.name_start + z.name_length)) refl (ltb bytes (z.description_start + z.description_length)) q
-      go (held.Refused f) q = let z : ◌≡◌ {A = ℕ} 0 1 = cc in absurd (omega arith)
+      go : (o : Result Record Refusal) → named_in bytes r o ≡ Ok x → (o ≡ Ok x) × (x.name_start + x.name_length ≤ bytes)
+      go (Ok z) q = row z (ltb bytes (z.name_start + z.name_length)) refl (ltb bytes (z.description_start + z.description_length)) q
+      go (Err f) q = let z : ◌≡◌ {A = ℕ} 0 1 = cc in absurd (omega arith)
 
 module _ (t : List ℕ) (n r : ℕ) where
   -- the table lacks a row in use; the row is not in use; it is
@@ -247,7 +242,7 @@ module _ (t : List ℕ) (n r : ℕ) where
   unfolding used_at
   used-unused h k = rw (le-ltb _ _ h, le-ltb _ _ k)
 
-  pub used-row : n ≤ row_count t → r < n → used.Row r (row_at t r) ≡ used_at t n r
+  pub used-row : n ≤ row_count t → r < n → Ok (r, row_at t r) ≡ used_at t n r
   unfolding used_at
   used-row h k = rw (le-ltb _ _ h, lt-ltb _ _ k)
 
@@ -261,21 +256,21 @@ module _ (t : List ℕ) (n r : ℕ) where
     unfolding held_at held_of
     held-numbers = rw (← used-row h k)
 
-    pub held-row : 0 < (row_at t r).line_bases → 0 < (row_at t r).line_width → held_at t n r ≡ held.Row (row_at t r)
+    pub held-row : 0 < (row_at t r).line_bases → 0 < (row_at t r).line_width → held_at t n r ≡ Ok (row_at t r)
     held-row b w = held-numbers ∙ sym (sound-row r (row_at t r) (omega arith) (omega arith))
 
   -- a row in use is row r
-  used-known : (s : ℕ) (x : Record) → used_at t n r ≡ used.Row s x → (n ≤ row_count t) × (r < n) × (x ≡ row_at t r)
+  used-known : (s : ℕ) (x : Record) → used_at t n r ≡ Ok (s, x) → (n ≤ row_count t) × (r < n) × (x ≡ row_at t r)
   unfolding used_at
   used-known s x e = go (ltb (row_count t) n) refl (ltb r n) refl e
     where
-      go : (l : Bool) → ltb (row_count t) n ≡ l → (u : Bool) → ltb r n ≡ u → cond l (no_row (row_count t)) (cond u (used.Row r (row_at t r)) (no_row r)) ≡ used.Row s x
+      go : (l : Bool) → ltb (row_count t) n ≡ l → (u : Bool) → ltb r n ≡ u → cond l (no_row (row_count t)) (cond u (Ok (r, row_at t r)) (no_row r)) ≡ Ok (s, x)
           → (n ≤ row_count t) × (r < n) × (x ≡ row_at t r)
       go true l u h q = let z : ◌≡◌ {A = ℕ} 0 1 = cc in absurd (omega arith)
       go false l false h q = let z : ◌≡◌ {A = ℕ} 0 1 = cc in absurd (omega arith)
-      go false l true h q = let m : x ≡ row_at t r = cc in (ltb-false _ _ l, ltb-true _ _ h, m)
+      go false l true h q = let p : ◌≡◌ {A = ℕ × Record} (r, row_at t r) (s, x) = cc in (ltb-false _ _ l, ltb-true _ _ h, ap (λ (y : ℕ × Record). y.1) (sym p))
 
-  pub held-known : (x : Record) → held_at t n r ≡ held.Row x → HeldRow t n r x
+  pub held-known : (x : Record) → held_at t n r ≡ Ok x → HeldRow t n r x
   unfolding held_at
   held-known x e =
       let h = held-of (used_at t n r) x e in
@@ -284,17 +279,17 @@ module _ (t : List ℕ) (n r : ℕ) where
 
   -- for a call that uses the name
   module _ (bytes : ℕ) where
-    pub named-row : (x : Record) → held_at t n r ≡ held.Row x → named_at t n r bytes ≡ named_in bytes r (held.Row x)
+    pub named-row : (x : Record) → held_at t n r ≡ Ok x → named_at t n r bytes ≡ named_in bytes r (Ok x)
     unfolding held_at named_at used_at held_of named_of
     named-row x e = go (ltb (row_count t) n) (ltb r n) e
       where
-        go : (l u : Bool) → held_of (cond l (no_row (row_count t)) (cond u (used.Row r (row_at t r)) (no_row r))) ≡ held.Row x
-            → named_of bytes (cond l (no_row (row_count t)) (cond u (used.Row r (row_at t r)) (no_row r))) ≡ named_in bytes r (held.Row x)
+        go : (l u : Bool) → held_of (cond l (no_row (row_count t)) (cond u (Ok (r, row_at t r)) (no_row r))) ≡ Ok x
+            → named_of bytes (cond l (no_row (row_count t)) (cond u (Ok (r, row_at t r)) (no_row r))) ≡ named_in bytes r (Ok x)
         go true u q = let z : ◌≡◌ {A = ℕ} 0 1 = cc in absurd (omega arith)
         go false false q = let z : ◌≡◌ {A = ℕ} 0 1 = cc in absurd (omega arith)
         go false true q = ap (named_in bytes r) q
 
-    pub named-known : (x : Record) → named_at t n r bytes ≡ held.Row x → (held_at t n r ≡ held.Row x) × (x.name_start + x.name_length ≤ bytes)
+    pub named-known : (x : Record) → named_at t n r bytes ≡ Ok x → (held_at t n r ≡ Ok x) × (x.name_start + x.name_length ≤ bytes)
     unfolding held_at named_at
     named-known x e = named-of bytes (used_at t n r) x e
 

@@ -1,14 +1,10 @@
 -- A record's row in a table of numbers: its words, reading it, and the table with it stored. Of a table of bytes, these are about its
 -- numbers (`numbersIn`).
-use Rattle.std.specs.Prelude.{ℕ, ◌+◌, ◌*◌, ◌/◌, ◌≡◌, refl, List, [], ◌∷◌, ◌++◌, cond, length, get_or, eqb, ltb}
+use Rattle.std.specs.Prelude.{ℕ, ◌+◌, ◌*◌, ◌/◌, ◌≡◌, refl, List, [], ◌∷◌, ◌++◌, cond, length, get_or, eqb, ltb, Result, Ok, Err, ⊤}
 use Rattle.std.proofs.Common.{lit<}
+use Rattle.refusal.specs.declared.Refusal.{Refusal}
 use Rattle.refusal.specs.declared.Refusal.TheVariants.{BadRow}
 use Rattle.record.specs.declared.Record.{Record}
-use Rattle.table.specs.declared.InUse.{InUse}
-use Rattle.table.specs.declared.InUse.TheVariants as used
-use Rattle.table.specs.declared.Held.{Held}
-use Rattle.table.specs.declared.Held.TheVariants as held
-use Rattle.table.specs.declared.Stored.{Stored}
 use Rattle.table.specs.Kinds
 
 -- ---- the words of a row
@@ -66,10 +62,9 @@ pub rows-counted : (t : List ℕ) → row_count t ≡ length t / row_words
 unfolding row_count
 rows-counted t = refl
 
-abbrev pub records : Kinds.Kind
+abbrev pub records : Kinds.Kind Record
 records =
     record {
-      Row = Record;
       size = row_words;
       words_of = words_of;
       words = words;
@@ -88,48 +83,48 @@ with_rows = Kinds.with_rows records
 -- ---- reading a row
 
 -- there is no row r in use
-abbrev pub no_row : ℕ → InUse
-no_row r = used.Refused (BadRow r)
+abbrev pub no_row : ℕ → Result (ℕ × Record) Refusal
+no_row r = Err (BadRow r)
 
 -- row r of a table with n rows in use: if it has fewer rows than n, the first that it lacks is refused, whichever is asked
-unfoldable pub used_at : List ℕ → ℕ → ℕ → InUse
-used_at t n r = cond (ltb (row_count t) n) (no_row (row_count t)) (cond (ltb r n) (used.Row r (row_at t r)) (no_row r))
+unfoldable pub used_at : List ℕ → ℕ → ℕ → Result (ℕ × Record) Refusal
+used_at t n r = cond (ltb (row_count t) n) (no_row (row_count t)) (cond (ltb r n) (Ok (r, row_at t r)) (no_row r))
 
 -- row r is refused
-abbrev pub bad_row : ℕ → Held
-bad_row r = held.Refused (BadRow r)
+abbrev pub bad_row : ℕ → Result Record Refusal
+bad_row r = Err (BadRow r)
 
 -- row r holds a record: its line bases and line width are not 0
-unfoldable pub sound_row : ℕ → Record → Held
-sound_row r x = cond (eqb x.line_bases 0) (bad_row r) (cond (eqb x.line_width 0) (bad_row r) (held.Row x))
+unfoldable pub sound_row : ℕ → Record → Result Record Refusal
+sound_row r x = cond (eqb x.line_bases 0) (bad_row r) (cond (eqb x.line_width 0) (bad_row r) (Ok x))
 
 -- what a row in use holds
-unfoldable pub held_of : InUse → Held
-held_of (used.Row r x) = sound_row r x
-held_of (used.Refused f) = held.Refused f
+unfoldable pub held_of : Result (ℕ × Record) Refusal → Result Record Refusal
+held_of (Ok (r, x)) = sound_row r x
+held_of (Err f) = Err f
 
 -- row r, if it holds a record, whose name and description have to lie inside so many bytes
-unfoldable pub named_in : ℕ → ℕ → Held → Held
-named_in bytes r (held.Row x) =
-    cond (ltb bytes (x.name_start + x.name_length)) (bad_row r) (cond (ltb bytes (x.description_start + x.description_length)) (bad_row r) (held.Row x))
-named_in bytes r (held.Refused f) = held.Refused f
+unfoldable pub named_in : ℕ → ℕ → Result Record Refusal → Result Record Refusal
+named_in bytes r (Ok x) =
+    cond (ltb bytes (x.name_start + x.name_length)) (bad_row r) (cond (ltb bytes (x.description_start + x.description_length)) (bad_row r) (Ok x))
+named_in bytes r (Err f) = Err f
 
 -- what a row in use holds, for a call that uses its name
-unfoldable pub named_of : ℕ → InUse → Held
-named_of bytes (used.Row r x) = named_in bytes r (sound_row r x)
-named_of bytes (used.Refused f) = held.Refused f
+unfoldable pub named_of : ℕ → Result (ℕ × Record) Refusal → Result Record Refusal
+named_of bytes (Ok (r, x)) = named_in bytes r (sound_row r x)
+named_of bytes (Err f) = Err f
 
 -- both of row r of a table with n rows in use
-unfoldable pub held_at : List ℕ → ℕ → ℕ → Held
+unfoldable pub held_at : List ℕ → ℕ → ℕ → Result Record Refusal
 held_at t n r = held_of (used_at t n r)
 
-unfoldable pub named_at : List ℕ → ℕ → ℕ → ℕ → Held
+unfoldable pub named_at : List ℕ → ℕ → ℕ → ℕ → Result Record Refusal
 named_at t n r bytes = named_of bytes (used_at t n r)
 
 -- ---- storing a row
 
 -- the answer: refusal 8, with the table's whole rows, where it has no row r
-abbrev pub stored_of : List ℕ → ℕ → Stored
+abbrev pub stored_of : List ℕ → ℕ → Result ⊤ Refusal
 stored_of = Kinds.stored_of records
 
 -- the table with a record in row r; as it was, where it has no row r
@@ -137,5 +132,5 @@ abbrev pub with_row : List ℕ → ℕ → Record → List ℕ
 with_row = Kinds.with_row records
 
 -- what storing a record in row r tells, and the table afterwards
-abbrev pub StoredAt : List ℕ → ℕ → Record → Stored → List ℕ → Type 0
+abbrev pub StoredAt : List ℕ → ℕ → Record → Result ⊤ Refusal → List ℕ → Type 0
 StoredAt = Kinds.StoredAt records

@@ -1,13 +1,9 @@
 // The numbers of a table that is lent as bytes: eight bytes to a number, low byte first.
-ghost use Rattle.std.specs.Prelude.{◌≡◌, ◌+◌, ◌*◌, ◌≤◌, length, take, drop, get_or, set};
-ghost use Rattle.table.specs.Numbers.{from_bytes, to_bytes, numbers_in};
-ghost use Rattle.table.specs.NumberLaws.{Became};
+ghost use Rattle.std.specs.Prelude.{◌≡◌, ◌+◌, ◌*◌, ◌≤◌, length, take, drop, get_or, set, []};
+ghost use Rattle.table.specs.Numbers.{from_bytes, to_bytes, numbers_in, rest_of};
+ghost use Rattle.table.specs.NumberLaws.{Became, length-own, length-few};
 
-fn wide(b: u8) -> u64
-    ensures { result ≡ b }
-{
-    b as u64
-}
+use crate::kind::Cell;
 
 // The number of at most eight bytes.
 fn from_bytes(bytes: &[u8]) -> u64
@@ -15,10 +11,8 @@ fn from_bytes(bytes: &[u8]) -> u64
     ensures { result ≡ from_bytes bytes.now }
 {
     let mut n = 0;
-    let mut i = bytes.len();
-    while 0 < i {
-        i -= 1;
-        n = n * 256 + wide(bytes[i]);
+    for i in (0..bytes.len()).rev() {
+        n = n * 256 + u64::from(bytes[i]);
     }
     n
 }
@@ -28,11 +22,9 @@ fn to_bytes(number: u64, bytes: &mut [u8])
     ensures { bytes.new ≡ to_bytes (length bytes.old) number }
 {
     let mut left = number;
-    let mut i = 0;
-    while i < bytes.len() {
+    for i in 0..bytes.len() {
         bytes[i] = (left % 256) as u8;
         left /= 256;
-        i += 1;
     }
 }
 
@@ -43,13 +35,46 @@ pub fn count(table: &[u8]) -> usize
     table.len() / 8
 }
 
-// Number `k` of a table that has it.
-pub(crate) fn here(table: &[u8], k: usize) -> u64
-    requires { k * 8 + 8 ≤ length table.now }
-    ensures { result ≡ get_or (numbers_in table.now) k 0 }
-{
-    let at = k * 8;
-    from_bytes(&table[at..at + 8])
+impl Cell for u64 {
+    ghost numbers = { λ t. t };
+
+    ghost rest = { λ t. [] };
+
+    fn count(table: &[u64]) -> usize {
+        table.len()
+    }
+
+    fn number(table: &[u64], k: usize) -> u64 {
+        table[k]
+    }
+
+    fn put(table: &mut [u64], k: usize, number: u64) {
+        table[k] = number;
+    }
+
+    ghost few = { λ t. length-own t };
+}
+
+impl Cell for u8 {
+    ghost numbers = { numbers_in };
+
+    ghost rest = { rest_of };
+
+    fn count(table: &[u8]) -> usize {
+        count(table)
+    }
+
+    fn number(table: &[u8], k: usize) -> u64 {
+        let at = k * 8;
+        from_bytes(&table[at..at + 8])
+    }
+
+    fn put(table: &mut [u8], k: usize, number: u64) {
+        let at = k * 8;
+        to_bytes(number, &mut table[at..at + 8]);
+    }
+
+    ghost few = { length-few };
 }
 
 // Number `k` of a table; 0 where it has none.
@@ -59,16 +84,7 @@ pub fn number(table: &[u8], k: usize) -> u64
     if count(table) <= k {
         return 0;
     }
-    here(table, k)
-}
-
-// Puts a number in the place of number `k` of a table that has it.
-pub(crate) fn put_here(table: &mut [u8], k: usize, number: u64)
-    requires { k * 8 + 8 ≤ length table.old }
-    ensures { Became table.old (set (numbers_in table.old) k number) table.new }
-{
-    let at = k * 8;
-    to_bytes(number, &mut table[at..at + 8]);
+    <u8 as Cell>::number(table, k)
 }
 
 // Puts a number in the place of number `k` of a table, if it has one.
@@ -78,17 +94,5 @@ pub fn put(table: &mut [u8], k: usize, number: u64)
     if count(table) <= k {
         return;
     }
-    put_here(table, k, number);
-}
-
-// Copies the numbers of a table from number `k` on, as many as there is room for.
-pub(crate) fn copy_numbers(table: &[u8], k: usize, room: &mut [u64])
-    requires { k + length room.old ≤ length (numbers_in table.now) }
-    ensures { room.new ≡ take (length room.old) (drop k (numbers_in table.now)) }
-{
-    let mut i = 0;
-    while i < room.len() {
-        room[i] = here(table, k + i);
-        i += 1;
-    }
+    <u8 as Cell>::put(table, k, number);
 }

@@ -1,33 +1,16 @@
 -- Each call's answer as a host gets it: the refusal's number and its two numbers, 0 if there is none, and what was found. What
 -- was not found is 0.
-use Rattle.std.specs.Prelude.{ℕ, ◌+◌, Bool, cond, not, eqb}
+use Rattle.std.specs.Prelude.{ℕ, ◌+◌, Bool, cond, not, eqb, Option, Some, None, Result, Ok, Err, ⊤}
+use Rattle.refusal.specs.declared.Refusal.{Refusal}
+use Rattle.record.specs.declared.Position.{Position}
+use Rattle.lines.specs.declared.Cursor.{Cursor}
+use Rattle.definition.specs.declared.Definition.{Definition}
+use Rattle.index_line.specs.declared.Entry.{Entry}
 use Rattle.refusal.specs.declared.Numbers.{Numbers}
 use Rattle.refusal.specs.Numbers.{numbers_of}
 use Rattle.lines.specs.declared.Span.{Span}
-use Rattle.lines.specs.declared.Step.{Step}
-use Rattle.lines.specs.declared.Step.TheVariants as line
-use Rattle.definition.specs.declared.DefinitionRead.{DefinitionRead}
-use Rattle.definition.specs.declared.DefinitionRead.TheVariants as definition
 use Rattle.record.specs.declared.Record.{Record}
-use Rattle.sequence.specs.declared.SequenceRead.{SequenceRead}
-use Rattle.sequence.specs.declared.SequenceRead.TheVariants as sequence
-use Rattle.sequence.specs.declared.RunRead.{RunRead}
-use Rattle.sequence.specs.declared.RunRead.TheVariants as run
-use Rattle.table.specs.declared.Stop.{Stop}
-use Rattle.table.specs.declared.Stop.TheVariants as stop
-use Rattle.index_line.specs.declared.LineRead.{LineRead}
-use Rattle.index_line.specs.declared.LineRead.TheVariants as read
-use Rattle.output.specs.declared.Written.{Written}
-use Rattle.output.specs.declared.Written.TheVariants as written
-use Rattle.indexer.specs.declared.Indexed.{Indexed}
-use Rattle.indexer.specs.declared.Indexed.TheVariants as indexed
 use Rattle.indexer.specs.declared.Step as step
-use Rattle.index.specs.declared.Found.{Found}
-use Rattle.index.specs.declared.Found.TheVariants as found
-use Rattle.region.specs.declared.Bound.{Bound}
-use Rattle.region.specs.declared.Bound.TheVariants.{Given, Absent}
-use Rattle.checker.specs.declared.Verdict.{Verdict}
-use Rattle.checker.specs.declared.Verdict.TheVariants as verdict
 use Rattle.wakeluri.specs.declared.answer.Answer.{Answer}
 use Rattle.wakeluri.specs.declared.answer.DefinitionAnswer.{DefinitionAnswer}
 use Rattle.wakeluri.specs.declared.answer.SpanAnswer.{SpanAnswer}
@@ -40,8 +23,8 @@ unfoldable pub given_by : ℕ → Bool
 given_by flag = not (eqb flag 0)
 
 -- a bound is absent if its flag is 0, and given otherwise, whatever its number
-unfoldable pub bound_of : ℕ → ℕ → Bound
-bound_of flag p = cond (eqb flag 0) Absent (Given (record { 0 = p }))
+unfoldable pub bound_of : ℕ → ℕ → Option Position
+bound_of flag p = cond (eqb flag 0) None (Some (record { 0 = p }))
 
 -- ---- what a host gets
 
@@ -99,58 +82,58 @@ row_told n found next plain x = record {
 -- ---- a count and a place
 
 -- how many bytes were written; which row was found
-unfoldable pub written_answer : Written → Answer
-written_answer (written.Bytes n) = answer_of fine n 0
-written_answer (written.Refused f) = answer_of (numbers_of f) 0 0
+unfoldable pub written_answer : Result ℕ Refusal → Answer
+written_answer (Ok n) = answer_of fine n 0
+written_answer (Err f) = answer_of (numbers_of f) 0 0
 
-unfoldable pub found_answer : Found → Answer
-found_answer (found.Row r) = answer_of fine r 0
-found_answer (found.Refused f) = answer_of (numbers_of f) 0 0
+unfoldable pub found_answer : Result ℕ Refusal → Answer
+found_answer (Ok r) = answer_of fine r 0
+found_answer (Err f) = answer_of (numbers_of f) 0 0
 
 -- how many bases were read, and the place where the read stopped
-unfoldable pub sequence_answer : SequenceRead → Answer
-sequence_answer (sequence.Bases n c) = answer_of fine n c.at
-sequence_answer (sequence.Refused f) = answer_of (numbers_of f) 0 0
+unfoldable pub sequence_answer : Result (ℕ × Cursor) Refusal → Answer
+sequence_answer (Ok (n, c)) = answer_of fine n c.at
+sequence_answer (Err f) = answer_of (numbers_of f) 0 0
 
 -- how many rows the table has now, after a refusal too
-unfoldable pub filled_answer : ℕ → Stop → Answer
-filled_answer rows stop.Ended = answer_of fine rows 0
-filled_answer rows (stop.Refused f) = answer_of (numbers_of f) rows 0
+unfoldable pub filled_answer : ℕ → Result ⊤ Refusal → Answer
+filled_answer rows (Ok tt) = answer_of fine rows 0
+filled_answer rows (Err f) = answer_of (numbers_of f) rows 0
 
 -- whether an index was accepted
-unfoldable pub verdict_answer : Verdict → Answer
-verdict_answer verdict.Accepted = answer_of fine 0 0
-verdict_answer (verdict.Refused f) = answer_of (numbers_of f) 0 0
+unfoldable pub verdict_answer : Result ⊤ Refusal → Answer
+verdict_answer (Ok tt) = answer_of fine 0 0
+verdict_answer (Err f) = answer_of (numbers_of f) 0 0
 
 -- ---- spans
 
 -- what a definition line says
-unfoldable pub definition_answer : DefinitionRead → DefinitionAnswer
-definition_answer (definition.Named d) = definition_of fine d.name d.description
-definition_answer (definition.Refused f) = definition_of (numbers_of f) no_span no_span
+unfoldable pub definition_answer : Result Definition Refusal → DefinitionAnswer
+definition_answer (Ok d) = definition_of fine d.name d.description
+definition_answer (Err f) = definition_of (numbers_of f) no_span no_span
 
 -- a line's content, and the place behind the line
-unfoldable pub line_answer : Step → SpanAnswer
-line_answer (line.Read s c) = span_of fine 1 s c.at
-line_answer line.End = span_of fine 0 no_span 0
+unfoldable pub line_answer : Option (Span × Cursor) → SpanAnswer
+line_answer (Some (s, c)) = span_of fine 1 s c.at
+line_answer None = span_of fine 0 no_span 0
 
 -- a run of bases, and the place behind it
-unfoldable pub run_answer : RunRead → SpanAnswer
-run_answer (run.Run s) = span_of fine 1 s (s.start + s.length)
-run_answer (run.Refused f) = span_of (numbers_of f) 0 no_span 0
+unfoldable pub run_answer : Result Span Refusal → SpanAnswer
+run_answer (Ok s) = span_of fine 1 s (s.start + s.length)
+run_answer (Err f) = span_of (numbers_of f) 0 no_span 0
 
 -- ---- rows
 
 -- an index line's record, and whether the line is plain
-unfoldable pub entry_answer : LineRead → RowAnswer
-entry_answer (read.Row e) = row_told fine 1 0 (flag_of e.plain) e.«record»
-entry_answer (read.Refused f) = row_told (numbers_of f) 0 0 0 no_record
+unfoldable pub entry_answer : Result Entry Refusal → RowAnswer
+entry_answer (Ok e) = row_told fine 1 0 (flag_of e.plain) e.«record»
+entry_answer (Err f) = row_told (numbers_of f) 0 0 0 no_record
 
 -- a record's row, and the place behind the record
-abbrev pub indexed_answer : ℕ → Indexed → RowAnswer
-indexed_answer next (indexed.Row x) = row_told fine 1 next 0 x
-indexed_answer next indexed.End = row_told fine 0 0 0 no_record
-indexed_answer next (indexed.Refused f) = row_told (numbers_of f) 0 0 0 no_record
+abbrev pub indexed_answer : ℕ → Result (Option Record) Refusal → RowAnswer
+indexed_answer next (Ok (Some x)) = row_told fine 1 next 0 x
+indexed_answer next (Ok None) = row_told fine 0 0 0 no_record
+indexed_answer next (Err f) = row_told (numbers_of f) 0 0 0 no_record
 
 unfoldable pub step_answer : step.Step → RowAnswer
 step_answer s = indexed_answer s.next.at s.answer

@@ -1,14 +1,11 @@
 -- Answers about exercises and scores as a host gets them.
-use Rattle.std.specs.Prelude.{ℕ, ◌≡◌, List}
+use Rattle.std.specs.Prelude.{ℕ, ◌≡◌, List, Result, Ok, Err}
+use Rattle.refusal.specs.declared.Refusal.{Refusal}
 use Rattle.refusal.specs.declared.Numbers.{Numbers}
 use Rattle.refusal.specs.Numbers.{numbers_of}
 use Rattle.output.specs.Outcome.{Outcome, leaves}
 use Rattle.exercise.specs.declared.Exercise.{Exercise}
-use Rattle.exercise.specs.declared.ExerciseRead.{ExerciseRead}
-use Rattle.exercise.specs.declared.ExerciseRead.TheVariants as exercise
 use Rattle.scoring.specs.declared.Score.{Score}
-use Rattle.scoring.specs.declared.Scored.{Scored}
-use Rattle.scoring.specs.declared.Scored.TheVariants as scored
 use Rattle.wakeluri.specs.declared.course.ExerciseAnswer.{ExerciseAnswer}
 use Rattle.wakeluri.specs.declared.course.ScoreAnswer.{ScoreAnswer}
 use Rattle.wakeluri.specs.Answer.{fine}
@@ -46,20 +43,20 @@ score_told n s = record {
 }
 
 -- where the name lies, the bounds and the edition
-unfoldable pub exercise_answer : ExerciseRead → ExerciseAnswer
-exercise_answer (exercise.Read x) = exercise_told fine x
-exercise_answer (exercise.Refused f) = exercise_told (numbers_of f) no_exercise
+unfoldable pub exercise_answer : Result Exercise Refusal → ExerciseAnswer
+exercise_answer (Ok x) = exercise_told fine x
+exercise_answer (Err f) = exercise_told (numbers_of f) no_exercise
 
 -- the counts and the score
-unfoldable pub score_answer : Scored → ScoreAnswer
-score_answer (scored.Score s) = score_told fine s
-score_answer (scored.Refused f) = score_told (numbers_of f) no_score
+unfoldable pub score_answer : Result Score Refusal → ScoreAnswer
+score_answer (Ok s) = score_told fine s
+score_answer (Err f) = score_told (numbers_of f) no_score
 
 -- a score, and the room with its key
-unfoldable pub scored_told : Outcome Scored → Outcome ScoreAnswer
+unfoldable pub scored_told : Outcome (Result Score Refusal) → Outcome ScoreAnswer
 scored_told o = leaves (score_answer o.answer) o.output
 
 -- the numbers of a call, by what it answers and leaves
-pub scored-told : (a : ScoreAnswer) (room : List ℕ) (r : Scored) (o : Outcome Scored) → leaves r room ≡ o → a ≡ score_answer r → leaves a room ≡ scored_told o
+pub scored-told : (a : ScoreAnswer) (room : List ℕ) (r : Result Score Refusal) (o : Outcome (Result Score Refusal)) → leaves r room ≡ o → a ≡ score_answer r → leaves a room ≡ scored_told o
 unfolding scored_told
 scored-told a room r o e q = rw (← e, q)

@@ -1,13 +1,15 @@
 -- What a host gets of FASTQ: rows of seven numbers, index lines of six columns, and reads of bases and of qualities.
-use Rattle.std.specs.Prelude.{ℕ, ◌≡◌, List, cond, length, eqb}
+use Rattle.std.specs.Prelude.{ℕ, ◌≡◌, List, cond, length, eqb, Option, Result, Ok, Err}
+use Rattle.refusal.specs.declared.Refusal.{Refusal}
+use Rattle.record.specs.declared.Position.{Position}
+use Rattle.fastq_checker.specs.declared.Stopped.{Stopped}
+use Rattle.fastq_line.specs.declared.Entry.{Entry}
 use Rattle.refusal.specs.declared.Numbers.{Numbers}
 use Rattle.refusal.specs.Numbers.{numbers_of}
-use Rattle.output.specs.declared.Written.{Written}
 use Rattle.output.specs.Outcome.{Outcome, leaves}
 use Rattle.table.specs.declared.Filled.{Filled}
 use Rattle.table.specs.Numbers.{numbers_in, with_numbers}
 use Rattle.table.specs.Rows.{held_of, named_of}
-use Rattle.region.specs.declared.Bound.{Bound}
 use Rattle.region.specs.Exact.{exact_held}
 use Rattle.fastq.specs.declared.QualityRow.{QualityRow}
 use Rattle.fastq.specs.declared.Part.{Part}
@@ -16,11 +18,7 @@ use Rattle.fastq_table.specs.Rows.{with_rows, used_at, qualities_at}
 use Rattle.fastq_table.specs.Fill.{Found, FilledBytes}
 use Rattle.fastq_index.specs.Part.{behind, PartBytes}
 use Rattle.fastq_index.specs.declared.PartFilled.{PartFilled}
-use Rattle.fastq_line.specs.declared.LineRead.{LineRead}
-use Rattle.fastq_line.specs.declared.LineRead.TheVariants as read
 use Rattle.fastq_line.specs.SixColumns.{line_written}
-use Rattle.fastq_checker.specs.declared.PartChecked.{PartChecked}
-use Rattle.fastq_checker.specs.declared.PartChecked.TheVariants as part
 use Rattle.wakeluri.specs.declared.answer.Answer.{Answer}
 use Rattle.wakeluri.specs.declared.qualities.FastqAnswer.{FastqAnswer}
 use Rattle.wakeluri.specs.Answer.{fine, no_record, flag_of, answer_of, filled_answer}
@@ -54,9 +52,9 @@ fastq_told n plain x = record {
 }
 
 -- an index line's row, and whether the line is plain
-unfoldable pub fastq_answer : LineRead → FastqAnswer
-fastq_answer (read.Row e) = fastq_told fine (flag_of e.plain) e.row
-fastq_answer (read.Refused f) = fastq_told (numbers_of f) 0 no_row
+unfoldable pub fastq_answer : Result Entry Refusal → FastqAnswer
+fastq_answer (Ok e) = fastq_told fine (flag_of e.plain) e.row
+fastq_answer (Err f) = fastq_told (numbers_of f) 0 no_row
 
 -- a table filled with rows of seven numbers, from its first
 unfoldable pub rows_told : Found → List ℕ → Outcome Answer
@@ -82,16 +80,16 @@ part-told a b s from before after f r t p q =
     rw (q, p, t.next, t.filled.filled.rows, t.filled.filled.stop, ← t.filled.filled.table, ← t.filled.bytes)
 
 -- where a part of a check stopped: the place in the index as the count, and the offset in the file
-unfoldable pub passed_answer : PartChecked → Answer
-passed_answer (part.Reached s) = answer_of fine s.index s.fastq
-passed_answer (part.Refused f) = answer_of (numbers_of f) 0 0
+unfoldable pub passed_answer : Result Stopped Refusal → Answer
+passed_answer (Ok s) = answer_of fine s.index s.fastq
+passed_answer (Err f) = answer_of (numbers_of f) 0 0
 
 -- ---- by row, of a table with n rows in use
 
 -- the index line of row r
-unfoldable pub line_from : List ℕ → List ℕ → ℕ → ℕ → List ℕ → Outcome Written
+unfoldable pub line_from : List ℕ → List ℕ → ℕ → ℕ → List ℕ → Outcome (Result ℕ Refusal)
 line_from names t n r out = line_written names (named_of (length names) (used_at t n r Bases)) (qualities_at t r) out
 
 -- the exact read of the bases, or of the qualities, of row r
-unfoldable pub part_read : Part → List ℕ → List ℕ → ℕ → ℕ → Bound → Bound → List ℕ → Outcome Written
+unfoldable pub part_read : Part → List ℕ → List ℕ → ℕ → ℕ → Option Position → Option Position → List ℕ → Outcome (Result ℕ Refusal)
 part_read p s t n r a e out = exact_held s (held_of (used_at t n r p)) a e out

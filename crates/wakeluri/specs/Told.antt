@@ -1,13 +1,13 @@
 -- What a call answers a host, and what it leaves in the bytes that are lent to it: an output, or a table.
-use Rattle.std.specs.Prelude.{ℕ, List, cond, length}
+use Rattle.std.specs.Prelude.{ℕ, List, cond, length, Result}
+use Rattle.refusal.specs.declared.Refusal.{Refusal}
+use Rattle.lines.specs.declared.Cursor.{Cursor}
 use Rattle.refusal.specs.declared.Refusal.TheVariants.{TooLong}
 use Rattle.refusal.specs.Numbers.{numbers_of, over_limit}
 use Rattle.lines.specs.Lines.{read_line}
 use Rattle.record.specs.declared.Record.{Record}
 use Rattle.table.specs.Rows.{with_rows}
-use Rattle.output.specs.declared.Written.{Written}
 use Rattle.output.specs.Outcome.{Outcome, leaves}
-use Rattle.sequence.specs.declared.SequenceRead.{SequenceRead}
 use Rattle.table.specs.Fill.{Found}
 use Rattle.table.specs.Numbers.{numbers_in, with_numbers}
 use Rattle.wakeluri.specs.declared.answer.Answer.{Answer}
@@ -16,11 +16,11 @@ use Rattle.wakeluri.specs.declared.answer.SpanAnswer.{SpanAnswer}
 use Rattle.wakeluri.specs.Answer.{no_span, span_of, written_answer, sequence_answer, filled_answer, line_answer}
 
 -- so many bytes, or a refusal
-unfoldable pub written_told : Outcome Written → Outcome Answer
+unfoldable pub written_told : Outcome (Result ℕ Refusal) → Outcome Answer
 written_told o = leaves (written_answer o.answer) o.output
 
 -- a read of a sequence
-unfoldable pub sequence_told : Outcome SequenceRead → Outcome Answer
+unfoldable pub sequence_told : Outcome (Result (ℕ × Cursor) Refusal) → Outcome Answer
 sequence_told o = leaves (sequence_answer o.answer) o.output
 
 -- a table filled with rows, from its first

@@ -1,9 +1,9 @@
 -- The part of a file that a region needs, as a host gets it.
+use Rattle.std.specs.Prelude.{Result, Ok, Err}
+use Rattle.refusal.specs.declared.Refusal.{Refusal}
 use Rattle.refusal.specs.declared.Numbers.{Numbers}
 use Rattle.refusal.specs.Numbers.{numbers_of}
 use Rattle.region.specs.declared.Part.{Part}
-use Rattle.region.specs.declared.Needed.{Needed}
-use Rattle.region.specs.declared.Needed.TheVariants as needed
 use Rattle.wakeluri.specs.declared.window.PartAnswer.{PartAnswer}
 use Rattle.wakeluri.specs.Answer.{fine}
 
@@ -22,6 +22,6 @@ part_told n part = record {
 }
 
 -- where the part begins, and the offset behind it
-unfoldable pub part_answer : Needed → PartAnswer
-part_answer (needed.Bytes part) = part_told fine part
-part_answer (needed.Refused f) = part_told (numbers_of f) no_part
+unfoldable pub part_answer : Result Part Refusal → PartAnswer
+part_answer (Ok part) = part_told fine part
+part_answer (Err f) = part_told (numbers_of f) no_part

@@ -1,18 +1,13 @@
 // Answers as a host gets them, and each call's answer as one of them.
 ghost use Rattle.std.specs.Prelude.{◌≡◌};
-ghost use Rattle.wakeluri.specs.Answer.{fine, no_span, no_record, flag_of, answer_of, definition_of, span_of, row_told, written_answer, found_answer, sequence_answer, filled_answer, verdict_answer, definition_answer, line_answer, entry_answer, step_answer};
+ghost use Rattle.wakeluri.specs.Answer.{fine, no_span, no_record, answer_of, definition_of, span_of, row_told, written_answer, sequence_answer, filled_answer, verdict_answer, definition_answer, line_answer, entry_answer, step_answer};
 
-use checker::Verdict;
-use definition::DefinitionRead;
-use index::Found;
-use index_line::LineRead;
-use indexer::Indexed;
-use lines::Span;
-use output::Written;
+use definition::Definition;
+use index_line::Entry;
+use lines::{Cursor, Span};
 use record::{Offset, Record};
-use refusal::Numbers;
-use sequence::SequenceRead;
-use table::{Filled, Stop};
+use refusal::{Numbers, Refusal};
+use table::Filled;
 
 // A refusal, 0 if there is none; a count (of bytes or of rows, or a row's number), and the place where a read stopped.
 #[repr(C)]
@@ -100,13 +95,6 @@ pub(crate) fn no_record() -> Record
     Record::unnamed(0, Offset(0), 0, 0)
 }
 
-// 1 for yes, 0 for no.
-pub(crate) fn flag(b: bool) -> u64
-    ensures { result ≡ flag_of b }
-{
-    if b { 1 } else { 0 }
-}
-
 // The four structs, field by field.
 pub(crate) fn count_answer(n: Numbers, count: usize, next: usize) -> Answer
     ensures { result ≡ answer_of n count next }
@@ -169,102 +157,116 @@ fn row_answer(n: Numbers, found: u64, next: usize, plain: u64, x: Record) -> Row
     }
 }
 
-// How many bytes were written.
-pub(crate) fn written_answer(r: Written) -> Answer
-    ensures { result ≡ written_answer r }
-{
-    match r {
-        Written::Bytes(n) => count_answer(fine(), n, 0),
-        Written::Refused(f) => count_answer(f.numbers(), 0, 0),
-    }
-}
+// How many bytes were written; or which row was found.
+impl From<Result<usize, Refusal>> for Answer {
+    ghost from_gives = { λ r told. told ≡ written_answer r };
 
-// Which row was found.
-pub(crate) fn found_answer(r: Found) -> Answer
-    ensures { result ≡ found_answer r }
-{
-    match r {
-        Found::Row(n) => count_answer(fine(), n, 0),
-        Found::Refused(f) => count_answer(f.numbers(), 0, 0),
+    #[tactic(auto, unfolding(crate::specs::Answer::written_answer))]
+    fn from(r: Result<usize, Refusal>) -> Answer {
+        match r {
+            Ok(n) => count_answer(fine(), n, 0),
+            Err(f) => count_answer(Numbers::from(f), 0, 0),
+        }
     }
 }
 
 // How many bases were read, and the place where the read stopped.
-pub(crate) fn sequence_answer(r: SequenceRead) -> Answer
-    ensures { result ≡ sequence_answer r }
-{
-    match r {
-        SequenceRead::Bases { count, next } => count_answer(fine(), count, next.at),
-        SequenceRead::Refused(f) => count_answer(f.numbers(), 0, 0),
+impl From<Result<(usize, Cursor), Refusal>> for Answer {
+    ghost from_gives = { λ r told. told ≡ sequence_answer r };
+
+    #[tactic(auto, unfolding(crate::specs::Answer::sequence_answer))]
+    fn from(r: Result<(usize, Cursor), Refusal>) -> Answer {
+        match r {
+            Ok((count, next)) => count_answer(fine(), count, next.at),
+            Err(why) => count_answer(Numbers::from(why), 0, 0),
+        }
     }
 }
 
 // How many rows the table has now.
-pub(crate) fn filled_answer(r: Filled) -> Answer
-    ensures { result ≡ filled_answer r.rows r.stop }
-{
-    let stop = r.stop;
-    match stop {
-        Stop::Ended => count_answer(fine(), r.rows, 0),
-        Stop::Refused(f) => count_answer(f.numbers(), r.rows, 0),
+impl From<Filled> for Answer {
+    ghost from_gives = { λ r told. told ≡ filled_answer r.rows r.stop };
+
+    #[tactic(auto, unfolding(crate::specs::Answer::filled_answer))]
+    fn from(r: Filled) -> Answer {
+        let stop = r.stop;
+        match stop {
+            Ok(()) => count_answer(fine(), r.rows, 0),
+            Err(f) => count_answer(Numbers::from(f), r.rows, 0),
+        }
     }
 }
 
 // Whether an index was accepted.
-pub(crate) fn verdict_answer(r: Verdict) -> Answer
-    ensures { result ≡ verdict_answer r }
-{
-    match r {
-        Verdict::Accepted => count_answer(fine(), 0, 0),
-        Verdict::Refused(f) => count_answer(f.numbers(), 0, 0),
+impl From<Result<(), Refusal>> for Answer {
+    ghost from_gives = { λ r told. told ≡ verdict_answer r };
+
+    #[tactic(auto, unfolding(crate::specs::Answer::verdict_answer))]
+    fn from(r: Result<(), Refusal>) -> Answer {
+        match r {
+            Ok(()) => count_answer(fine(), 0, 0),
+            Err(fault) => count_answer(Numbers::from(fault), 0, 0),
+        }
     }
 }
 
 // What a definition line says.
-pub(crate) fn definition_told(r: DefinitionRead) -> DefinitionAnswer
-    ensures { result ≡ definition_answer r }
-{
-    match r {
-        DefinitionRead::Named(d) => {
-            let name = d.name;
-            let description = d.description;
-            definition_answer(fine(), name, description)
+impl From<Result<Definition, Refusal>> for DefinitionAnswer {
+    ghost from_gives = { λ r told. told ≡ definition_answer r };
+
+    #[tactic(auto, unfolding(crate::specs::Answer::definition_answer))]
+    fn from(r: Result<Definition, Refusal>) -> DefinitionAnswer {
+        match r {
+            Ok(d) => {
+                let name = d.name;
+                let description = d.description;
+                definition_answer(fine(), name, description)
+            }
+            Err(f) => definition_answer(Numbers::from(f), no_span(), no_span()),
         }
-        DefinitionRead::Refused(f) => definition_answer(f.numbers(), no_span(), no_span()),
     }
 }
 
 // A line's content, and the place behind the line.
-pub(crate) fn line_answer(r: lines::Step) -> SpanAnswer
-    ensures { result ≡ line_answer r }
-{
-    match r {
-        lines::Step::Read(s, c) => span_answer(fine(), 1, s, c.at),
-        lines::Step::End => span_answer(fine(), 0, no_span(), 0),
+impl From<Option<(Span, Cursor)>> for SpanAnswer {
+    ghost from_gives = { λ r told. told ≡ line_answer r };
+
+    #[tactic(auto, unfolding(crate::specs::Answer::line_answer))]
+    fn from(r: Option<(Span, Cursor)>) -> SpanAnswer {
+        match r {
+            Some((s, c)) => span_answer(fine(), 1, s, c.at),
+            None => span_answer(fine(), 0, no_span(), 0),
+        }
     }
 }
 
 // An index line's record, and whether the line is plain.
-pub(crate) fn entry_answer(r: LineRead) -> RowAnswer
-    ensures { result ≡ entry_answer r }
-{
-    match r {
-        LineRead::Row(e) => {
-            let x = e.record;
-            row_answer(fine(), 1, 0, flag(e.plain), x)
+impl From<Result<Entry, Refusal>> for RowAnswer {
+    ghost from_gives = { λ r told. told ≡ entry_answer r };
+
+    #[tactic(auto, unfolding(crate::specs::Answer::entry_answer))]
+    fn from(r: Result<Entry, Refusal>) -> RowAnswer {
+        match r {
+            Ok(e) => {
+                let x = e.record;
+                row_answer(fine(), 1, 0, u64::from(e.plain), x)
+            }
+            Err(f) => row_answer(Numbers::from(f), 0, 0, 0, no_record()),
         }
-        LineRead::Refused(f) => row_answer(f.numbers(), 0, 0, 0, no_record()),
     }
 }
 
 // A record's row, and the place behind the record.
-pub(crate) fn step_answer(r: indexer::Step) -> RowAnswer
-    ensures { result ≡ step_answer r }
-{
-    let found = r.answer;
-    match found {
-        Indexed::Row(x) => row_answer(fine(), 1, r.next.at, 0, x),
-        Indexed::End => row_answer(fine(), 0, 0, 0, no_record()),
-        Indexed::Refused(f) => row_answer(f.numbers(), 0, 0, 0, no_record()),
+impl From<indexer::Step> for RowAnswer {
+    ghost from_gives = { λ r told. told ≡ step_answer r };
+
+    #[tactic(auto, unfolding(crate::specs::Answer::step_answer))]
+    fn from(r: indexer::Step) -> RowAnswer {
+        let found = r.answer;
+        match found {
+            Ok(Some(x)) => row_answer(fine(), 1, r.next.at, 0, x),
+            Ok(None) => row_answer(fine(), 0, 0, 0, no_record()),
+            Err(why) => row_answer(Numbers::from(why), 0, 0, 0, no_record()),
+        }
     }
 }

@@ -4,7 +4,6 @@ ghost use Rattle.complement.specs.Complement.{complement_of, reverse_complement_
 ghost use Rattle.output.specs.Outcome.{leaves};
 ghost use Rattle.wakeluri.specs.Told.{written_told};
 
-use crate::answer;
 use crate::answer::Answer;
 
 // The complement of some bases.
@@ -12,7 +11,7 @@ pub fn wakeluri_complement(bases: &[u8], out: &mut [u8]) -> Answer
     ensures { leaves result out.new ≡ written_told (complement_written bases.now (complement_of bases.now) out.old) }
 {
     let told = complement::complement(bases, out);
-    answer::written_answer(told)
+    Answer::from(told)
 }
 
 // The complement of some bases, from the last to the first.
@@ -20,5 +19,5 @@ pub fn wakeluri_reverse_complement(bases: &[u8], out: &mut [u8]) -> Answer
     ensures { leaves result out.new ≡ written_told (complement_written bases.now (reverse_complement_of bases.now) out.old) }
 {
     let told = complement::reverse_complement(bases, out);
-    answer::written_answer(told)
+    Answer::from(told)
 }

@@ -10,7 +10,7 @@ ghost use Rattle.wakeluri.specs.Told.{filled_told};
 ghost use Rattle.wakeluri.specs.Feeding.{rule_by};
 
 use crate::answer::Answer;
-use crate::{answer, feeding};
+use crate::feeding;
 
 // A row for each record of a file that begins at `from` or behind it, and before `to`, from the table's first on: by the original's rule
 // for 0, else by the complete one.
@@ -25,7 +25,7 @@ pub fn wakeluri_index_part(
 {
     let rule = feeding::rule_by(complete);
     let filled = parts::index_part(file, from as usize, to as usize, table, rule);
-    answer::filled_answer(filled)
+    Answer::from(filled)
 }
 
 // Whether the index lines that begin at `first` or behind it, and before `last`, lead to every base of the records that begin at `from` or
@@ -48,5 +48,5 @@ pub fn wakeluri_check_part(
         first as usize,
         last as usize,
     );
-    answer::verdict_answer(verdict)
+    Answer::from(verdict)
 }

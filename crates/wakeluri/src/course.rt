@@ -11,9 +11,9 @@ ghost use Rattle.wakeluri.specs.Course.{no_exercise, no_score, exercise_told, sc
 
 use crate::answer;
 use crate::answer::Answer;
-use exercise::{Exercise, ExerciseRead};
-use refusal::Numbers;
-use scoring::{Score, Scored};
+use exercise::Exercise;
+use refusal::{Numbers, Refusal};
+use scoring::Score;
 
 // An exercise: where its name lies in its bytes, its first and last base, and its edition.
 #[repr(C)]
@@ -100,22 +100,28 @@ fn score_told(n: Numbers, s: Score) -> ScoreAnswer
 }
 
 // What an exercise says.
-fn exercise_answer(r: ExerciseRead) -> ExerciseAnswer
-    ensures { result ≡ exercise_answer r }
-{
-    match r {
-        ExerciseRead::Read(x) => exercise_told(answer::fine(), x),
-        ExerciseRead::Refused(f) => exercise_told(f.numbers(), no_exercise()),
+impl From<Result<Exercise, Refusal>> for ExerciseAnswer {
+    ghost from_gives = { λ r told. told ≡ exercise_answer r };
+
+    #[tactic(auto, unfolding(crate::specs::Course::exercise_answer))]
+    fn from(r: Result<Exercise, Refusal>) -> ExerciseAnswer {
+        match r {
+            Ok(x) => exercise_told(answer::fine(), x),
+            Err(f) => exercise_told(Numbers::from(f), no_exercise()),
+        }
     }
 }
 
 // How a key and what was typed compare.
-fn score_answer(r: Scored) -> ScoreAnswer
-    ensures { result ≡ score_answer r }
-{
-    match r {
-        Scored::Score(s) => score_told(answer::fine(), s),
-        Scored::Refused(f) => score_told(f.numbers(), no_score()),
+impl From<Result<Score, Refusal>> for ScoreAnswer {
+    ghost from_gives = { λ r told. told ≡ score_answer r };
+
+    #[tactic(auto, unfolding(crate::specs::Course::score_answer))]
+    fn from(r: Result<Score, Refusal>) -> ScoreAnswer {
+        match r {
+            Ok(s) => score_told(answer::fine(), s),
+            Err(f) => score_told(Numbers::from(f), no_score()),
+        }
     }
 }
 
@@ -123,7 +129,7 @@ fn score_answer(r: Scored) -> ScoreAnswer
 pub fn wakeluri_read_exercise(exercise: &[u8]) -> ExerciseAnswer
     ensures { result ≡ exercise_answer (read_as 2 exercise.now) }
 {
-    exercise_answer(exercise::read_exercise(exercise))
+    ExerciseAnswer::from(exercise::read_exercise(exercise))
 }
 
 // The bytes of an exercise.
@@ -137,14 +143,14 @@ pub fn wakeluri_write_exercise(
     ensures { leaves result out.new ≡ written_told (written_as 2 name.now start end edition out.old) }
 {
     let written = exercise::write_exercise(name, start, end, edition, out);
-    answer::written_answer(written)
+    Answer::from(written)
 }
 
 // What was typed against a key, by the rules of an edition.
 pub fn wakeluri_score_typed(key: &[u8], typed: &[u8], edition: u64) -> ScoreAnswer
     ensures { result ≡ score_answer (scored_as key.now typed.now edition) }
 {
-    score_answer(scoring::score_typed(key, typed, edition))
+    ScoreAnswer::from(scoring::score_typed(key, typed, edition))
 }
 
 // What was typed for an exercise: its key is fetched into the room.
@@ -160,5 +166,5 @@ pub fn wakeluri_score_exercise(
     ensures { leaves result room.new ≡ scored_told (scorer_of exercise.now typed.now file.now names.now (numbers_in table.now) in_use room.old) }
 {
     let scored = scorer::score_exercise(exercise, typed, file, names, table, in_use as usize, room);
-    score_answer(scored)
+    ScoreAnswer::from(scored)
 }

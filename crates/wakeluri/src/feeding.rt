@@ -45,6 +45,7 @@ pub struct Feed {
 }
 
 // The rule by its number: 0 for the original's, else the complete one.
+// No From: neither a number nor `Rule` is of this crate.
 pub(crate) fn rule_by(n: u64) -> Rule
     ensures { result ≡ rule_by n }
 {
@@ -65,95 +66,110 @@ fn rule_number(rule: Rule) -> u64
 }
 
 // The line that waits.
-fn waiting_by(f: Feed) -> Waiting
-    ensures { result ≡ waiting_by f }
-{
-    Waiting {
-        width: f.waiting_width as usize,
-        bases: f.waiting_bases as usize,
-        whole: f.waiting_whole != 0,
-        starts: f.waiting_starts != 0,
-        name: f.waiting_name as usize,
-        text: f.waiting_text as usize,
-        kept: f.waiting_kept as usize,
+impl From<Feed> for Waiting {
+    ghost from_gives = { λ f told. told ≡ waiting_by f };
+
+    #[tactic(auto, unfolding(crate::specs::Feeding::waiting_by))]
+    fn from(f: Feed) -> Waiting {
+        Waiting {
+            width: f.waiting_width as usize,
+            bases: f.waiting_bases as usize,
+            whole: f.waiting_whole != 0,
+            starts: f.waiting_starts != 0,
+            name: f.waiting_name as usize,
+            text: f.waiting_text as usize,
+            kept: f.waiting_kept as usize,
+        }
     }
 }
 
 // The record whose lines are awaited.
-fn opened_by(f: Feed) -> Opened
-    ensures { result ≡ opened_by f }
-{
-    Opened {
-        at: f.at as usize,
-        end: f.end as usize,
-        said: Definition {
-            name: Span {
-                start: f.name_start as usize,
-                length: f.name_length as usize,
+impl From<Feed> for Opened {
+    ghost from_gives = { λ f told. told ≡ opened_by f };
+
+    fn from(f: Feed) -> Opened {
+        Opened {
+            at: f.at as usize,
+            end: f.end as usize,
+            said: Definition {
+                name: Span {
+                    start: f.name_start as usize,
+                    length: f.name_length as usize,
+                },
+                description: Span {
+                    start: f.description_start as usize,
+                    length: f.description_length as usize,
+                },
             },
-            description: Span {
-                start: f.description_start as usize,
-                length: f.description_length as usize,
-            },
-        },
+        }
     }
 }
 
-fn numbers_by(f: Feed) -> Numbers
-    ensures { result ≡ numbers_by f }
-{
-    Numbers {
-        position: f.position as usize,
-        bases: f.line_bases as usize,
-        width: f.line_width as usize,
+impl From<Feed> for Numbers {
+    ghost from_gives = { λ f told. told ≡ numbers_by f };
+
+    fn from(f: Feed) -> Numbers {
+        Numbers {
+            position: f.position as usize,
+            bases: f.line_bases as usize,
+            width: f.line_width as usize,
+        }
     }
 }
 
 // Its lines so far.
-fn so_far_by(f: Feed) -> SoFar
-    ensures { result ≡ so_far_by f }
-{
-    if f.lines == 0 {
-        return SoFar::Blank;
+impl From<Feed> for SoFar {
+    ghost from_gives = { λ f told. told ≡ so_far_by f };
+
+    #[tactic(auto, unfolding(crate::specs::Feeding::so_far_by))]
+    fn from(f: Feed) -> SoFar {
+        if f.lines == 0 {
+            return SoFar::Blank;
+        }
+        if f.lines == 1 {
+            return SoFar::Run(Numbers::from(f));
+        }
+        SoFar::Rows(Numbers::from(f), f.bases as usize)
     }
-    if f.lines == 1 {
-        return SoFar::Run(numbers_by(f));
-    }
-    SoFar::Rows(numbers_by(f), f.bases as usize)
 }
 
 // What is awaited.
-fn phase_by(f: Feed) -> Phase
-    ensures { result ≡ phase_by f }
-{
-    if f.stage == 0 {
-        return Phase::Definition(f.next as usize);
+impl From<Feed> for Phase {
+    ghost from_gives = { λ f told. told ≡ phase_by f };
+
+    #[tactic(auto, unfolding(crate::specs::Feeding::phase_by))]
+    fn from(f: Feed) -> Phase {
+        if f.stage == 0 {
+            return Phase::Definition(f.next as usize);
+        }
+        if f.stage == 1 {
+            return Phase::Lines(Opened::from(f), SoFar::from(f), f.next as usize);
+        }
+        if f.stage == 2 {
+            return Phase::Halted(refusal::Numbers {
+                refusal: f.refusal,
+                first: f.first,
+                second: f.second,
+            });
+        }
+        Phase::Ended
     }
-    if f.stage == 1 {
-        return Phase::Lines(opened_by(f), so_far_by(f), f.next as usize);
-    }
-    if f.stage == 2 {
-        return Phase::Halted(refusal::Numbers {
-            refusal: f.refusal,
-            first: f.first,
-            second: f.second,
-        });
-    }
-    Phase::Ended
 }
 
-fn feeder_by(f: Feed) -> Feeder
-    ensures { result ≡ feeder_by f }
-{
-    let rule = rule_by(f.complete);
-    let phase = phase_by(f);
-    let waiting = waiting_by(f);
-    Feeder {
-        rule,
-        total: f.total as usize,
-        rows: f.rows as usize,
-        phase,
-        waiting,
+impl From<Feed> for Feeder {
+    ghost from_gives = { λ f told. told ≡ feeder_by f };
+
+    fn from(f: Feed) -> Feeder {
+        let rule = rule_by(f.complete);
+        let phase = Phase::from(f);
+        let waiting = Waiting::from(f);
+        Feeder {
+            rule,
+            total: f.total as usize,
+            rows: f.rows as usize,
+            phase,
+            waiting,
+        }
     }
 }
 
@@ -189,25 +205,28 @@ fn no_opened() -> Opened
     }
 }
 
-fn lines_told(so_far: SoFar) -> Told
-    ensures { result ≡ lines_told so_far }
-{
-    match so_far {
-        SoFar::Blank => Told {
-            lines: 0,
-            numbers: no_numbers(),
-            bases: 0,
-        },
-        SoFar::Run(n) => Told {
-            lines: 1,
-            numbers: n,
-            bases: 0,
-        },
-        SoFar::Rows(n, count) => Told {
-            lines: 2,
-            numbers: n,
-            bases: count,
-        },
+impl From<SoFar> for Told {
+    ghost from_gives = { λ so_far told. told ≡ lines_told so_far };
+
+    #[tactic(auto, unfolding(crate::specs::Feeding::lines_told))]
+    fn from(so_far: SoFar) -> Told {
+        match so_far {
+            SoFar::Blank => Told {
+                lines: 0,
+                numbers: no_numbers(),
+                bases: 0,
+            },
+            SoFar::Run(n) => Told {
+                lines: 1,
+                numbers: n,
+                bases: 0,
+            },
+            SoFar::Rows(n, count) => Told {
+                lines: 2,
+                numbers: n,
+                bases: count,
+            },
+        }
     }
 }
 
@@ -243,8 +262,8 @@ fn flat(f: Feeder, n: refusal::Numbers, stage: u64, next: usize, d: Opened, t: T
         bases: t.bases as u64,
         waiting_width: waiting.width as u64,
         waiting_bases: waiting.bases as u64,
-        waiting_whole: answer::flag(waiting.whole),
-        waiting_starts: answer::flag(waiting.starts),
+        waiting_whole: u64::from(waiting.whole),
+        waiting_starts: u64::from(waiting.starts),
         waiting_name: waiting.name as u64,
         waiting_text: waiting.text as u64,
         waiting_kept: waiting.kept as u64,
@@ -252,29 +271,32 @@ fn flat(f: Feeder, n: refusal::Numbers, stage: u64, next: usize, d: Opened, t: T
 }
 
 // A feeder as a host holds it.
-fn feed_told(f: Feeder) -> Feed
-    ensures { result ≡ feed_told f }
-{
-    let phase = f.phase;
-    match phase {
-        Phase::Definition(at) => flat(
-            f,
-            answer::fine(),
-            0,
-            at,
-            no_opened(),
-            lines_told(SoFar::Blank),
-        ),
-        Phase::Lines(d, so_far, at) => flat(f, answer::fine(), 1, at, d, lines_told(so_far)),
-        Phase::Halted(n) => flat(f, n, 2, 0, no_opened(), lines_told(SoFar::Blank)),
-        Phase::Ended => flat(
-            f,
-            answer::fine(),
-            3,
-            0,
-            no_opened(),
-            lines_told(SoFar::Blank),
-        ),
+impl From<Feeder> for Feed {
+    ghost from_gives = { λ f told. told ≡ feed_told f };
+
+    #[tactic(auto, unfolding(crate::specs::Feeding::feed_told))]
+    fn from(f: Feeder) -> Feed {
+        let phase = f.phase;
+        match phase {
+            Phase::Definition(at) => flat(
+                f,
+                answer::fine(),
+                0,
+                at,
+                no_opened(),
+                Told::from(SoFar::Blank),
+            ),
+            Phase::Lines(d, so_far, at) => flat(f, answer::fine(), 1, at, d, Told::from(so_far)),
+            Phase::Halted(n) => flat(f, n, 2, 0, no_opened(), Told::from(SoFar::Blank)),
+            Phase::Ended => flat(
+                f,
+                answer::fine(),
+                3,
+                0,
+                no_opened(),
+                Told::from(SoFar::Blank),
+            ),
+        }
     }
 }
 
@@ -282,23 +304,23 @@ fn feed_told(f: Feeder) -> Feed
 pub fn wakeluri_feed_start(complete: u64) -> Feed
     ensures { result ≡ feed_told (begun_by (rule_by complete)) }
 {
-    feed_told(Feeder::start(rule_by(complete)))
+    Feed::from(Feeder::start(rule_by(complete)))
 }
 
 // The next bytes of the file.
 pub fn wakeluri_feed_piece(feed: Feed, piece: &[u8], table: &mut [u8]) -> Feed
     ensures { leaves result table.new ≡ call_told (piece_of (feeder_by feed) piece.now (numbers_in table.old)) table.old }
 {
-    let f = feeder_by(feed);
+    let f = Feeder::from(feed);
     let g = f.piece(piece, table);
-    feed_told(g)
+    Feed::from(g)
 }
 
 // The end of the file.
 pub fn wakeluri_feed_end(feed: Feed, table: &mut [u8]) -> Feed
     ensures { leaves result table.new ≡ call_told (end_of (feeder_by feed) (numbers_in table.old)) table.old }
 {
-    let f = feeder_by(feed);
+    let f = Feeder::from(feed);
     let g = f.end(table);
-    feed_told(g)
+    Feed::from(g)
 }

@@ -12,7 +12,6 @@ ghost use Rattle.wakeluri.specs.Answer.{step_answer, verdict_answer};
 ghost use Rattle.output.specs.Outcome.{leaves};
 ghost use Rattle.wakeluri.specs.Told.{filled_told};
 
-use crate::answer;
 use crate::answer::{Answer, RowAnswer};
 use fitting::Rule;
 use indexer::Indexer;
@@ -21,7 +20,7 @@ use indexer::Indexer;
 pub fn wakeluri_index_record(file: &[u8], at: u64) -> RowAnswer
     ensures { result ≡ step_answer (record_read file.now (record { at = at })) }
 {
-    answer::step_answer(Indexer { at: at as usize }.index_record(file))
+    RowAnswer::from(Indexer { at: at as usize }.index_record(file))
 }
 
 // A row for each record of a file, by the original's rule, from the table's first on.
@@ -29,7 +28,7 @@ pub fn wakeluri_index_file(file: &[u8], table: &mut [u8]) -> Answer
     ensures { leaves result table.new ≡ filled_told (file_in file.now (row_count (numbers_in table.old))) table.old }
 {
     let filled = fitting::bytes::index_file(file, table, Rule::Strict);
-    answer::filled_answer(filled)
+    Answer::from(filled)
 }
 
 // The same by the complete rule, which takes every file that has a right index at all.
@@ -37,7 +36,7 @@ pub fn wakeluri_index_complete(file: &[u8], table: &mut [u8]) -> Answer
     ensures { leaves result table.new ≡ filled_told (rows_in Complete file.now (row_count (numbers_in table.old))) table.old }
 {
     let filled = fitting::bytes::index_file(file, table, Rule::Complete);
-    answer::filled_answer(filled)
+    Answer::from(filled)
 }
 
 // A row for each line of an index, from the table's first on.
@@ -45,12 +44,12 @@ pub fn wakeluri_read_index(index: &[u8], table: &mut [u8]) -> Answer
     ensures { leaves result table.new ≡ filled_told (index_in index.now (row_count (numbers_in table.old))) table.old }
 {
     let filled = index::bytes::read_index(index, table);
-    answer::filled_answer(filled)
+    Answer::from(filled)
 }
 
 // Whether an index of any program leads to every base of a FASTA file.
 pub fn wakeluri_check(fasta: &[u8], index: &[u8]) -> Answer
     ensures { result ≡ verdict_answer (check_of fasta.now index.now) }
 {
-    answer::verdict_answer(checker::check(fasta, index))
+    Answer::from(checker::check(fasta, index))
 }

@@ -17,10 +17,10 @@ ghost use Rattle.wakeluri.specs.Qualities.{part_given, no_row, fastq_told, fastq
 use crate::answer::Answer;
 use crate::{answer, rows};
 use fastq::{Part, QualityRow};
-use fastq_checker::PartChecked;
-use fastq_line::LineRead;
+use fastq_checker::Stopped;
+use fastq_line::Entry;
 use record::Offset;
-use refusal::Numbers;
+use refusal::{Numbers, Refusal};
 
 // The row of an index line of six columns, and whether the line is plain.
 #[repr(C)]
@@ -70,19 +70,23 @@ fn fastq_told(n: Numbers, plain: u64, x: QualityRow) -> FastqAnswer
 }
 
 // An index line's row, and whether the line is plain.
-fn fastq_answer(r: LineRead) -> FastqAnswer
-    ensures { result ≡ fastq_answer r }
-{
-    match r {
-        LineRead::Row(e) => {
-            let x = e.row;
-            fastq_told(answer::fine(), answer::flag(e.plain), x)
+impl From<Result<Entry, Refusal>> for FastqAnswer {
+    ghost from_gives = { λ r told. told ≡ fastq_answer r };
+
+    #[tactic(auto, unfolding(crate::specs::Qualities::fastq_answer))]
+    fn from(r: Result<Entry, Refusal>) -> FastqAnswer {
+        match r {
+            Ok(e) => {
+                let x = e.row;
+                fastq_told(answer::fine(), u64::from(e.plain), x)
+            }
+            Err(f) => fastq_told(Numbers::from(f), 0, no_row()),
         }
-        LineRead::Refused(f) => fastq_told(f.numbers(), 0, no_row()),
     }
 }
 
 // What of a record is read, as a host gives it: its bases for 0, else its qualities.
+// No From: neither a number nor `Part` is of this crate.
 fn part(qualities: u64) -> Part
     ensures { result ≡ part_given qualities }
 {
@@ -97,7 +101,7 @@ pub fn wakeluri_fastq_index(file: &[u8], table: &mut [u8]) -> Answer
     ensures { leaves result table.new ≡ rows_told (file_in file.now (row_count (numbers_in table.old))) table.old }
 {
     let filled = fastq_index::index_file(file, table);
-    answer::filled_answer(filled)
+    Answer::from(filled)
 }
 
 // An answer that also tells where a part stopped.
@@ -120,7 +124,7 @@ pub fn wakeluri_fastq_index_part(file: &[u8], from: u64, to: u64, table: &mut [u
 {
     let part = fastq_index::index_part(file, from as usize, to as usize, table);
     let filled = part.filled;
-    stopped(answer::filled_answer(filled), part.next)
+    stopped(Answer::from(filled), part.next)
 }
 
 // A row for each line of an index of six columns, from the table's first on.
@@ -128,14 +132,14 @@ pub fn wakeluri_fastq_read_index(index: &[u8], table: &mut [u8]) -> Answer
     ensures { leaves result table.new ≡ rows_told (index_in index.now (row_count (numbers_in table.old))) table.old }
 {
     let filled = fastq_index::read_index(index, table);
-    answer::filled_answer(filled)
+    Answer::from(filled)
 }
 
 // What an index line of six columns says, given with its end.
 pub fn wakeluri_fastq_read_line(line: &[u8]) -> FastqAnswer
     ensures { result ≡ fastq_answer (read_line line.now) }
 {
-    fastq_answer(fastq_line::read_line(line))
+    FastqAnswer::from(fastq_line::read_line(line))
 }
 
 // The index line of a row, of six columns and with its LF.
@@ -151,7 +155,7 @@ pub fn wakeluri_fastq_write_line(
     let used = fastq_table::row(table, in_use as usize, row as usize, Part::Bases);
     let qualities = fastq_table::qualities(table, row as usize);
     let written = fastq_line::write_line(names, used, qualities, out);
-    answer::written_answer(written)
+    Answer::from(written)
 }
 
 // Exactly the bases, or the qualities, of a region of a row's record.
@@ -173,23 +177,26 @@ pub fn wakeluri_fastq_read(
     let e = rows::bound(has_end, end);
     let used = fastq_table::row(table, in_use as usize, row as usize, part(qualities));
     let read = region::read_exact(file, used, a, e, out);
-    answer::written_answer(read)
+    Answer::from(read)
 }
 
 // Whether an index of six columns, of any program, leads to every base and to every quality of a FASTQ file.
 pub fn wakeluri_fastq_check(fastq: &[u8], index: &[u8]) -> Answer
     ensures { result ≡ verdict_answer (check_of fastq.now index.now) }
 {
-    answer::verdict_answer(fastq_checker::check(fastq, index))
+    Answer::from(fastq_checker::check(fastq, index))
 }
 
 // Where a part of a check stopped: the place in the index as the count, and the offset in the file.
-fn passed_answer(r: PartChecked) -> Answer
-    ensures { result ≡ passed_answer r }
-{
-    match r {
-        PartChecked::Reached(s) => answer::count_answer(answer::fine(), s.index, s.fastq),
-        PartChecked::Refused(f) => answer::count_answer(f.numbers(), 0, 0),
+impl From<Result<Stopped, Refusal>> for Answer {
+    ghost from_gives = { λ r told. told ≡ passed_answer r };
+
+    #[tactic(auto, unfolding(crate::specs::Qualities::passed_answer))]
+    fn from(r: Result<Stopped, Refusal>) -> Answer {
+        match r {
+            Ok(s) => answer::count_answer(answer::fine(), s.index, s.fastq),
+            Err(f) => answer::count_answer(Numbers::from(f), 0, 0),
+        }
     }
 }
 
@@ -203,7 +210,7 @@ pub fn wakeluri_fastq_check_part(
 ) -> Answer
     ensures { result ≡ passed_answer (part_checked fastq.now from to index.now first) }
 {
-    passed_answer(fastq_checker::check_part(
+    Answer::from(fastq_checker::check_part(
         fastq,
         from as usize,
         to as usize,

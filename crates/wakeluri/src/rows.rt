@@ -10,24 +10,23 @@ ghost use Rattle.wakeluri.specs.Answer.{bound_of, found_answer};
 ghost use Rattle.output.specs.Outcome.{leaves};
 ghost use Rattle.wakeluri.specs.Told.{written_told};
 
-use crate::answer;
 use crate::answer::Answer;
-use record::Position;
-use region::Bound;
-use table::InUse;
+use record::{Position, Record};
+use refusal::Refusal;
 
 // A bound as a host gives it: absent if its flag is 0.
-pub(crate) fn bound(flag: u64, p: u64) -> Bound
+// The sheet has its own, of its own definition: one line each.
+pub(crate) fn bound(flag: u64, p: u64) -> Option<Position>
     ensures { result ≡ bound_of flag p }
 {
     if flag == 0 {
-        return Bound::Absent;
+        return None;
     }
-    Bound::Given(Position(p))
+    Some(Position(p))
 }
 
 // Row `row` of a table with so many rows in use.
-pub(crate) fn used_row(table: &[u8], in_use: u64, row: u64) -> InUse
+pub(crate) fn used_row(table: &[u8], in_use: u64, row: u64) -> Result<(usize, Record), Refusal>
     ensures { result ≡ used_at (numbers_in table.now) in_use row }
 {
     table::bytes::row(table, in_use as usize, row as usize)
@@ -37,7 +36,7 @@ pub(crate) fn used_row(table: &[u8], in_use: u64, row: u64) -> InUse
 pub fn wakeluri_find(names: &[u8], table: &[u8], in_use: u64, name: &[u8]) -> Answer
     ensures { result ≡ found_answer (row_read names.now (numbers_in table.now) in_use name.now) }
 {
-    answer::found_answer(index::bytes::find(names, table, in_use as usize, name))
+    Answer::from(index::bytes::find(names, table, in_use as usize, name))
 }
 
 // The index line of a row, with its LF.
@@ -51,7 +50,7 @@ pub fn wakeluri_write_index_line(
     ensures { leaves result out.new ≡ written_told (written_as names.now (numbers_in table.now) in_use row out.old) }
 {
     let written = index_line::write_line(names, used_row(table, in_use, row), out);
-    answer::written_answer(written)
+    Answer::from(written)
 }
 
 // Exactly the bases of a region of a row's record.
@@ -71,7 +70,7 @@ pub fn wakeluri_read_exact(
     let a = bound(has_start, start);
     let e = bound(has_end, end);
     let read = region::read_exact(file, used_row(table, in_use, row), a, e, out);
-    answer::written_answer(read)
+    Answer::from(read)
 }
 
 // The bases that a scan finds from the start of a region of a row's record on.
@@ -91,5 +90,5 @@ pub fn wakeluri_read_raw(
     let a = bound(has_start, start);
     let e = bound(has_end, end);
     let read = region::read_raw(file, used_row(table, in_use, row), a, e, out);
-    answer::written_answer(read)
+    Answer::from(read)
 }

@@ -8,15 +8,15 @@ ghost use Rattle.wakeluri.specs.Told.{sequence_told};
 use crate::answer;
 use crate::answer::{Answer, SpanAnswer};
 use lines::Cursor;
-use sequence::RunRead;
+use refusal::Numbers;
 
 // The next run of bases from an offset on, and the place behind it.
 pub fn wakeluri_read_run(file: &[u8], at: u64) -> SpanAnswer
     ensures { result ≡ run_answer (read_run file.now (record { at = at })) }
 {
     match sequence::read_run(file, Cursor { at: at as usize }) {
-        RunRead::Run(s) => answer::span_answer(answer::fine(), 1, s, s.start + s.length),
-        RunRead::Refused(f) => answer::span_answer(f.numbers(), 0, answer::no_span(), 0),
+        Ok(s) => answer::span_answer(answer::fine(), 1, s, s.start + s.length),
+        Err(f) => answer::span_answer(Numbers::from(f), 0, answer::no_span(), 0),
     }
 }
 
@@ -25,7 +25,7 @@ pub fn wakeluri_read_sequence(file: &[u8], at: u64, out: &mut [u8]) -> Answer
     ensures { leaves result out.new ≡ sequence_told (read_whole file.now (record { at = at }) out.old) }
 {
     let read = sequence::read_sequence(file, Cursor { at: at as usize }, out);
-    answer::sequence_answer(read)
+    Answer::from(read)
 }
 
 // At most so many bases from an offset on.
@@ -33,5 +33,5 @@ pub fn wakeluri_read_sequence_limit(file: &[u8], at: u64, limit: u64, out: &mut 
     ensures { leaves result out.new ≡ sequence_told (read_limit file.now limit (record { at = at }) out.old) }
 {
     let read = sequence::read_sequence_limit(file, Cursor { at: at as usize }, limit as usize, out);
-    answer::sequence_answer(read)
+    Answer::from(read)
 }

@@ -8,15 +8,19 @@ ghost use Rattle.wakeluri.specs.Sheets.{sheet_answer, sheet_told};
 
 use crate::answer;
 use crate::answer::Answer;
-use sheet::SheetRead;
+use refusal::Numbers;
+use sheet::RegionRefused;
 
 // How many bytes were written; or the refusal, and the place in the sheet of the region that is refused.
-fn sheet_answer(r: SheetRead) -> Answer
-    ensures { result ≡ sheet_answer r }
-{
-    match r {
-        SheetRead::Bytes(n) => answer::count_answer(answer::fine(), n, 0),
-        SheetRead::Refused { place, refusal } => answer::count_answer(refusal.numbers(), 0, place),
+impl From<Result<usize, RegionRefused>> for Answer {
+    ghost from_gives = { λ r told. told ≡ sheet_answer r };
+
+    #[tactic(auto, unfolding(crate::specs::Sheets::sheet_answer))]
+    fn from(r: Result<usize, RegionRefused>) -> Answer {
+        match r {
+            Ok(n) => answer::count_answer(answer::fine(), n, 0),
+            Err(e) => answer::count_answer(Numbers::from(e.refusal), 0, e.place),
+        }
     }
 }
 
@@ -32,5 +36,5 @@ pub fn wakeluri_read_sheet(
     ensures { leaves_both result out.new starts.new ≡ sheet_told (sheet_read file.now (numbers_in table.now) in_use (regions_in regions.now) out.old starts.old) }
 {
     let read = sheet::bytes::read_sheet(file, table, in_use as usize, regions, out, starts);
-    sheet_answer(read)
+    Answer::from(read)
 }

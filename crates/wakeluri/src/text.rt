@@ -8,20 +8,20 @@ ghost use Rattle.wakeluri.specs.Told.{line_told};
 use crate::answer;
 use crate::answer::{DefinitionAnswer, RowAnswer, SpanAnswer};
 use lines::Cursor;
-use refusal::Refusal;
+use refusal::{Numbers, Refusal};
 
 // What a definition line says, given with its end.
 pub fn wakeluri_definition_line(line: &[u8]) -> DefinitionAnswer
     ensures { result ≡ definition_answer (line_read line.now) }
 {
-    answer::definition_told(definition::read_line(line))
+    DefinitionAnswer::from(definition::read_line(line))
 }
 
 // What the content of a definition line says, without its end.
 pub fn wakeluri_definition_content(content: &[u8]) -> DefinitionAnswer
     ensures { result ≡ definition_answer (content_read content.now) }
 {
-    answer::definition_told(definition::read_content(content))
+    DefinitionAnswer::from(definition::read_content(content))
 }
 
 // The content of the line at an offset.
@@ -29,21 +29,21 @@ pub fn wakeluri_read_line(file: &[u8], at: u64) -> SpanAnswer
     ensures { result ≡ line_told file.now at }
 {
     if refusal::over_limit(file.len()) {
-        return answer::span_answer(Refusal::TooLong.numbers(), 0, answer::no_span(), 0);
+        return answer::span_answer(Numbers::from(Refusal::TooLong), 0, answer::no_span(), 0);
     }
-    answer::line_answer(Cursor { at: at as usize }.read_line(file))
+    SpanAnswer::from(Cursor { at: at as usize }.read_line(file))
 }
 
 // What an index line says, given with its end.
 pub fn wakeluri_index_line(line: &[u8]) -> RowAnswer
     ensures { result ≡ entry_answer (read_line line.now) }
 {
-    answer::entry_answer(index_line::read_line(line))
+    RowAnswer::from(index_line::read_line(line))
 }
 
 // What the content of an index line says, without its end.
 pub fn wakeluri_index_content(content: &[u8]) -> RowAnswer
     ensures { result ≡ entry_answer (read_content content.now) }
 {
-    answer::entry_answer(index_line::read_content(content))
+    RowAnswer::from(index_line::read_content(content))
 }

@@ -10,8 +10,8 @@ ghost use Rattle.wakeluri.specs.Window.{no_part, part_told, part_answer};
 use crate::answer::Answer;
 use crate::{answer, rows};
 use record::Offset;
-use refusal::Numbers;
-use region::{Needed, Part};
+use refusal::{Numbers, Refusal};
+use region::Part;
 
 // A part of a file: the offset of its first byte, and the one behind its last.
 #[repr(C)]
@@ -48,12 +48,15 @@ fn part_told(n: Numbers, part: Part) -> PartAnswer
 }
 
 // Which part of a file is needed.
-fn part_answer(r: Needed) -> PartAnswer
-    ensures { result ≡ part_answer r }
-{
-    match r {
-        Needed::Bytes(part) => part_told(answer::fine(), part),
-        Needed::Refused(f) => part_told(f.numbers(), no_part()),
+impl From<Result<Part, Refusal>> for PartAnswer {
+    ghost from_gives = { λ r told. told ≡ part_answer r };
+
+    #[tactic(auto, unfolding(crate::specs::Window::part_answer))]
+    fn from(r: Result<Part, Refusal>) -> PartAnswer {
+        match r {
+            Ok(part) => part_told(answer::fine(), part),
+            Err(f) => part_told(Numbers::from(f), no_part()),
+        }
     }
 }
 
@@ -77,7 +80,7 @@ pub fn wakeluri_read_window(
     let e = rows::bound(has_end, end);
     let used = rows::used_row(table, in_use, row);
     let read = region::read_window(length as usize, window, Offset(from), used, a, e, out);
-    answer::written_answer(read)
+    Answer::from(read)
 }
 
 // The part of a file of so many bytes that has the bases of a region of a row's record, for an output of so much room.
@@ -97,5 +100,5 @@ pub fn wakeluri_needed_bytes(
     let a = rows::bound(has_start, start);
     let e = rows::bound(has_end, end);
     let used = rows::used_row(table, in_use, row);
-    part_answer(region::needed_bytes(length as usize, room as usize, used, a, e))
+    PartAnswer::from(region::needed_bytes(length as usize, room as usize, used, a, e))
 }

@@ -5,7 +5,6 @@ ghost use Rattle.writer.specs.Text.{record_written, sequence_written};
 ghost use Rattle.wakeluri.specs.Answer.{given_by};
 ghost use Rattle.wakeluri.specs.Told.{written_told};
 
-use crate::answer;
 use crate::answer::Answer;
 
 // Is something given, by its flag.
@@ -28,7 +27,7 @@ pub fn wakeluri_write_record(
 {
     let described = is_given(has_description);
     let written = writer::write_record(name, described, description, bases, width as usize, out);
-    answer::written_answer(written)
+    Answer::from(written)
 }
 
 // Bases alone, in lines of a width: the next piece of a record whose first pieces were whole lines.
@@ -36,5 +35,5 @@ pub fn wakeluri_write_sequence(bases: &[u8], width: u64, out: &mut [u8]) -> Answ
     ensures { leaves result out.new ≡ written_told (sequence_written bases.now width out.old) }
 {
     let written = writer::write_sequence(bases, width as usize, out);
-    answer::written_answer(written)
+    Answer::from(written)
 }

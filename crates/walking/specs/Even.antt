@@ -1,5 +1,5 @@
 -- A sequence whose lines are even: strides, a last line that has no more bases, and blank lines. All its bases are where the strides say.
-use Rattle.std.specs.Prelude.{ℕ, ◌+◌, ◌-◌, ◌*◌, ◌^◌, ◌≤◌, ◌<◌, min, ◌≡◌, refl, Bool, true, false, length, take, ltb}
+use Rattle.std.specs.Prelude.{ℕ, ◌+◌, ◌-◌, ◌*◌, ◌^◌, ◌≤◌, ◌<◌, min, ◌≡◌, refl, Bool, true, false, length, take, ltb, None}
 use Rattle.std.proofs.Math.Path.{ap}
 use Rattle.std.proofs.Common.{sym, ◌∙◌, eq-eqb, ltb-true, ltb-false, arith, zero-mul}
 use mathlib.Core.List.{List, ◌∷◌, []}
@@ -13,12 +13,11 @@ use Rattle.record.specs.Place.{place_of}
 use Rattle.walking.specs.Places.{walked_as}
 use Rattle.walking.specs.Walk.{MovedOn, Onward, onward-start, onward-over, onward-bare, judged-there, moved-within, moved-next, walked-there}
 use Rattle.walking.specs.Strides.{stride_line, behind_strides, stride-over}
-use Rattle.walking.specs.declared.Placed.TheVariants.{There}
 use Rattle.walking.specs.declared.Stride.{Stride}
 
 -- the sequence from an offset on has n bases, each where strides of b bases and width w from there on say, and ends at e
 pub record EvenTo (s : List ℕ) (at n b w e : ℕ) : Type 0 where
-  pub walked : record { bases = n; placed = There; next = e } ≡ walked_as (place_of at b w) at (seq_at s at)
+  pub walked : record { bases = n; placed = None; next = e } ≡ walked_as (place_of at b w) at (seq_at s at)
 
 -- k lines from an offset on are strides
 pub record StridesPassed (s : List ℕ) (at b w k : ℕ) : Type 0 where
@@ -78,7 +77,7 @@ module _ (s : List ℕ) (at b w : ℕ) (z : 0 < b) (narrow : b < w) (fits : leng
     ended_by : (e : ℕ) → BlankTo s (i + y.width) e → (next : Stride) → MovedOn (behind_strides b k i).stride b w y.bases next → EvenTo s at (k * b + y.bases) b w e
     ended_by e n next m =
         let v = behind_strides b k i in
-        let g = walked-there b w v (record { 0 = i }) y.bases There next refl o.fewer (omega (arith, last_fits)) (λ e. absurd (omega arith))
+        let g = walked-there b w v (record { 0 = i }) y.bases None next refl o.fewer (omega (arith, last_fits)) (λ e. absurd (omega arith))
         (judged-there v.stride b (k * b) (record { 0 = i }) y.bases (omega (arith, last_fits)) some z true (sym (eq-eqb i (i + 0) (omega arith))) refl (omega arith)) m in
         let p = onward-over s at at b w i v o line (i + y.width) y.bases _ (some-line s i is-line ∙ ap (λ (n : ℕ). line ∷ seq_at s n) line-end)
         (omega (arith, ap (λ (x : Line). x.width) line_first)) (ap (λ (x : Line). x.bases) line_first) g in

@@ -1,6 +1,6 @@
 -- Laws of places: what the first base elsewhere says of every base.
 use Prim.Native.Nat.{ℕ, zero, suc, ◌+◌, ◌<◌}
-use Rattle.std.specs.Prelude.{◌≡◌, Bool, true, false, cond, get_or, eqb}
+use Rattle.std.specs.Prelude.{◌≡◌, Bool, true, false, cond, get_or, eqb, Option, Some, None}
 use Rattle.std.proofs.Math.Path.{refl, ap}
 use Rattle.std.proofs.Common.{sym, ◌∙◌, eq-eqb, ne_eqb, eqb-true, zero-add}
 use mathlib.Core.List.{List, [], ◌∷◌, ◌++◌}
@@ -13,13 +13,11 @@ use Rattle.record.specs.EvenLines.{length-bases_at}
 use Rattle.record.specs.declared.Position.{Position}
 use Rattle.record.specs.declared.Offset.{Offset}
 use Rattle.walking.specs.Places.{first_elsewhere, walked_as}
-use Rattle.walking.specs.declared.Placed.{Placed}
-use Rattle.walking.specs.declared.Placed.TheVariants.{There, Elsewhere}
 
 -- the first fault of two
-abbrev pub first_of : Placed → Placed → Placed
-first_of There y = y
-first_of (Elsewhere q o) y = Elsewhere q o
+abbrev pub first_of : Option (Position × Offset) → Option (Position × Offset) → Option (Position × Offset)
+first_of None y = y
+first_of (Some (q, o)) y = Some (q, o)
 
 module _ (f : ℕ → ℕ) where
   -- one base on
@@ -32,13 +30,13 @@ module _ (f : ℕ → ℕ) where
   first-there : (i o : ℕ) → o ≡ f (i + 0) → eqb o (f i) ≡ true
   first-there i o h = eq-eqb o (f i) (h ∙ ap f (add-zero i))
 
-  pub all_there : (i : ℕ) (os : List ℕ) → ((j : ℕ) → j < length os → get_or os j 0 ≡ f (i + j)) → There ≡ first_elsewhere f i os
+  pub all_there : (i : ℕ) (os : List ℕ) → ((j : ℕ) → j < length os → get_or os j 0 ≡ f (i + j)) → None ≡ first_elsewhere f i os
   unfolding first_elsewhere
   all_there i [] h = refl
   all_there i (o ∷ os) h = rw (first-there i o (h 0 (omega arith))) (all_there (suc i) os (shifted i o os (length os) h))
 
   pub first-elsewhere : (i m : ℕ) (os : List ℕ) → m < length os → ((j : ℕ) → j < m → get_or os j 0 ≡ f (i + j)) → (get_or os m 0 ≡ f (i + m) → ⊥)
-      → Elsewhere (record { 0 = suc (i + m) }) (record { 0 = get_or os m 0 }) ≡ first_elsewhere f i os
+      → Some ((record { 0 = suc (i + m) }), (record { 0 = get_or os m 0 })) ≡ first_elsewhere f i os
   unfolding first_elsewhere
   first-elsewhere i m [] l h n = absurd (omega arith)
   first-elsewhere i zero (o ∷ os) l h n = rw (ne_eqb o (f i) (λ e. n (e ∙ ap f (sym (add-zero i)))), add-zero i)
@@ -50,11 +48,11 @@ module _ (f : ℕ → ℕ) where
       q = omega arith
 
   -- the first base elsewhere, in words: every base is at its place, or base j is the first that is not
-  pub data PlacesSaid (i : ℕ) (os : List ℕ) : Placed → Type 0 where
-    all : ((j : ℕ) → j < length os → get_or os j 0 ≡ f (i + j)) → PlacesSaid i os There
-    one : (p : Position) (o : Offset) (j : ℕ) → p.0 ≡ suc (i + j) → o.0 ≡ get_or os j 0 → j < length os → ((m : ℕ) → m < j → get_or os m 0 ≡ f (i + m)) → (get_or os j 0 ≡ f (i + j) → ⊥) → PlacesSaid i os (Elsewhere p o)
+  pub data PlacesSaid (i : ℕ) (os : List ℕ) : Option (Position × Offset) → Type 0 where
+    all : ((j : ℕ) → j < length os → get_or os j 0 ≡ f (i + j)) → PlacesSaid i os None
+    one : (p : Position) (o : Offset) (j : ℕ) → p.0 ≡ suc (i + j) → o.0 ≡ get_or os j 0 → j < length os → ((m : ℕ) → m < j → get_or os m 0 ≡ f (i + m)) → (get_or os j 0 ≡ f (i + j) → ⊥) → PlacesSaid i os (Some (p, o))
 
-  pub places-only : (i : ℕ) (os : List ℕ) (p : Placed) → PlacesSaid i os p → p ≡ first_elsewhere f i os
+  pub places-only : (i : ℕ) (os : List ℕ) (p : Option (Position × Offset)) → PlacesSaid i os p → p ≡ first_elsewhere f i os
   places-only i os p (all h) = all_there i os h
   places-only i os p (one q o j e g l h n) = rw (← g, ← e) at (first-elsewhere i j os l h n)
 
@@ -70,7 +68,7 @@ module _ (f : ℕ → ℕ) where
       more n e h zero l = here e
       more n e h (suc m) l = h m (omega arith) ∙ ap f (omega arith)
 
-      go : (t : Bool) → eqb o (f i) ≡ t → (p : Placed) → PlacesSaid (suc i) os p → PlacesSaid i (o ∷ os) (cond t p (Elsewhere (record { 0 = suc i }) (record { 0 = o })))
+      go : (t : Bool) → eqb o (f i) ≡ t → (p : Option (Position × Offset)) → PlacesSaid (suc i) os p → PlacesSaid i (o ∷ os) (cond t p (Some ((record { 0 = suc i }), (record { 0 = o }))))
       go false e p s = one (record { 0 = suc i }) (record { 0 = o }) 0 (omega arith) refl (omega arith) (λ m l. absurd (omega arith)) (λ g. eqb-false _ _ e (g ∙ ap f (add-zero i)))
       go true e p (all h) = all (more (length os) (eqb-true _ _ e) h)
       go true e p (one q y j g r l h n) = one q y (suc j) (omega arith) r (omega arith) (more j (eqb-true _ _ e) h) (λ k. n (k ∙ ap f (omega arith)))
@@ -84,8 +82,8 @@ module _ (f : ℕ → ℕ) where
       q = omega arith
 
       go : (t : Bool) → first_elsewhere f (suc i) (xs ++ ys) ≡ first_of (first_elsewhere f (suc i) xs) (first_elsewhere f (suc i + length xs) ys)
-          → cond t (first_elsewhere f (suc i) (xs ++ ys)) (Elsewhere (record { 0 = suc i }) (record { 0 = x }))
-          ≡ first_of (cond t (first_elsewhere f (suc i) xs) (Elsewhere (record { 0 = suc i }) (record { 0 = x }))) (first_elsewhere f (i + suc (length xs)) ys)
+          → cond t (first_elsewhere f (suc i) (xs ++ ys)) (Some ((record { 0 = suc i }), (record { 0 = x })))
+          ≡ first_of (cond t (first_elsewhere f (suc i) xs) (Some ((record { 0 = suc i }), (record { 0 = x })))) (first_elsewhere f (i + suc (length xs)) ys)
       go true h = rw (← q) h
       go false h = refl
 

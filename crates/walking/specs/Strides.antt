@@ -1,5 +1,5 @@
 -- Lines that are strides: each has a stride's bases and a stride's width, and begins where a stride does. A walk passes them at once.
-use Rattle.std.specs.Prelude.{ℕ, suc, ◌+◌, ◌*◌, ◌^◌, ◌≤◌, ◌<◌, ◌≡◌, List, ◌∷◌, Bool, length}
+use Rattle.std.specs.Prelude.{ℕ, suc, ◌+◌, ◌*◌, ◌^◌, ◌≤◌, ◌<◌, ◌≡◌, List, ◌∷◌, Bool, length, None}
 use Rattle.std.proofs.Math.Path.{refl}
 use Rattle.std.proofs.Common.{ap, sym, arith, add-one, add-zero, zero-mul, add-mul, one-mul}
 use Rattle.std.proofs.Math.Bool.{true, false, cond}
@@ -10,7 +10,6 @@ use Rattle.lines.specs.Laws.{seq_at-end}
 use Rattle.lines.specs.Alike.{alike, alike-none, alike-passes, alike-within, LineLike}
 use Rattle.lines.specs.declared.Line.{Line}
 use Rattle.walking.specs.Walk.{WalkedLine, Onward, onward-start, onward-over, judged-there, moved-next, walked-there}
-use Rattle.walking.specs.declared.Placed.TheVariants.{There}
 use Rattle.walking.specs.declared.Walk.{Walk}
 
 -- a stride of b bases and width w, as a line
@@ -23,7 +22,7 @@ strides_here s at p b w = cond (eqb p at) (cond (ltb b w) (alike (stride_line b 
 
 -- the walk behind n strides, the next of which begins at an offset
 abbrev pub behind_strides : ℕ → ℕ → ℕ → Walk
-behind_strides b n start = record { bases = n * b; placed = There; stride = record { start = record { 0 = start }; passed = 0 } }
+behind_strides b n start = record { bases = n * b; placed = None; stride = record { start = record { 0 = start }; passed = 0 } }
 
 -- ---- what the code finds
 
@@ -63,7 +62,7 @@ module _ (s : List ℕ) (at b w : ℕ) (z : 0 < b) (narrow : b < w) (fits : leng
   stride-walked k i h f =
       let q : suc k * b ≡ k * b + b = rw (← add-one k, add-mul k 1 b, one-mul b) in
       let v = behind_strides b k i in
-      rw q (walked-there b w v (record { 0 = i }) b There (record { start = record { 0 = i + w }; passed = 0 }) refl f (omega arith) (λ e. absurd (omega arith))
+      rw q (walked-there b w v (record { 0 = i }) b None (record { start = record { 0 = i + w }; passed = 0 }) refl f (omega arith) (λ e. absurd (omega arith))
       (judged-there v.stride b (k * b) (record { 0 = i }) b (omega arith) (λ e. omega arith) z true (sym (eq-eqb i (i + 0) (omega arith))) refl (omega arith))
       (moved-next v.stride b w b z (i + w) (omega arith) (omega arith)))
 

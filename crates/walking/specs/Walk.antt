@@ -1,5 +1,5 @@
 -- The walk over a sequence beside the strides of an index line, and its laws.
-use Rattle.std.specs.Prelude.{ℕ, suc, ◌+◌, ◌-◌, ◌*◌, ◌/◌, ◌%◌, ◌^◌, ◌≤◌, ◌<◌, min, ◌≡◌, Bool, true, false, get_or, eqb}
+use Rattle.std.specs.Prelude.{ℕ, suc, ◌+◌, ◌-◌, ◌*◌, ◌/◌, ◌%◌, ◌^◌, ◌≤◌, ◌<◌, min, ◌≡◌, Bool, true, false, get_or, eqb, Option, Some, None}
 use Rattle.std.proofs.Math.Path.{refl, ap, sym}
 use Rattle.std.proofs.Common.{◌∙◌, eq-eqb, ne_eqb, eqb-true, add-one, div-add-mod', mod-lt, add-zero, zero-add}
 use mathlib.Core.List.{List, [], ◌∷◌, ◌++◌, append-nil, append_assoc}
@@ -18,8 +18,6 @@ use Rattle.record.specs.declared.Offset.{Offset}
 use Rattle.walking.specs.Places.{first_elsewhere, walked_as}
 use Rattle.lines.specs.Sums.{bases-within}
 use Rattle.walking.specs.PlaceLaws.{all_there, first-elsewhere, elsewhere-append, walked_same}
-use Rattle.walking.specs.declared.Placed.{Placed}
-use Rattle.walking.specs.declared.Placed.TheVariants.{There, Elsewhere}
 use Rattle.walking.specs.declared.Stride.{Stride}
 use Rattle.walking.specs.declared.Walk.{Walk}
 
@@ -31,13 +29,13 @@ walk_stride p b w i = record { start = record { 0 = min (p + i / b * w) (2 ^ 64 
 pub record Walking (p b w : ℕ) (os : List ℕ) (v : Walk) : Type 0 where
   pub bases : v.bases ≡ length os
   pub placed : v.placed ≡ first_elsewhere (place_of p b w) 0 os
-  pub stride : v.placed ≡ There → v.stride ≡ walk_stride p b w (length os)
+  pub stride : v.placed ≡ None → v.stride ≡ walk_stride p b w (length os)
   pub inside : v.stride.passed < b
 
 -- what a line's k bases from an offset on are, behind i others and beside the stride of the first, by position p and line width w
-pub record LineJudged (stride : Stride) (b i : ℕ) (at : Offset) (k : ℕ) (said : Placed) : Type 0 where
+pub record LineJudged (stride : Stride) (b i : ℕ) (at : Offset) (k : ℕ) (said : Option (Position × Offset)) : Type 0 where
   pub says : (p w : ℕ) → stride ≡ walk_stride p b w i → (w ≡ b → i + k ≤ b) → said ≡ first_elsewhere (place_of p b w) i (up_from at.0 k)
-  pub within : said ≡ There → stride.passed + k ≤ b
+  pub within : said ≡ None → stride.passed + k ≤ b
 
 -- the stride behind k bases that end in this stride
 pub record MovedOn (stride : Stride) (b w k : ℕ) (next : Stride) : Type 0 where
@@ -116,24 +114,24 @@ module _ (p b w i o k : ℕ) where
     in-stride : (m j : ℕ) → i % b + m ≤ b → j < m → j < k → get_or (up_from o k) j 0 ≡ place_of p b w (i + j)
     in-stride m j r l n = get_or-up_from o k j n ∙ rw h (sym (place-run p b w i j (omega arith)))
 
-    line-there : i % b + k ≤ b → There ≡ first_elsewhere (place_of p b w) i (up_from o k)
+    line-there : i % b + k ≤ b → None ≡ first_elsewhere (place_of p b w) i (up_from o k)
     line-there r = all_there (place_of p b w) i (up_from o k) (λ j m. in-stride k j r (rw length-up_from at m) (rw length-up_from at m))
 
     -- but not the first of the next stride
-    line-crosses : 0 < b → (w ≡ b → ⊥) → b - i % b < k → Elsewhere (record { 0 = suc (i + (b - i % b)) }) (record { 0 = o + (b - i % b) }) ≡ first_elsewhere (place_of p b w) i (up_from o k)
+    line-crosses : 0 < b → (w ≡ b → ⊥) → b - i % b < k → Some ((record { 0 = suc (i + (b - i % b)) }), (record { 0 = o + (b - i % b) })) ≡ first_elsewhere (place_of p b w) i (up_from o k)
     line-crosses z n r =
         rw (get_or-up_from o k (b - i % b) r) at
         (first-elsewhere (place_of p b w) i (b - i % b) (up_from o k) (rw length-up_from r)
         (λ j m. in-stride (b - i % b) j (omega (arith, mod-lt i z)) m (omega arith))
         (λ e. n (omega (arith, e, get_or-up_from o k (b - i % b) r, end-place b i z p w, mod-lt i z))))
 
-  line-elsewhere : 0 < k → (o ≡ place_of p b w i → ⊥) → Elsewhere (record { 0 = suc i }) (record { 0 = o }) ≡ first_elsewhere (place_of p b w) i (up_from o k)
+  line-elsewhere : 0 < k → (o ≡ place_of p b w i → ⊥) → Some ((record { 0 = suc i }), (record { 0 = o })) ≡ first_elsewhere (place_of p b w) i (up_from o k)
   line-elsewhere z h =
       rw (add-zero i, get_or-up_from o k 0 z, add-zero o) at (first-elsewhere (place_of p b w) i 0 (up_from o k) (rw length-up_from z) (λ j m. absurd (omega arith)) (λ e. h (sym (add-zero o) ∙ sym (get_or-up_from o k 0 z) ∙ e ∙ ap (place_of p b w) (add-zero i))))
 
 -- beside the stride of the first base
 module _ (stride : Stride) (b i : ℕ) (at : Offset) (k : ℕ) where
-  pub judged-none : stride.passed < b → k ≡ 0 → LineJudged stride b i at k There
+  pub judged-none : stride.passed < b → k ≡ 0 → LineJudged stride b i at k None
   judged-none l z = record {
     says = λ p w e n. all_there (place_of p b w) i (up_from at.0 k) (λ j m. absurd (omega (arith, rw (length-up_from, z) at m)));
     within = λ g. omega arith;
@@ -143,13 +141,13 @@ module _ (stride : Stride) (b i : ℕ) (at : Offset) (k : ℕ) where
     at_place : (p w : ℕ) → stride ≡ walk_stride p b w i → t ≡ true → at.0 ≡ place_of p b w i
     at_place p w e h = stride-place p b w i stride e at.0 (omega arith) (eqb-true _ _ (sym q ∙ h))
 
-    pub judged-there : t ≡ true → k ≤ b - stride.passed → LineJudged stride b i at k There
+    pub judged-there : t ≡ true → k ≤ b - stride.passed → LineJudged stride b i at k None
     judged-there h r = record {
       says = λ p w e n. line-there p b w i at.0 k (at_place p w e h) (omega (arith, passed_is p b w i stride e));
       within = λ g. omega arith;
     }
 
-    pub judged-crosses : t ≡ true → b - stride.passed < k → LineJudged stride b i at k (Elsewhere (record { 0 = i + (b - stride.passed) + 1 }) (record { 0 = at.0 + (b - stride.passed) }))
+    pub judged-crosses : t ≡ true → b - stride.passed < k → LineJudged stride b i at k (Some ((record { 0 = i + (b - stride.passed) + 1 }), (record { 0 = at.0 + (b - stride.passed) })))
     judged-crosses h r = record {
       says = λ p w e n.
           let m : stride.passed ≡ i % b = passed_is p b w i stride e in
@@ -157,7 +155,7 @@ module _ (stride : Stride) (b i : ℕ) (at : Offset) (k : ℕ) where
       within = λ g. let z : ◌≡◌ {A = ℕ} 0 1 = cc in absurd (omega arith);
     }
 
-    pub judged-elsewhere : t ≡ false → LineJudged stride b i at k (Elsewhere (record { 0 = i + 1 }) at)
+    pub judged-elsewhere : t ≡ false → LineJudged stride b i at k (Some ((record { 0 = i + 1 }), at))
     judged-elsewhere h = record {
       says = λ p w e n. rw add-one (line-elsewhere p b w i at.0 k (omega arith) (stride-elsewhere p b w i stride e at.0 (omega arith) (eqb-false _ _ (sym q ∙ h))));
       within = λ g. let z : ◌≡◌ {A = ℕ} 0 1 = cc in absurd (omega arith);
@@ -181,7 +179,7 @@ module _ (stride : Stride) (b w k : ℕ) (inside : stride.passed < b) where
 -- ---- the walk with one line more
 
 module _ (b w : ℕ) (v : Walk) (at : Offset) (k : ℕ) where
-  pub walked-elsewhere : (q : Position) (o : Offset) → v.placed ≡ Elsewhere q o → WalkedLine b w v at k (record { bases = v.bases + k; placed = Elsewhere q o; stride = v.stride })
+  pub walked-elsewhere : (q : Position) (o : Offset) → v.placed ≡ Some (q, o) → WalkedLine b w v at k (record { bases = v.bases + k; placed = Some (q, o); stride = v.stride })
   walked-elsewhere q o e = record {
     goes_on = λ p os o. record {
       bases = rw (length-append, length-up_from) (omega (arith, o.bases));
@@ -191,7 +189,7 @@ module _ (b w : ℕ) (v : Walk) (at : Offset) (k : ℕ) where
     };
   }
 
-  pub walked-there : (said : Placed) (next : Stride) → v.placed ≡ There → v.bases ≤ at.0 → at.0 + k < 2 ^ 64 → (w ≡ b → 2 ^ 64 - 1 ≤ b)
+  pub walked-there : (said : Option (Position × Offset)) (next : Stride) → v.placed ≡ None → v.bases ≤ at.0 → at.0 + k < 2 ^ 64 → (w ≡ b → 2 ^ 64 - 1 ≤ b)
       → LineJudged v.stride b v.bases at k said → MovedOn v.stride b w k next → WalkedLine b w v at k (record { bases = v.bases + k; placed = said; stride = next })
   walked-there said next e l f g j m = record {
     goes_on = λ p os o.
@@ -222,7 +220,7 @@ pub record Onward (s : List ℕ) (at p b w i : ℕ) (v : Walk) : Type 0 where
   pub fewer : v.bases ≤ i
 
 module _ (s : List ℕ) (at p b w : ℕ) where
-  pub onward-start : 0 < b → p < 2 ^ 64 → Onward s at p b w at (record { bases = 0; placed = There; stride = record { start = record { 0 = p }; passed = 0 } })
+  pub onward-start : 0 < b → p < 2 ^ 64 → Onward s at p b w at (record { bases = 0; placed = None; stride = record { start = record { 0 = p }; passed = 0 } })
   unfolding walk_stride first_elsewhere
   onward-start z f = record {
     passed = [];

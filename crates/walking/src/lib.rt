@@ -15,11 +15,15 @@ ghost use Rattle.walking.specs.Strides.{strides_here};
 use lines::Line;
 use record::{Offset, Position, Record};
 
-// Is every base where the numbers say, or which is the first that is not, and where that is.
+// The strides that the numbers of an index line describe: where the first begins, and how many bases and bytes each has. There is a byte between
+// one and the next, or one has all the bases there can be.
 #[derive(Clone, Copy)]
-pub enum Placed {
-    There,
-    Elsewhere(Position, Offset),
+struct Layout {
+    start: Offset,
+    bases: u64,
+    width: u64,
+    ghost some: { 0 < bases },
+    ghost apart: { width ≡ bases → 2 ^ 64 - 1 ≤ bases },
 }
 
 // The stride of the next base: where it begins, and how many of its bases are passed. A stride that would begin past the largest
@@ -34,7 +38,7 @@ struct Stride {
 #[derive(Clone, Copy)]
 struct Walk {
     bases: u64,
-    placed: Placed,
+    placed: Option<(Position, Offset)>,
     stride: Stride,
 }
 
@@ -49,11 +53,9 @@ struct Begun {
 #[derive(Clone, Copy)]
 pub struct Walked {
     pub bases: u64,
-    pub placed: Placed,
+    pub placed: Option<(Position, Offset)>,
     pub next: usize,
 }
-
-const LARGEST: u64 = 18446744073709551615;
 
 // Is `at` where the stride has its next base.
 fn is_next(stride: Stride, at: Offset) -> bool
@@ -66,64 +68,63 @@ fn is_next(stride: Stride, at: Offset) -> bool
 }
 
 // One line's bases, which lie from `at` on, behind `before` others.
-fn judge_line(stride: Stride, stride_bases: u64, before: u64, at: Offset, bases: u64) -> Placed
-    requires { (stride.passed < stride_bases) × (before ≤ at.0) × (at.0 + bases < 2 ^ 64) }
-    ensures { LineJudged stride stride_bases before at bases result }
+fn judge_line(
+    layout: Layout,
+    stride: Stride,
+    before: u64,
+    at: Offset,
+    bases: u64,
+) -> Option<(Position, Offset)>
+    requires { (stride.passed < layout.bases) × (before ≤ at.0) × (at.0 + bases < 2 ^ 64) }
+    ensures { LineJudged stride layout.bases before at bases result }
 {
     if bases == 0 {
-        return Placed::There;
+        return None;
     }
     if is_next(stride, at) {
-        let left = stride_bases - stride.passed;
+        let left = layout.bases - stride.passed;
         if bases <= left {
-            return Placed::There;
+            return None;
         }
-        return Placed::Elsewhere(Position(before + left + 1), Offset(at.0 + left));
+        return Some((Position(before + left + 1), Offset(at.0 + left)));
     }
-    Placed::Elsewhere(Position(before + 1), at)
+    Some((Position(before + 1), at))
 }
 
 // The stride behind some bases, which end in this stride.
-fn moved_on(stride: Stride, stride_bases: u64, stride_width: u64, bases: u64) -> Stride
-    requires { stride.passed < stride_bases }
-    ensures { MovedOn stride stride_bases stride_width bases result }
+fn moved_on(layout: Layout, stride: Stride, bases: u64) -> Stride
+    requires { stride.passed < layout.bases }
+    ensures { MovedOn stride layout.bases layout.width bases result }
 {
-    let start = stride.start;
-    if bases < stride_bases - stride.passed {
+    if bases < layout.bases - stride.passed {
         return Stride {
-            start,
             passed: stride.passed + bases,
-        };
-    }
-    if LARGEST - start.0 < stride_width {
-        return Stride {
-            start: Offset(LARGEST),
-            passed: 0,
+            ..stride
         };
     }
     Stride {
-        start: Offset(start.0 + stride_width),
+        start: Offset(stride.start.0.saturating_add(layout.width)),
         passed: 0,
     }
 }
 
 // One line more: its bases lie from `at` on.
-fn walk_line(walk: Walk, stride_bases: u64, stride_width: u64, at: Offset, bases: u64) -> Walk
-    requires { (walk.stride.passed < stride_bases) × (walk.bases ≤ at.0) × (at.0 + bases < 2 ^ 64) × (stride_width ≡ stride_bases → 2 ^ 64 - 1 ≤ stride_bases) }
-    ensures { WalkedLine stride_bases stride_width walk at bases result }
+fn walk_line(layout: Layout, walk: Walk, at: Offset, bases: u64) -> Walk
+    requires { (walk.stride.passed < layout.bases) × (walk.bases ≤ at.0) × (at.0 + bases < 2 ^ 64) }
+    ensures { WalkedLine layout.bases layout.width walk at bases result }
 {
     let placed = walk.placed;
     let stride = walk.stride;
     let all = walk.bases + bases;
     match placed {
-        Placed::Elsewhere(p, o) => Walk {
+        Some((p, o)) => Walk {
             bases: all,
-            placed: Placed::Elsewhere(p, o),
+            placed: Some((p, o)),
             stride,
         },
-        Placed::There => {
-            let here = judge_line(stride, stride_bases, walk.bases, at, bases);
-            let next = moved_on(stride, stride_bases, stride_width, bases);
+        None => {
+            let here = judge_line(layout, stride, walk.bases, at, bases);
+            let next = moved_on(layout, stride, bases);
             Walk {
                 bases: all,
                 placed: here,
@@ -135,36 +136,35 @@ fn walk_line(walk: Walk, stride_bases: u64, stride_width: u64, at: Offset, bases
 
 // How many lines from `at` on are strides, the first of which begins at `start`. None is where strides have no byte between them, or where
 // the first begins elsewhere.
-fn strides_here(s: &[u8], at: usize, start: Offset, stride_bases: u64, stride_width: u64) -> usize
-    ensures { result ≡ strides_here s.now at start.0 stride_bases stride_width }
+fn strides_here(s: &[u8], at: usize, layout: Layout) -> usize
+    ensures { result ≡ strides_here s.now at layout.start.0 layout.bases layout.width }
 {
-    if start.0 != at as u64 {
+    if layout.start.0 != at as u64 {
         return 0;
     }
-    if stride_width <= stride_bases {
+    if layout.width <= layout.bases {
         return 0;
     }
     let stride = Line {
-        width: stride_width as usize,
-        bases: stride_bases as usize,
+        width: layout.width as usize,
+        bases: layout.bases as usize,
     };
     lines::alike::lines_like(s, at, stride)
 }
 
 // The walk over the lines from `at` on that are strides: each of their bases is where the numbers say.
-fn pass_strides(s: &[u8], at: usize, start: Offset, stride_bases: u64, stride_width: u64) -> Begun
-    requires { 0 < stride_bases }
-    ensures { Onward s.now at start.0 stride_bases stride_width result.next result.walk }
+fn pass_strides(s: &[u8], at: usize, layout: Layout) -> Begun
+    ensures { Onward s.now at layout.start.0 layout.bases layout.width result.next result.walk }
 {
-    let strides = strides_here(s, at, start, stride_bases, stride_width) as u64;
-    let bases = strides * stride_bases;
-    let bytes = strides * stride_width;
+    let strides = strides_here(s, at, layout) as u64;
+    let bases = strides * layout.bases;
+    let bytes = strides * layout.width;
     Begun {
         walk: Walk {
             bases,
-            placed: Placed::There,
+            placed: None,
             stride: Stride {
-                start: Offset(start.0 + bytes),
+                start: Offset(layout.start.0 + bytes),
                 passed: 0,
             },
         },
@@ -172,26 +172,18 @@ fn pass_strides(s: &[u8], at: usize, start: Offset, stride_bases: u64, stride_wi
     }
 }
 
-// The sequence from `at` on, against a record whose strides have `stride_bases` bases.
-fn walk_strides(s: &[u8], at: usize, x: Record, stride_bases: u64) -> Walked
-    requires { (0 < stride_bases) × (x.line_width ≡ stride_bases → 2 ^ 64 - 1 ≤ stride_bases) }
-    ensures { result ≡ walked_as (place_of x.position.0 stride_bases x.line_width) at (seq_at s.now at) }
+// The sequence from `at` on, against these strides.
+// Its `while` counts no index: each line tells where the next begins.
+fn walk_strides(s: &[u8], at: usize, layout: Layout) -> Walked
+    ensures { result ≡ walked_as (place_of layout.start.0 layout.bases layout.width) at (seq_at s.now at) }
 {
-    let stride_width = x.line_width;
-    let start = x.position;
-    let begun = pass_strides(s, at, start, stride_bases, stride_width);
+    let begun = pass_strides(s, at, layout);
     let mut walk = begun.walk;
     let mut i = begun.next;
     while !lines::sequence_ends(s, i) {
         let e = lines::ends::line_end(s, i);
         let bases = lines::base_count(&s[i..e]);
-        walk = walk_line(
-            walk,
-            stride_bases,
-            stride_width,
-            Offset(i as u64),
-            bases as u64,
-        );
+        walk = walk_line(layout, walk, Offset(i as u64), bases as u64);
         i = e;
     }
     let placed = walk.placed;
@@ -206,11 +198,27 @@ fn walk_strides(s: &[u8], at: usize, x: Record, stride_bases: u64) -> Walked
 pub fn walk_sequence(s: &[u8], at: usize, x: Record) -> Walked
     ensures { result ≡ walked_as (place_in x) at (seq_at s.now at) }
 {
-    if x.line_bases == 0 {
-        return walk_strides(s, at, x, LARGEST);
+    let (start, width) = (x.position, x.line_width);
+    if x.line_bases == 0 || x.line_width == x.line_bases {
+        let bases = u64::MAX;
+        return walk_strides(
+            s,
+            at,
+            Layout {
+                start,
+                bases,
+                width,
+            },
+        );
     }
-    if x.line_width == x.line_bases {
-        return walk_strides(s, at, x, LARGEST);
-    }
-    walk_strides(s, at, x, x.line_bases)
+    let bases = x.line_bases;
+    walk_strides(
+        s,
+        at,
+        Layout {
+            start,
+            bases,
+            width,
+        },
+    )
 }

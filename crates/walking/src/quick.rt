@@ -1,6 +1,6 @@
 // The fast way over a sequence whose lines are even: strides, a last line that has no more bases, and blank lines. It is told without a walk from line to line, so that
 // its numbers stay at hand. What is not told so is for `walk_sequence`.
-ghost use Rattle.std.specs.Prelude.{◌≡◌, ◌+◌, ◌≤◌, ◌<◌, length};
+ghost use Rattle.std.specs.Prelude.{◌≡◌, ◌+◌, ◌≤◌, ◌<◌, IfSome, length};
 ghost use Rattle.walking.specs.Even.{EvenTo, StridesPassed, BlankTo};
 
 use lines::Line;
@@ -18,20 +18,21 @@ fn strides_before(s: &[u8], at: usize, all: usize, bases: usize, width: usize) -
     lines::alike::lines_like_up_to(s, at, Line { width, bases }, b'>', most)
 }
 
-// The offset behind the blank lines from `at` on, if they end the sequence; else 0. Most sequences have none.
-fn blank_end(s: &[u8], at: usize) -> usize
+// The offset behind the blank lines from `at` on, if they end the sequence. Most sequences have none.
+// Its `while` counts no index: each line tells where the next begins.
+fn blank_end(s: &[u8], at: usize) -> Option<usize>
     requires { at ≤ length s.now }
-    ensures { 0 < result → BlankTo s.now at result }
+    ensures { IfSome result (BlankTo s.now at) }
 {
     let mut i = at;
     while !lines::sequence_ends(s, i) {
         let line = lines::sequence_line(s, i);
         if line.bases != 0 {
-            return 0;
+            return None;
         }
         i += line.width;
     }
-    i
+    Some(i)
 }
 
 // The offset behind the sequence from `at` on, if it has `all` bases, in strides from there on, a last line that has no more bases than a stride, and blank lines; else
@@ -60,5 +61,6 @@ pub fn even_end(s: &[u8], at: usize, all: usize, bases: usize, width: usize) -> 
     if strides * bases + last.bases != all {
         return 0;
     }
-    blank_end(s, i + last.width)
+    // 0 where it is none, and no Option: docs/PROMISES.md names this function, whose promise says 0.
+    blank_end(s, i + last.width).unwrap_or(0)
 }

@@ -1,18 +1,18 @@
 -- Each answer of writing is given exactly in its case: the cases exclude one another, in the order of the refusals, and each answer has one.
 use Prim.Native.Nat.{ℕ, ◌≤◌, ◌<◌}
-use Rattle.std.specs.Prelude.{◌≡◌, Bool, true, false, cond, ◌&&◌, length, eqb, ltb}
+use Rattle.std.specs.Prelude.{◌≡◌, Bool, true, false, cond, ◌&&◌, length, eqb, ltb, Result}
 use Rattle.std.proofs.Math.Path.{refl}
 use mathlib.Core.List.{List}
 use Rattle.std.proofs.Common.{eqb-true, ltb-true, ltb-false, arith}
 use Rattle.std.proofs.lemmas.Bool.{eqb-false}
+use Rattle.refusal.specs.declared.Refusal.{Refusal}
 use Rattle.refusal.specs.declared.Refusal.TheVariants.{TooLong, ZeroWidth, NameUnfit, DescriptionUnfit, BaseUnfit, NoRoom}
-use Rattle.output.specs.declared.Written.{Written}
 use Rattle.output.specs.Outcome.{Outcome, refuses, gives, pours}
 use Rattle.writer.specs.Text.{record_text, any_of, name_unfit, description_unfit, barred, too_long, record_written}
 
 module _ (name : List ℕ) (t : Bool) (d bases : List ℕ) (w : ℕ) (out : List ℕ) where
   -- an answer with the output afterwards, and its case
-  pub data Case : Outcome Written → Type 0 where
+  pub data Case : Outcome (Result ℕ Refusal) → Type 0 where
     over-limit : too_long (length name) (length d) (length bases) ≡ true → Case (refuses TooLong out)
     no-width : too_long (length name) (length d) (length bases) ≡ false → w ≡ 0 → Case (refuses ZeroWidth out)
     bad-name : too_long (length name) (length d) (length bases) ≡ false → 0 < w → name_unfit name ≡ true → Case (refuses NameUnfit out)

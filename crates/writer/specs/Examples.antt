@@ -1,30 +1,28 @@
 -- What must come out: examples of records and refusals, as one table with a single proof.
-use Rattle.std.specs.Prelude.{ℕ, ◌≡◌, refl, List, [], ◌∷◌, true, false}
+use Rattle.std.specs.Prelude.{ℕ, ◌≡◌, refl, List, [], ◌∷◌, true, false, Result, Ok}
 use Prim.Native.String.{String}
 use Rattle.ascii.specs.Text.{text}
 use Rattle.refusal.specs.Numbers.{over_limit}
 use Rattle.refusal.specs.declared.Refusal.{Refusal}
 use Rattle.refusal.specs.declared.Refusal.TheVariants.{ZeroWidth, NameUnfit, DescriptionUnfit, BaseUnfit, NoRoom}
 use Rattle.definition.specs.Definition.{is_space}
-use Rattle.output.specs.declared.Written.{Written}
 use Rattle.output.specs.Outcome.{Outcome, leaves, refuses, pours}
-use Rattle.output.specs.declared.Written.TheVariants.{Bytes}
 use Rattle.writer.specs.Text.{described_text, definition_text, contents_up_to, lines_text, sequence_text, record_text, any_of, name_unfit, description_unfit, barred, too_long, record_written}
 
 -- a record without a description, and one with one, put in an output of some text
-abbrev plain : String → String → ℕ → String → Outcome Written
+abbrev plain : String → String → ℕ → String → Outcome (Result ℕ Refusal)
 plain name bases width out = record_written (text name) false [] (text bases) width (text out)
 
-abbrev described : String → String → String → ℕ → String → Outcome Written
+abbrev described : String → String → String → ℕ → String → Outcome (Result ℕ Refusal)
 described name description bases width out = record_written (text name) true (text description) (text bases) width (text out)
 
-abbrev bytes : ℕ → String → Outcome Written
-bytes n out = leaves (Bytes n) (text out)
+abbrev bytes : ℕ → String → Outcome (Result ℕ Refusal)
+bytes n out = leaves (Ok n) (text out)
 
-abbrev refused : Refusal → String → Outcome Written
+abbrev refused : Refusal → String → Outcome (Result ℕ Refusal)
 refused x out = refuses x (text out)
 
-unfoldable pub asked : List (Outcome Written)
+unfoldable pub asked : List (Outcome (Result ℕ Refusal))
 asked =
     described "s" "d" "ACG" 2 "..........."
     ∷ plain "s" "" 1 "..."
@@ -39,7 +37,7 @@ asked =
     ∷ plain "s" "A\r" 1 ""
     ∷ []
 
-unfoldable pub answers : List (Outcome Written)
+unfoldable pub answers : List (Outcome (Result ℕ Refusal))
 answers =
     bytes 10 ">s d\nAC\nG\n."
     ∷ bytes 3 ">s\n"

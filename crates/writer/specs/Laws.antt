@@ -1,37 +1,28 @@
 -- Laws of a record's text, and of the tests before it.
 use Prim.Native.Nat.{ℕ, zero, suc, ◌+◌, ◌-◌, ◌*◌, ◌/◌, ◌≤◌, ◌<◌, min}
-use Rattle.std.specs.Prelude.{◌≡◌, refl, Bool, true, false, ◌||◌, take, get_or, ltb}
+use Rattle.std.specs.Prelude.{◌≡◌, refl, Bool, true, false, ◌&&◌, ◌||◌, Option, is_some, take, get_or, ltb, Ok}
 use Rattle.std.proofs.Math.Path.{ap}
-use Rattle.std.proofs.Common.{sym, ◌∙◌, true≢false, take-append-drop, length-drop, length-take, drop_of_length-le, drop-drop, take-suc, take_all, length-take-le, ltb-true, ltb-false, arith, add-one, div-le_self}
+use Rattle.std.proofs.Common.{sym, ◌∙◌, true≢false, length-drop, length-take, drop_of_length-le, take-suc, take_all, take_at, drop_at, ltb-true, ltb-false, arith, add-one, div-le_self}
 use mathlib.Core.List.{List, [], ◌∷◌, ◌++◌, append_assoc}
 use Rattle.std.proofs.Math.ListN.{length, drop, set, length-append}
-use Rattle.std.proofs.Math.Seq.{drop-cons}
 use Rattle.std.proofs.Math.Nat.{div-eq_of_lt, add-div_right}
-use Rattle.copying.specs.Copied.{after_copy}
-use Rattle.copying.specs.Laws.{copy-whole}
 use Rattle.columns.specs.Bytes.{overlaid, overlaid-none, overlaid-length, overlaid-next, overlaid-more, overlaid-zero}
+use Rattle.std.specs.List.{list_any}
+use Rattle.std.specs.Bool.{then_some}
+use denote.Ref.{Bor}
 use Rattle.output.specs.Outcome.{leaves, refuses, pours}
 use Rattle.output.specs.Laws.{pours-short, pours-fits}
-use Rattle.output.specs.declared.Written.TheVariants.{Bytes}
 use Rattle.refusal.specs.Numbers.{over_limit}
 use Rattle.refusal.specs.declared.Refusal.TheVariants.{NoRoom}
-use Rattle.writer.specs.Text.{described_text, definition_text, contents_up_to, contents_of, line_of, lines_text, sequence_text, record_text, too_long, any_of, Put}
+use Rattle.writer.specs.Text.{described_text, definition_text, contents_up_to, contents_of, line_of, lines_text, sequence_text, record_text, too_long, any_of, description_unfit, Put, lent}
 
 -- ---- a test of some bytes
 
--- a search has come to i
-module _ (p : ℕ → Bool) (s : List ℕ) (i : ℕ) where
-  pub any-hit : i < length s → p (get_or s i 0) ≡ true → any_of p (drop i s) ≡ true
-  unfolding any_of
-  any-hit h e = rw (drop-cons s i 0 h, e)
-
-  pub any-on : i < length s → p (get_or s i 0) ≡ false → any_of p (drop i s) ≡ any_of p (drop (i + 1) s)
-  unfolding any_of
-  any-on h e = rw (add-one i, drop-cons s i 0 h, e)
-
-  pub any-end : length s ≤ i → any_of p (drop i s) ≡ false
-  unfolding any_of
-  any-end h = rw (drop_of_length-le s h)
+-- the library's word for the same
+pub any-list : (p : ℕ → Bool) (s : List ℕ) → list_any p s ≡ any_of p s
+unfolding any_of
+any-list p [] = refl
+any-list p (b ∷ s) = ap (λ (t : Bool). p b || t) (any-list p s)
 
 pub any_append : (p : ℕ → Bool) (a b : List ℕ) → any_of p (a ++ b) ≡ (any_of p a || any_of p b)
 unfolding any_of
@@ -43,23 +34,14 @@ any_append p (x ∷ a) b = go (p x) (any_append p a b)
     go false h = h
 
 -- a block of some bytes, and those behind it
-module _ (p : ℕ → Bool) (s : List ℕ) (i e : ℕ) (h : i ≤ e) where
-  block : any_of p (drop i s) ≡ (any_of p (take (e - i) (drop i s)) || any_of p (drop e s))
-  block =
-      let q : i + (e - i) ≡ e = omega arith in
-      ap (any_of p) (sym (take-append-drop (e - i) (drop i s))) ∙ any_append p (take (e - i) (drop i s)) (drop (e - i) (drop i s)) ∙ rw (drop-drop (e - i) i s, q)
+module _ (p : ℕ → Bool) (s block rest : List ℕ) (e : s ≡ block ++ rest) where
+  pub block-hit : any_of p block ≡ true → any_of p s ≡ true
+  block-hit t = ap (any_of p) e ∙ any_append p block rest ∙ rw t
 
-  pub block-hit : (v : Bool) → v ≡ any_of p (take (e - i) (drop i s)) → v ≡ true → any_of p (drop i s) ≡ true
-  block-hit v q t = block ∙ rw (← q, t)
-
-  pub block_none : (v : Bool) → v ≡ any_of p (take (e - i) (drop i s)) → v ≡ false → any_of p (drop i s) ≡ any_of p (drop e s)
-  block_none v q t = block ∙ rw (← q, t)
+  pub block_none : any_of p block ≡ false → any_of p s ≡ any_of p rest
+  block_none t = ap (any_of p) e ∙ any_append p block rest ∙ rw t
 
 -- one byte more
-pub any_none : (p : ℕ → Bool) (s : List ℕ) → any_of p (take 0 s) ≡ false
-unfolding any_of
-any_none p s = refl
-
 or-false : (t : Bool) → (t || false) ≡ t
 or-false true = refl
 or-false false = refl
@@ -152,44 +134,52 @@ drop_min w n t e = go (ltb w (length t)) refl
     go true h = let k : w < length t = ltb-true _ _ h in let q : w ≡ n = omega arith in ap (λ (x : ℕ). drop x t) q
     go false h = let k : length t ≤ w = ltb-false _ _ h in drop_of_length-le t k ∙ sym (drop_of_length-le t {i = n} (omega arith))
 
--- n bytes of s from i on, as a copy lays them
-pub copied : (out : List ℕ) (at : ℕ) (s : List ℕ) (i n : ℕ) → i + n ≤ length s → at + n ≤ length out → after_copy out at (drop i s) n ≡ overlaid out at (take n (drop i s))
-unfolding overlaid
-copied out at s i n h r =
-    copy-whole out at s i n h r
-    ∙ rw (append_assoc (take at out) (take n (drop i s)) (drop (at + n) out), length-take-le n (drop i s) (simp length-drop (omega arith)))
-
-module _ (w : ℕ) (z : 0 < w) (s : List ℕ) (i n : ℕ) (h : i < length s) (e : n ≡ min w (length s - i)) where
-  line_step : sequence_text w (drop i s) ≡ line_of (take n (drop i s)) ++ sequence_text w (drop (i + n) s)
+-- some bases are the content of a line, and those behind it
+module _ (w : ℕ) (z : 0 < w) (s line rest : List ℕ) (e : s ≡ line ++ rest) (n : length line ≡ min w (length s)) (h : 0 < length s) where
+  line_step : sequence_text w s ≡ line_of line ++ sequence_text w rest
   line_step =
-      let m : n ≡ min w (length (drop i s)) = e ∙ ap (min w) (sym (length-drop i s)) in
-      let a : take w (drop i s) ≡ take n (drop i s) = take_min w n (drop i s) m in
-      let b : drop w (drop i s) ≡ drop (i + n) s = drop_min w n (drop i s) m ∙ drop-drop n i s in
-      text-step w z (drop i s) (simp length-drop (omega arith)) ∙ rw (a, b)
+      let a : take w s ≡ line = take_min w (length line) s n ∙ ap (take (length line)) e ∙ take_at line rest (length line) refl in
+      let b : drop w s ≡ rest = drop_min w (length line) s n ∙ ap (drop (length line)) e ∙ drop_at line rest (length line) refl in
+      text-step w z s h ∙ rw (a, b)
 
-  taken : length (take n (drop i s)) ≡ n
-  taken = length-take-le n (drop i s) (simp length-drop (omega arith))
+  pub line-size : length (sequence_text w s) ≡ length line + 1 + length (sequence_text w rest)
+  line-size = ap length line_step ∙ omega (arith, length-append (line_of line) (sequence_text w rest), length-append line (10 ∷ []))
 
-  pub line-size : length (sequence_text w (drop i s)) ≡ n + 1 + length (sequence_text w (drop (i + n) s))
-  line-size =
-      ap length line_step
-      ∙ omega (arith, length-append (line_of (take n (drop i s))) (sequence_text w (drop (i + n) s)), length-append (take n (drop i s)) (10 ∷ []), taken)
+  module _ (out : List ℕ) (at : ℕ) (r : at + length (sequence_text w s) ≤ length out) where
+    line-laid : set (overlaid out at line) (at + length line) 10 ≡ overlaid out at (line_of line)
+    line-laid = overlaid-next out at (at + length line) line 10 refl (omega (arith, line-size))
 
-  module _ (out : List ℕ) (at : ℕ) (r : at + length (sequence_text w (drop i s)) ≤ length out) where
-    line-laid : set (after_copy out at (drop i s) n) (at + n) 10 ≡ overlaid out at (line_of (take n (drop i s)))
-    line-laid =
-        rw (copied out at s i n (omega arith) (omega (arith, line-size)))
-        (overlaid-next out at (at + n) (take n (drop i s)) 10 (omega (arith, taken)) (omega (arith, line-size)))
+    pub line-length : length (set (overlaid out at line) (at + length line) 10) ≡ length out
+    line-length = ap length line-laid ∙ overlaid-length out at (line_of line) (omega (arith, line-size, length-append line (10 ∷ [])))
 
-    pub line-length : length (set (after_copy out at (drop i s) n) (at + n) 10) ≡ length out
-    line-length =
-        ap length line-laid
-        ∙ overlaid-length out at (line_of (take n (drop i s))) (omega (arith, line-size, length-append (take n (drop i s)) (10 ∷ []), taken))
+    pub line-put : overlaid (set (overlaid out at line) (at + length line) 10) (at + length line + 1) (sequence_text w rest) ≡ overlaid out at (sequence_text w s)
+    line-put = rw (line-laid, line_step) (overlaid-more out at (at + length line + 1) (line_of line) (sequence_text w rest) (omega arith) (omega (arith, length-append line (10 ∷ []))))
 
-    pub line-put : overlaid (set (after_copy out at (drop i s) n) (at + n) 10) (at + n + 1) (sequence_text w (drop (i + n) s)) ≡ overlaid out at (sequence_text w (drop i s))
-    line-put =
-        rw (line-laid, line_step)
-        (overlaid-more out at (at + n + 1) (line_of (take n (drop i s))) (sequence_text w (drop (i + n) s)) (omega arith) (omega (arith, length-append (take n (drop i s)) (10 ∷ []), taken)))
+-- ---- a description that is told or not
+
+-- what is told is what is lent, where it counts
+module _ (t : Bool) (d : Bor (List ℕ)) (o : Option (Bor (List ℕ))) (e : o ≡ then_some t d) where
+  pub told-text : (name : List ℕ) → definition_text name (is_some o) (lent o) ≡ definition_text name t d.now
+  unfolding definition_text described_text
+  told-text name = rw e (go t)
+    where
+      go : (b : Bool) → definition_text name (is_some (then_some b d)) (lent (then_some b d)) ≡ definition_text name b d.now
+      go true = refl
+      go false = refl
+
+  pub told-unfit : (is_some o && description_unfit (lent o)) ≡ (t && description_unfit d.now)
+  told-unfit = rw e (go t)
+    where
+      go : (b : Bool) → (is_some (then_some b d) && description_unfit (lent (then_some b d))) ≡ (b && description_unfit d.now)
+      go true = refl
+      go false = refl
+
+  pub told-within : length (lent o) ≤ length d.now
+  told-within = rw e (go t)
+    where
+      go : (b : Bool) → length (lent (then_some b d)) ≤ length d.now
+      go true = omega arith
+      go false = omega arith
 
 -- ---- the definition line put
 
@@ -250,7 +240,7 @@ front-no-room text out n e h = rw e (pours-short text out (rw e at h))
 
 module _ (name : List ℕ) (t : Bool) (d bases : List ℕ) (w : ℕ) (out first after : List ℕ) (end n : ℕ) where
   pub record-put : Put out 0 (definition_text name t d) end first → after ≡ overlaid first end (sequence_text w bases) → n ≡ length (record_text name t d bases w) → n ≤ length out
-      → leaves (Bytes n) after ≡ pours (record_text name t d bases w) out
+      → leaves (Ok n) after ≡ pours (record_text name t d bases w) out
   unfolding record_text
   record-put p e m h =
       let x : List ℕ = definition_text name t d in
@@ -261,7 +251,7 @@ module _ (name : List ℕ) (t : Bool) (d bases : List ℕ) (w : ℕ) (out first 
 
 -- bases alone put at the front
 pub sequence-put : (w : ℕ) (bases out after : List ℕ) (n : ℕ) → n ≡ length (sequence_text w bases) → n ≤ length out → after ≡ overlaid out 0 (sequence_text w bases)
-    → leaves (Bytes n) after ≡ pours (sequence_text w bases) out
+    → leaves (Ok n) after ≡ pours (sequence_text w bases) out
 sequence-put w bases out after n m h e = rw (e, overlaid-zero out (sequence_text w bases), m) (pours-fits (sequence_text w bases) out (omega arith))
 
 -- what is not over the limit is within it

@@ -1,5 +1,5 @@
 -- A written record is read back: its first line says the name and the description, and the bases by the line rule of the rest are those given.
-use Rattle.std.specs.Prelude.{ℕ, zero, suc, ◌+◌, ◌-◌, ◌<◌, ◌≡◌, Bool, false, cond, ◌&&◌, ◌||◌, length, take, drop, get_or, eqb}
+use Rattle.std.specs.Prelude.{ℕ, zero, suc, ◌+◌, ◌-◌, ◌<◌, ◌≡◌, Bool, false, cond, ◌&&◌, ◌||◌, length, take, drop, get_or, eqb, Ok}
 use Rattle.std.proofs.Math.Path.{refl, ap}
 use Rattle.std.proofs.Common.{sym, ◌∙◌, true≢false, length-append, take_at, drop_at, get_or-append-add, eq-eqb, arith}
 use mathlib.Core.List.{List, [], ◌∷◌, ◌++◌, map, append-nil, append_assoc}
@@ -11,11 +11,9 @@ use Rattle.lines.specs.declared.Span.{Span}
 use Rattle.definition.specs.Definition.{is_space, spaced, run, kept, keep, described, named_of, content_says, definition_says}
 use Rattle.definition.specs.Laws.{described-some}
 use Rattle.definition.specs.declared.Definition.{Definition}
-use Rattle.definition.specs.declared.Parsed.TheVariants.{Named}
 use Rattle.columns.specs.Bytes.{is}
 use Rattle.output.specs.Outcome.{leaves, refuses, pours}
 use Rattle.output.specs.Laws.{no-bytes, poured-known}
-use Rattle.output.specs.declared.Written.TheVariants.{Bytes}
 use Rattle.refusal.specs.declared.Refusal.TheVariants.{TooLong, ZeroWidth, NameUnfit, DescriptionUnfit, BaseUnfit}
 use Rattle.writer.specs.Text.{described_text, definition_text, contents_of, line_of, lines_text, sequence_text, record_text, any_of, name_unfit, description_unfit, barred, too_long, record_written}
 use Rattle.writer.specs.Contents.{either-false, none_both, none-at, none-less, lines-line, good-contents, contents-joined, good-lines, good-seq, good-bases}
@@ -94,14 +92,14 @@ run-first [] e = refl
 run-first (b ∷ d) e = rw e
 
 -- what a name and the rest say, by the place of the name's end
-says-by : (s : List ℕ) (n : ℕ) (d : Definition) → run (spaced false) s ≡ n → named_of s n ≡ Named d → content_says (62 ∷ s) ≡ Named d
+says-by : (s : List ℕ) (n : ℕ) (d : Definition) → run (spaced false) s ≡ n → named_of s n ≡ Ok d → content_says (62 ∷ s) ≡ Ok d
 unfolding content_says
 says-by s n d e h = rw e h
 
 spanned : ℕ → List ℕ → Span
 spanned n q = described (suc n + run (spaced true) q) (keep is_space (drop (run (spaced true) q) q))
 
-named_by : (s q : List ℕ) (n : ℕ) → 0 < n → drop n s ≡ q → named_of s n ≡ Named (record { name = record { start = 1; length = n }; description = spanned n q })
+named_by : (s q : List ℕ) (n : ℕ) → 0 < n → drop n s ≡ q → named_of s n ≡ Ok (record { name = record { start = 1; length = n }; description = spanned n q })
 unfolding spanned
 named_by s q zero h e = absurd (omega arith)
 named_by s q (suc n) h e = rw e
@@ -126,10 +124,10 @@ unfolding run described_text is_space
 name-stops true d = refl
 name-stops false d = refl
 
-pub content-says : (name : List ℕ) (t : Bool) (d : List ℕ) → GoodName name → (t ≡ true → GoodDescription d) → content_says (62 ∷ (name ++ described_text t d)) ≡ Named (definition_of name t d)
+pub content-says : (name : List ℕ) (t : Bool) (d : List ℕ) → GoodName name → (t ≡ true → GoodDescription d) → content_says (62 ∷ (name ++ described_text t d)) ≡ Ok (definition_of name t d)
 content-says name t d g k =
     says-by (name ++ described_text t d) (length name) (definition_of name t d) (run-name name (described_text t d) g.whole (name-stops t d))
-    (named_by (name ++ described_text t d) (described_text t d) (length name) g.some (drop_at name (described_text t d) (length name) refl) ∙ ap Named (spans t k))
+    (named_by (name ++ described_text t d) (described_text t d) (length name) g.some (drop_at name (described_text t d) (length name) refl) ∙ ap Ok (spans t k))
   where
     spans : (t : Bool) → (t ≡ true → GoodDescription d) → record { name = record { start = 1; length = length name }; description = spanned (length name) (described_text t d) } ≡ definition_of name t d
     spans false k = unfold described_text in rw (span_none (length name))
@@ -164,7 +162,7 @@ head-kept name false d g k = rw (append-nil name) (chop-tail (62 ∷ []) name g.
 head-kept name true d g k =
     rw (append_assoc (62 ∷ name) (32 ∷ []) d) at (chop-tail ((62 ∷ name) ++ (32 ∷ [])) d (k refl).some (k refl).last)
 
-pub line-says : (name : List ℕ) (t : Bool) (d : List ℕ) → GoodName name → (t ≡ true → GoodDescription d) → definition_says (definition_text name t d) ≡ Named (definition_of name t d)
+pub line-says : (name : List ℕ) (t : Bool) (d : List ℕ) → GoodName name → (t ≡ true → GoodDescription d) → definition_says (definition_text name t d) ≡ Ok (definition_of name t d)
 unfolding definition_says
 line-says name t d g k =
     let l : List ℕ = head_of name t d in
@@ -221,7 +219,7 @@ no_more = refl
 -- what a written record is read as
 pub record ReadsBack (name : List ℕ) (t : Bool) (d bases : List ℕ) (w : ℕ) : Type 0 where
   pub first : lines (record_text name t d bases w) ≡ definition_text name t d ∷ map line_of (contents_of w bases)
-  pub says : definition_says (definition_text name t d) ≡ Named (definition_of name t d)
+  pub says : definition_says (definition_text name t d) ≡ Ok (definition_of name t d)
   pub name-bytes : take (length name) (drop 1 (definition_text name t d)) ≡ name
   pub description-bytes : t ≡ true → take (length d) (drop (length name + 2) (definition_text name t d)) ≡ d
   pub bases-back : all_bases (seq_at (record_text name t d bases w) (length (definition_text name t d))) ≡ bases
@@ -255,7 +253,7 @@ pub record RecordPut (name : List ℕ) (t : Bool) (d bases : List ℕ) (w : ℕ)
   pub rest : drop k after ≡ drop k out
 
 pub call-put : (name : List ℕ) (t : Bool) (d bases : List ℕ) (w : ℕ) (out : List ℕ) (k : ℕ) (after : List ℕ)
-    → record_written name t d bases w out ≡ leaves (Bytes k) after → RecordPut name t d bases w out k after
+    → record_written name t d bases w out ≡ leaves (Ok k) after → RecordPut name t d bases w out k after
 unfolding record_written
 call-put name t d bases w out k after h =
     go (too_long (length name) (length d) (length bases)) (eqb w 0) refl (name_unfit name) refl (t && description_unfit d) refl (any_of barred bases) refl h
@@ -264,7 +262,7 @@ call-put name t d bases w out k after h =
     text = record_text name t d bases w
 
     go : (l z : Bool) → eqb w 0 ≡ z → (n : Bool) → name_unfit name ≡ n → (e : Bool) → (t && description_unfit d) ≡ e → (b : Bool) → any_of barred bases ≡ b
-        → cond l (refuses TooLong out) (cond z (refuses ZeroWidth out) (cond n (refuses NameUnfit out) (cond e (refuses DescriptionUnfit out) (cond b (refuses BaseUnfit out) (pours text out))))) ≡ leaves (Bytes k) after
+        → cond l (refuses TooLong out) (cond z (refuses ZeroWidth out) (cond n (refuses NameUnfit out) (cond e (refuses DescriptionUnfit out) (cond b (refuses BaseUnfit out) (pours text out))))) ≡ leaves (Ok k) after
         → RecordPut name t d bases w out k after
     go false false p false q false u false v m =
         let y : w ≡ 0 → ⊥ = eqb-false _ _ p in

@@ -1,10 +1,12 @@
 -- The text of a FASTA record (docs/RULES.md, R47), and what writing it answers.
-use Rattle.std.specs.Prelude.{ℕ, zero, suc, ◌+◌, ◌-◌, ◌≡◌, List, [], ◌∷◌, ◌++◌, Bool, true, false, cond, ◌&&◌, ◌||◌, length, take, drop, get_or, eqb}
+use Rattle.std.specs.Prelude.{ℕ, zero, suc, ◌+◌, ◌-◌, ◌≡◌, List, [], ◌∷◌, ◌++◌, Bool, true, false, cond, ◌&&◌, ◌||◌, length, take, drop, get_or, eqb, Result}
+use Rattle.std.specs.Prelude.{Option, Some, None}
+use Rattle.refusal.specs.declared.Refusal.{Refusal}
+use denote.Ref.{Bor}
 use Rattle.refusal.specs.Numbers.{over_limit}
 use Rattle.refusal.specs.declared.Refusal.TheVariants.{TooLong, ZeroWidth, NameUnfit, DescriptionUnfit, BaseUnfit}
 use Rattle.definition.specs.Definition.{is_space}
 use Rattle.columns.specs.Bytes.{is, overlaid}
-use Rattle.output.specs.declared.Written.{Written}
 use Rattle.output.specs.Outcome.{Outcome, refuses, pours}
 
 -- ---- the text
@@ -71,7 +73,7 @@ too_long name d bases = over_limit name || (over_limit d || over_limit bases)
 -- ---- the call
 
 -- the refusals in their order; then the text at the front of the output, if it has room for all of it, and 14 else
-unfoldable pub record_written : List ℕ → Bool → List ℕ → List ℕ → ℕ → List ℕ → Outcome Written
+unfoldable pub record_written : List ℕ → Bool → List ℕ → List ℕ → ℕ → List ℕ → Outcome (Result ℕ Refusal)
 record_written name described d bases w out =
     cond (too_long (length name) (length d) (length bases)) (refuses TooLong out)
     (cond (eqb w 0) (refuses ZeroWidth out)
@@ -80,11 +82,16 @@ record_written name described d bases w out =
     (cond (any_of barred bases) (refuses BaseUnfit out) (pours (record_text name described d bases w) out)))))
 
 -- the bases alone: 1, 27, 30, 14
-unfoldable pub sequence_written : List ℕ → ℕ → List ℕ → Outcome Written
+unfoldable pub sequence_written : List ℕ → ℕ → List ℕ → Outcome (Result ℕ Refusal)
 sequence_written bases w out =
     cond (over_limit (length bases)) (refuses TooLong out)
     (cond (eqb w 0) (refuses ZeroWidth out)
     (cond (any_of barred bases) (refuses BaseUnfit out) (pours (sequence_text w bases) out)))
+
+-- the bytes of a description, where there is one
+abbrev pub lent : Option (Bor (List ℕ)) → List ℕ
+lent None = []
+lent (Some d) = d.now
 
 -- some bytes put at a place of an output: the place behind them, and the output afterwards
 pub record Put (out : List ℕ) (at : ℕ) (s : List ℕ) (behind : ℕ) (after : List ℕ) : Type 0 where

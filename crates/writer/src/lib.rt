@@ -5,13 +5,12 @@
 // with the next ones. Pieces of whole lines join to the record that one call would write (specs/Pieces.antt).
 #![tactic(auto)]
 
-ghost use Rattle.std.specs.Prelude.{◌≡◌, true, false, ◌&&◌, ◌+◌, ◌≤◌, ◌<◌, min, length};
+ghost use Rattle.std.specs.Prelude.{◌≡◌, true, false, ◌&&◌, ◌+◌, ◌≤◌, ◌<◌, length, is_some};
 ghost use Rattle.definition.specs.Definition.{is_space};
 ghost use Rattle.columns.specs.Bytes.{is, overlaid};
 ghost use Rattle.output.specs.Outcome.{leaves};
-ghost use Rattle.writer.specs.Text.{any_of, name_unfit, description_unfit, barred, described_text, definition_text, sequence_text, too_long, record_written, sequence_written, Put};
+ghost use Rattle.writer.specs.Text.{any_of, name_unfit, description_unfit, barred, described_text, definition_text, sequence_text, too_long, record_written, sequence_written, Put, lent};
 
-use output::Written;
 use refusal::Refusal;
 
 // How many bases are looked at at once.
@@ -28,28 +27,14 @@ fn is_barred(b: u8) -> bool
 fn any_space(s: &[u8]) -> bool
     ensures { result ≡ any_of is_space s.now }
 {
-    let mut i = 0;
-    while i < s.len() {
-        if definition::is_space(s[i]) {
-            return true;
-        }
-        i += 1;
-    }
-    false
+    s.iter().any(|&b| definition::is_space(b))
 }
 
 // Is one of some bytes an LF.
 fn any_lf(s: &[u8]) -> bool
     ensures { result ≡ any_of (is 10) s.now }
 {
-    let mut i = 0;
-    while i < s.len() {
-        if s[i] == b'\n' {
-            return true;
-        }
-        i += 1;
-    }
-    false
+    s.contains(&b'\n')
 }
 
 // Have all bytes the bit 64. Letters have it; LF, CR and '>' do not.
@@ -57,10 +42,8 @@ fn all_high(s: &[u8]) -> bool
     ensures { result ≡ true → any_of barred s.now ≡ false }
 {
     let mut low: u8 = 0;
-    let mut i = 0;
-    while i < s.len() {
-        low = low | ((s[i] & 64) ^ 64);
-        i += 1;
+    for &b in s {
+        low = low | ((b & 64) ^ 64);
     }
     low == 0
 }
@@ -69,13 +52,11 @@ fn all_high(s: &[u8]) -> bool
 fn any_listed(s: &[u8]) -> bool
     ensures { result ≡ any_of barred s.now }
 {
-    let mut any: u8 = 0;
-    let mut i = 0;
-    while i < s.len() {
-        any = any | is_barred(s[i]) as u8;
-        i += 1;
+    let mut any = false;
+    for &b in s {
+        any = any | is_barred(b);
     }
-    any != 0
+    any
 }
 
 // Is one of some bytes no base. Where all are letters, one bit of each tells that none is.
@@ -92,44 +73,40 @@ fn block_barred(s: &[u8]) -> bool
 fn any_barred(s: &[u8]) -> bool
     ensures { result ≡ any_of barred s.now }
 {
-    let mut i = 0;
-    while BLOCK <= s.len() - i {
-        let e = i + BLOCK;
-        if block_barred(&s[i..e]) {
+    let blocks = s.chunks_exact(BLOCK);
+    let rest = blocks.remainder();
+    for block in blocks {
+        if block_barred(block) {
             return true;
         }
-        i = e;
     }
-    block_barred(&s[i..])
+    block_barred(rest)
 }
 
 // Is a name empty, or has it whitespace.
 fn name_unfit(name: &[u8]) -> bool
     ensures { result ≡ name_unfit name.now }
 {
-    if name.len() == 0 {
-        return true;
-    }
-    any_space(name)
+    name.is_empty() || any_space(name)
 }
 
 // Is there a description, and is it empty, has an LF, or begins or ends in whitespace.
-fn description_unfit(described: bool, description: &[u8]) -> bool
-    ensures { result ≡ (described && description_unfit description.now) }
+fn description_unfit(description: Option<&[u8]>) -> bool
+    ensures { result ≡ (is_some description.entry && description_unfit (lent description.entry)) }
 {
-    if !described {
+    let Some(told) = description else {
         return false;
-    }
-    if description.len() == 0 {
+    };
+    if told.len() == 0 {
         return true;
     }
-    if any_lf(description) {
+    if any_lf(told) {
         return true;
     }
-    if definition::is_space(description[0]) {
+    if definition::is_space(told[0]) {
         return true;
     }
-    definition::is_space(description[description.len() - 1])
+    definition::is_space(told[told.len() - 1])
 }
 
 // Is one of the three over the limit.
@@ -146,15 +123,15 @@ fn too_long(name: usize, description: usize, bases: usize) -> bool
 }
 
 // How many bytes a definition line is written with.
-fn definition_length(name: &[u8], described: bool, description: &[u8]) -> usize
+fn definition_length(name: &[u8], description: Option<&[u8]>) -> usize
     requires name_len_bound { length name.now ≤ 1099511627776 }
-    requires description_len_bound { length description.now ≤ 1099511627776 }
-    ensures { result ≡ length (definition_text name.now described description.now) }
+    requires description_len_bound { length (lent description) ≤ 1099511627776 }
+    ensures { result ≡ length (definition_text name.now (is_some description.entry) (lent description.entry)) }
 {
-    if described {
-        return name.len() + description.len() + 3;
+    match description {
+        None => name.len() + 2,
+        Some(told) => name.len() + told.len() + 3,
     }
-    name.len() + 2
 }
 
 // How many bytes bases are written with: one division, whatever their number.
@@ -178,38 +155,28 @@ fn put_bytes(s: &[u8], out: &mut [u8], at: usize)
 }
 
 // Puts the space and a description at a place of the output, or nothing; tells the place behind.
-fn write_description(described: bool, description: &[u8], out: &mut [u8], at: usize) -> usize
-    requires { at + length (described_text described description.now) ≤ length out.old }
-    ensures { Put out.old at (described_text described description.now) result out.new }
+fn write_description(description: Option<&[u8]>, out: &mut [u8], at: usize) -> usize
+    requires { at + length (described_text (is_some description) (lent description)) ≤ length out.old }
+    ensures { Put out.old at (described_text (is_some description.entry) (lent description.entry)) result out.new }
 {
-    if !described {
+    let Some(told) = description else {
         return at;
-    }
-    out[at] = 32;
-    put_bytes(description, out, at + 1);
-    at + 1 + description.len()
+    };
+    out[at] = b' ';
+    put_bytes(told, out, at + 1);
+    at + 1 + told.len()
 }
 
 // Puts a definition line at the front of the output; tells the place behind it.
-fn write_definition(name: &[u8], described: bool, description: &[u8], out: &mut [u8]) -> usize
-    requires { length (definition_text name.now described description.now) ≤ length out.old }
-    ensures { Put out.old 0 (definition_text name.now described description.now) result out.new }
+fn write_definition(name: &[u8], description: Option<&[u8]>, out: &mut [u8]) -> usize
+    requires { length (definition_text name.now (is_some description) (lent description)) ≤ length out.old }
+    ensures { Put out.old 0 (definition_text name.now (is_some description.entry) (lent description.entry)) result out.new }
 {
-    out[0] = 62;
+    out[0] = b'>';
     put_bytes(name, out, 1);
-    let end = write_description(described, description, out, 1 + name.len());
-    out[end] = 10;
+    let end = write_description(description, out, 1 + name.len());
+    out[end] = b'\n';
     end + 1
-}
-
-// The smaller of two numbers.
-fn smaller(a: usize, b: usize) -> usize
-    ensures { result ≡ min a b }
-{
-    if a < b {
-        return a;
-    }
-    b
 }
 
 // Puts bases at a place of the output, in lines of a width, each with LF.
@@ -219,18 +186,16 @@ fn write_lines(bases: &[u8], width: usize, out: &mut [u8], at: usize)
     ensures { out.new ≡ overlaid out.old at (sequence_text width bases.now) }
 {
     let mut place = at;
-    let mut i = 0;
-    while i < bases.len() {
-        let n = smaller(width, bases.len() - i);
-        copying::copy_run(bases, i, n, out, place);
-        i += n;
-        place += n;
-        out[place] = 10;
+    for line in bases.chunks(width) {
+        put_bytes(line, out, place);
+        place += line.len();
+        out[place] = b'\n';
         place += 1;
     }
 }
 
 // Writes a record to the front of the output; the bytes behind it stay. `described` says whether there is a description.
+// It stays beside the description, as the call from C has it: bytes over the limit are refused even where they are none (`too_long`).
 pub fn write_record(
     name: &[u8],
     described: bool,
@@ -238,54 +203,55 @@ pub fn write_record(
     bases: &[u8],
     width: usize,
     out: &mut [u8],
-) -> Written
+) -> Result<usize, Refusal>
     ensures { leaves result out.new ≡ record_written name.now described description.now bases.now width out.old }
 {
     if too_long(name.len(), description.len(), bases.len()) {
-        return Written::Refused(Refusal::TooLong);
+        return Err(Refusal::TooLong);
     }
     if width == 0 {
-        return Written::Refused(Refusal::ZeroWidth);
+        return Err(Refusal::ZeroWidth);
     }
     if name_unfit(name) {
-        return Written::Refused(Refusal::NameUnfit);
+        return Err(Refusal::NameUnfit);
     }
-    if description_unfit(described, description) {
-        return Written::Refused(Refusal::DescriptionUnfit);
+    let told = described.then_some(description);
+    if description_unfit(told) {
+        return Err(Refusal::DescriptionUnfit);
     }
     if any_barred(bases) {
-        return Written::Refused(Refusal::BaseUnfit);
+        return Err(Refusal::BaseUnfit);
     }
-    let needed = definition_length(name, described, description) + sequence_length(bases, width);
+    let needed = definition_length(name, told) + sequence_length(bases, width);
     if out.len() < needed {
-        return Written::Refused(Refusal::NoRoom {
+        return Err(Refusal::NoRoom {
             needed: needed as u64,
         });
     }
-    let end = write_definition(name, described, description, out);
+    let end = write_definition(name, told, out);
     write_lines(bases, width, out, end);
-    Written::Bytes(needed)
+    Ok(needed)
 }
 
 // Writes bases alone to the front of the output, in lines of a width, each with LF; the bytes behind them stay. It refuses 1, 27, 30, 14.
-pub fn write_sequence(bases: &[u8], width: usize, out: &mut [u8]) -> Written
+pub fn write_sequence(bases: &[u8], width: usize, out: &mut [u8]) -> Result<usize, Refusal>
     ensures { leaves result out.new ≡ sequence_written bases.now width out.old }
 {
     if refusal::over_limit(bases.len()) {
-        return Written::Refused(Refusal::TooLong);
+        return Err(Refusal::TooLong);
     }
     if width == 0 {
-        return Written::Refused(Refusal::ZeroWidth);
+        return Err(Refusal::ZeroWidth);
     }
     if any_barred(bases) {
-        return Written::Refused(Refusal::BaseUnfit);
+        return Err(Refusal::BaseUnfit);
     }
     let needed = sequence_length(bases, width);
     if out.len() < needed {
-        return Written::Refused(Refusal::NoRoom {
+        return Err(Refusal::NoRoom {
             needed: needed as u64,
         });
     }
     write_lines(bases, width, out, 0);
-    Written::Bytes(needed)
+    Ok(needed)
 }

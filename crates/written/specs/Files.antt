@@ -1,12 +1,11 @@
 -- A file of several written records, one after another: its rows are those worked out from the counts and widths, and its index, worked
 -- out in the same way, is accepted by the checker.
-use Rattle.std.specs.Prelude.{ℕ, ◌+◌, ◌≤◌, ◌<◌, ◌≡◌, refl, List, [], ◌∷◌, ◌++◌, Bool, length, take, drop}
+use Rattle.std.specs.Prelude.{ℕ, ◌+◌, ◌≤◌, ◌<◌, ◌≡◌, refl, List, [], ◌∷◌, ◌++◌, Bool, length, take, drop, Ok}
 use Rattle.std.proofs.Common.{ap, sym, ◌∙◌, append_assoc, drop_at, drop-drop, take_at}
 use Rattle.lines.specs.Lines.{lines, onto, seq_of}
 use Rattle.lines.specs.Groups.{groups}
 use Rattle.record.specs.declared.Record.{Record}
 use Rattle.table.specs.Fill.{Found}
-use Rattle.table.specs.declared.Stop.TheVariants.{Ended}
 use Rattle.index_line.specs.IndexLine.{name_in}
 use Rattle.index_line.specs.IndexLine as index
 use Rattle.indexer.specs.Rule.{groups_by, file_by}
@@ -15,7 +14,6 @@ use Rattle.indexer.specs.Index.{ported}
 use Rattle.indexer.specs.File.{file_at}
 use Rattle.checker.specs.Check.{check_of}
 use Rattle.checker.specs.Accepts.{limit}
-use Rattle.checker.specs.declared.Verdict.TheVariants.{Accepted}
 use Rattle.mission.specs.Leading.{index_text}
 use Rattle.mission.specs.Indexed.{index-checked}
 use Rattle.writer.specs.Text.{described_text, definition_text, sequence_text, record_text}
@@ -72,7 +70,7 @@ unfolding file_text record_text definition_text
 record-stops [] = no_more
 record-stops (x ∷ xs) = prefix-stops _
 
-pub file-rows : (xs : List Item) → Written xs → (s : List ℕ) (at : ℕ) → drop at s ≡ file_text xs → file_at s at ≡ record { rows = rows_from at xs; stop = Ended }
+pub file-rows : (xs : List Item) → Written xs → (s : List ℕ) (at : ℕ) → drop at s ≡ file_text xs → file_at s at ≡ record { rows = rows_from at xs; stop = Ok tt }
 unfolding file_text rows_from
 file-rows [] z s at e = unfold file_by in unfold groups_by in unfold groups in unfold lines in rw e
 file-rows (x ∷ xs) (each y h z) s at e =
@@ -103,11 +101,11 @@ index_is (x ∷ xs) s at e =
 -- ---- the theorems
 
 -- the indexer takes the file to its end, and gives these rows
-pub files-indexed : (xs : List Item) → Written xs → file_at (file_text xs) 0 ≡ record { rows = rows_from 0 xs; stop = Ended }
+pub files-indexed : (xs : List Item) → Written xs → file_at (file_text xs) 0 ≡ record { rows = rows_from 0 xs; stop = Ok tt }
 files-indexed xs z = file-rows xs z (file_text xs) 0 refl
 
 -- the checker accepts it with its index, if both are within the limit
-pub written-checked : (xs : List Item) → Written xs → length (file_text xs) ≤ limit → length (index_from 0 xs) ≤ limit → check_of (file_text xs) (index_from 0 xs) ≡ Accepted
+pub written-checked : (xs : List Item) → Written xs → length (file_text xs) ≤ limit → length (index_from 0 xs) ≤ limit → check_of (file_text xs) (index_from 0 xs) ≡ Ok tt
 written-checked xs z m n =
     let f : List ℕ = file_text xs in
     let r = files-indexed xs z in

@@ -1,5 +1,5 @@
 -- A written record with bases is indexed: the indexer gives the row worked out from their count and the width; then the end.
-use Rattle.std.specs.Prelude.{ℕ, ◌+◌, ◌<◌, min, ◌≡◌, refl, Bool, true, false, cond, drop}
+use Rattle.std.specs.Prelude.{ℕ, ◌+◌, ◌<◌, min, ◌≡◌, refl, Bool, true, false, cond, drop, Some, None, Ok}
 use Rattle.std.proofs.Math.Path.{ap}
 use Rattle.std.proofs.Common.{sym, ◌∙◌, length-append, arith, zero-add}
 use mathlib.Core.List.{List, [], ◌++◌, append-nil}
@@ -11,7 +11,6 @@ use Rattle.record.specs.Laws.{described-some}
 use Rattle.record.specs.declared.Record.{Record}
 use Rattle.indexer.specs.Rule.{sequence_by, record_by}
 use Rattle.indexer.specs.Index.{record_at}
-use Rattle.indexer.specs.declared.Indexed.TheVariants as indexed
 use Rattle.writer.specs.Text.{definition_text, contents_of, lines_text, sequence_text, record_text}
 use Rattle.writer.specs.Contents.{good-contents, good-seq}
 use Rattle.writer.specs.Reads.{Writable, definition_of, line-says, its-name, its-description, record-lines, no_more}
@@ -46,7 +45,7 @@ description-said name true d at h = (sym (described-some (at + (length name + 2)
 description-said name false d at h = (refl, refl)
 
 -- behind the last byte there is no record
-pub ends_at : (s : List ℕ) → record_at s (length s) ≡ record { answer = indexed.End; next = record { at = length s } }
+pub ends_at : (s : List ℕ) → record_at s (length s) ≡ record { answer = Ok None; next = record { at = length s } }
 unfolding record_by lines
 ends_at s = rw (drop-length s)
 
@@ -56,7 +55,7 @@ module _ (name : List ℕ) (t : Bool) (d bases : List ℕ) (w : ℕ) (x : Writab
 
   -- a record that stands at an offset of a file, and behind which no sequence line follows
   pub indexed-at : (s : List ℕ) (at : ℕ) (rest : List ℕ) → drop at s ≡ record_text name t d bases w ++ rest → seq_of (lines rest) ≡ []
-      → record_at s at ≡ record { answer = indexed.Row (row_worked at name t d bases w); next = record { at = at + length (record_text name t d bases w) } }
+      → record_at s at ≡ record { answer = Ok (Some (row_worked at name t d bases w)); next = record { at = at + length (record_text name t d bases w) } }
   unfolding record_by sequence_by row_worked
   indexed-at s at rest e n =
       let ls : List (List ℕ) = lines_of (contents_of w bases) in
@@ -66,5 +65,5 @@ module _ (name : List ℕ) (t : Bool) (d bases : List ℕ) (w : ℕ) (x : Writab
       rw (e, record-lines name t d bases w x rest, line-says name t d (its-name name t d bases w x) (its-description name t d bases w x), seq, judged-good w x.wide bases some x.based (at + length (definition_text name t d)), behind, bases-count w x.wide bases x.based, first-is w x.wide bases some x.based, name-said name t d, said.0, said.1)
 
   -- the record by itself: one row, then the end
-  pub written-indexed : (record_at text 0 ≡ record { answer = indexed.Row (row_worked 0 name t d bases w); next = record { at = length text } }) × (record_at text (length text) ≡ record { answer = indexed.End; next = record { at = length text } })
+  pub written-indexed : (record_at text 0 ≡ record { answer = Ok (Some (row_worked 0 name t d bases w)); next = record { at = length text } }) × (record_at text (length text) ≡ record { answer = Ok None; next = record { at = length text } })
   written-indexed = (rw (zero-add (length text)) at (indexed-at text 0 [] (sym (append-nil text)) no_more), ends_at text)

@@ -5,8 +5,8 @@ use Rattle.checker.proofs.judge_sequence.Goals as goal
 pub returns-then-found-x : goal.returns-then-found-x
 returns-then-found-x c = judged-length _ _ _ _ _ c.walk_sequence-found.ensures c.if-found-x.true
 
-pub returns-in-There : goal.returns-in-There
-returns-in-There c = judged-there _ _ _ _ _ c.walk_sequence-found.ensures c.if-found-x.false c.in-There.is
+pub returns-in-None : goal.returns-in-None
+returns-in-None c = judged-there _ _ _ _ _ c.walk_sequence-found.ensures c.if-found-x.false c.in-None.is
 
-pub returns-in-Elsewhere : goal.returns-in-Elsewhere
-returns-in-Elsewhere c = judged-elsewhere _ _ _ _ _ c.walk_sequence-found.ensures c.if-found-x.false _ _ c.in-Elsewhere.is
+pub returns-in-Some : goal.returns-in-Some
+returns-in-Some c = judged-elsewhere _ _ _ _ _ c.walk_sequence-found.ensures c.if-found-x.false _ _ c.in-Some.is

@@ -1,9 +1,6 @@
 -- `comparing::same_many` meets its contract. The loop's invariant: the bytes passed are the same; so the last block decides.
-use Rattle.std.proofs.Common.{◌<◌, ◌-◌, ◌≡◌, length, take}
+use Rattle.std.proofs.Common.{◌*◌, ◌≡◌, take}
 use Rattle.comparing.proofs.same_many.Given as goal
 
-abbrev pub invariant-loop-i : goal.invariant-loop-i
-invariant-loop-i l = (l.i < length l.a) × (take l.i l.a ≡ take l.i l.b)
-
-abbrev pub decreases-loop-i : goal.decreases-loop-i
-decreases-loop-i l = length l.a - l.i
+abbrev pub invariant-loop-k : goal.invariant-loop-k
+invariant-loop-k l = take (8 * l.k) l.a ≡ take (8 * l.k) l.b

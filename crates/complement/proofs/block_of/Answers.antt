@@ -1,5 +1,5 @@
--- `complement::block_of` meets its contract: before each turn the mark is 0 exactly if the first `i` bytes are of the kind.
-use Rattle.std.proofs.Common.{◌≤◌, ◌<◌, ◌≡◌, refl, Bool, true, false, cond, not, rules, arith, add-one, bit_or, eqb, length, take, get_or, take_all}
+-- `complement::block_of` meets its contract: before each turn the mark is 0 exactly if the bytes so far are of the kind.
+use Rattle.std.proofs.Common.{◌≤◌, ◌<◌, ◌≡◌, refl, Bool, true, false, cond, not, arith, add-one, bit_or, eqb, length, take, get_or, take_all}
 use mir.Val.{bool_byte}
 use Rattle.complement.specs.Kinds.{is_of, all_of}
 use Rattle.complement.specs.KindLaws.{all_more}
@@ -16,18 +16,19 @@ unmarked : (x : Bool) → eqb (bool_byte (not x)) 0 ≡ x
 unmarked true = refl
 unmarked false = refl
 
-pub loop-i-init : goal.loop-i-init
+pub loop-b-init : goal.loop-b-init
 unfolding all_of
-loop-i-init c = search rules
+loop-b-init g c = refl
 
-pub loop-i-preserved : goal.loop-i-preserved
-loop-i-preserved c =
-    let a = c.args in
-    let h : c.loop-i.i < length a.bases.now = omega arith in
-    (search rules, rw (add-one, all_more a.plain a.bases.now c.loop-i.i h, c.loop-i.invariant.1, c.is_of.ensures) (marked (all_of a.plain (take c.loop-i.i a.bases.now)) (is_of a.plain (get_or a.bases.now c.loop-i.i 0))))
+pub loop-b-preserved : goal.loop-b-preserved
+loop-b-preserved g c =
+    let bases = c.args.bases.now in
+    let k = c.loop-b.b-index in
+    let h : k < length bases = omega arith in
+    rw (add-one k, all_more g.K.Kind.plain bases k h, c.loop-b.invariant, c.has.ensures) (marked (all_of g.K.Kind.plain (take k bases)) (is_of g.K.Kind.plain (get_or bases k 0)))
 
 pub returns : goal.returns
-returns c =
+returns g c =
     let bases = c.args.bases.now in
-    let h : length bases ≤ c.loop-i.i = omega arith in
-    rw (c.loop-i.invariant.1, take_all _ bases h) (unmarked _)
+    let h : length bases ≤ c.loop-b.b-index = omega arith in
+    rw (c.loop-b.invariant, take_all c.loop-b.b-index bases h) (unmarked _)

@@ -1,18 +1,14 @@
--- `complement::run_of` meets its contract: before each turn the bytes from `i` on decide, and a block that has another byte ends it.
-use Rattle.std.proofs.Common.{◌≤◌, ◌-◌, sym, ◌∙◌, rules, arith, length, drop, length-drop, take_all}
-use Rattle.complement.specs.KindLaws.{block-good, block-bad}
+-- `complement::run_of` meets its contract: before each turn the bytes that are left decide, and a block that has another byte ends it.
+use Rattle.std.proofs.Common.{sym, ◌∙◌}
+use Rattle.complement.specs.KindLaws.{block-good, block-bad, all-none}
 use Rattle.complement.proofs.run_of.Goals as goal
 
 pub returns-then-not-block_of : goal.returns-then-not-block_of
-returns-then-not-block_of c =
-    sym (block-bad _ _ c.loop-i.i _ (omega arith) _ c.block_of.ensures c.if-not-block_of.true-raw) ∙ c.loop-i.invariant.1
+returns-then-not-block_of g c = sym (block-bad _ _ _ _ c.in-Some.ensures.steps.1.0 (sym c.block_of.ensures ∙ c.if-not-block_of.true)) ∙ c.loop-block.invariant
 
-pub loop-i-preserved : goal.loop-i-preserved
-loop-i-preserved c =
-    (search rules, sym (block-good _ _ c.loop-i.i _ (omega arith) _ c.block_of.ensures c.if-not-block_of.false-raw) ∙ c.loop-i.invariant.1)
+pub loop-block-preserved : goal.loop-block-preserved
+loop-block-preserved g c =
+    sym (block-good _ _ _ _ c.in-Some.ensures.steps.1.0 (sym c.block_of.ensures ∙ c.if-not-block_of.false)) ∙ c.loop-block.invariant
 
 pub returns : goal.returns
-returns c =
-    let s = c.args.bases.now in
-    let rest : length (drop c.loop-i.i s) ≤ length s - c.loop-i.i = simp length-drop (omega arith) in
-    rw (take_all _ _ rest) at c.block_of-2.ensures ∙ c.loop-i.invariant.1
+returns g c = sym (all-none _ _ c.in-None.ensures.steps.1.0) ∙ c.loop-block.invariant

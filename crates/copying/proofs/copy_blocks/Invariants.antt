@@ -1,10 +1,6 @@
--- `copying::copy_blocks` meets its contract: each block makes the copy longer by its bytes, and the last one brings it to `n`.
-use Rattle.std.proofs.Common.{◌-◌}
-use Rattle.copying.specs.Laws.{Pasting}
+-- `copying::copy_blocks` meets its contract: before each block the bytes up to it are copied, and the last one brings the rest.
+use Rattle.std.proofs.Common.{◌≡◌, ◌≤◌, length, take}
 use Rattle.copying.proofs.copy_blocks.Given as goal
 
 abbrev pub invariant-loop-k : goal.invariant-loop-k
-invariant-loop-k l = Pasting l.initial.out l.to l.from l.start l.n l.k l.out
-
-abbrev pub decreases-loop-k : goal.decreases-loop-k
-decreases-loop-k l = l.n - l.k
+invariant-loop-k l = (l.k ≤ length l.from) × (length l.out ≡ length l.from) × (take l.k l.out ≡ take l.k l.from)

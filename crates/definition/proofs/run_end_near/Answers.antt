@@ -7,14 +7,14 @@ use Rattle.definition.proofs.run_end_near.Goals as goal
 pub loop-i-preserved : goal.loop-i-preserved
 loop-i-preserved c =
     let a = c.args in
-    rw add-one (omega (arith, run_more (spaced a.space) a.l.now c.loop-i.i (omega arith) (spaced-yes _ _ _ c.is_space.ensures c.if-is_space-space.true)))
+    rw add-one (omega (arith, run_more (spaced a.space) a.l.now c.loop-i.i (omega arith) (spaced-yes _ _ _ c.is_space.ensures c.if-is_space-space.false)))
 
-pub returns-else-is_space-space : goal.returns-else-is_space-space
-returns-else-is_space-space c =
+pub returns-then-is_space-space : goal.returns-then-is_space-space
+returns-then-is_space-space c =
     let a = c.args in
-    omega (arith, run-stop (spaced a.space) a.l.now c.loop-i.i (omega arith) (spaced-not _ _ _ c.is_space.ensures c.if-is_space-space.false))
+    omega (arith, run-stop (spaced a.space) a.l.now c.loop-i.i (omega arith) (spaced-not _ _ _ c.is_space.ensures c.if-is_space-space.true))
 
 pub returns : goal.returns
 returns c =
     let a = c.args in
-    omega (arith, run_end (spaced a.space) a.l.now c.loop-i.i (omega arith))
+    grind (arith, run_end (spaced a.space) a.l.now c.loop-i.i (omega arith), run_end (spaced a.space) a.l.now a.at)

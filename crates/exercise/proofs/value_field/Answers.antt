@@ -1,24 +1,26 @@
 -- `exercise::value_field` meets its contract: by the tag.
-use Rattle.std.proofs.Common.{eq-eqb, ne_eqb}
+use Rattle.std.proofs.Common.{arith, ne_eqb}
 use Rattle.exercise.specs.Reading.{valued}
 use Rattle.exercise.proofs.value_field.Goals as goal
 
-pub returns-then-tag-eq1 : goal.returns-then-tag-eq1
+pub returns-in-1 : goal.returns-in-1
 unfolding valued
-returns-then-tag-eq1 c = rw (eq-eqb _ _ c.if-tag-eq1.true) c.name_field.ensures
+returns-in-1 c = rw c.in-1.is c.name_field.ensures
 
-pub returns-then-tag-eq2 : goal.returns-then-tag-eq2
+pub returns-in-2 : goal.returns-in-2
 unfolding valued
-returns-then-tag-eq2 c = rw (ne_eqb _ _ c.if-tag-eq1.false, eq-eqb _ _ c.if-tag-eq2.true) c.start_field.ensures
+returns-in-2 c = rw c.in-2.is c.start_field.ensures
 
-pub returns-then-tag-eq3 : goal.returns-then-tag-eq3
+pub returns-in-3 : goal.returns-in-3
 unfolding valued
-returns-then-tag-eq3 c = rw (ne_eqb _ _ c.if-tag-eq1.false, ne_eqb _ _ c.if-tag-eq2.false, eq-eqb _ _ c.if-tag-eq3.true) c.end_field.ensures
+returns-in-3 c = rw c.in-3.is c.end_field.ensures
 
-pub returns-then-tag-eq4 : goal.returns-then-tag-eq4
+pub returns-in-4 : goal.returns-in-4
 unfolding valued
-returns-then-tag-eq4 c = rw (ne_eqb _ _ c.if-tag-eq1.false, ne_eqb _ _ c.if-tag-eq2.false, ne_eqb _ _ c.if-tag-eq3.false, eq-eqb _ _ c.if-tag-eq4.true) c.edition_field.ensures
+returns-in-4 c = rw c.in-4.is c.edition_field.ensures
 
-pub returns : goal.returns
+pub returns-in_default : goal.returns-in_default
 unfolding valued
-returns c = rw (ne_eqb _ _ c.if-tag-eq1.false, ne_eqb _ _ c.if-tag-eq2.false, ne_eqb _ _ c.if-tag-eq3.false, ne_eqb _ _ c.if-tag-eq4.false)
+returns-in_default c =
+    let t = c.args.tag in
+    rw (ne_eqb t 1 (λ e. omega arith), ne_eqb t 2 (λ e. omega arith), ne_eqb t 3 (λ e. omega arith), ne_eqb t 4 (λ e. omega arith))

@@ -13,17 +13,17 @@ slice_bounds-parse_marked-end c = omega (arith, record-ends _ _ c.if-s-at.false 
 pub index_sequence-requires : goal.index_sequence-requires
 index_sequence-requires c =
     let w = record-ends _ _ c.if-s-at.false _ c.line_end-e.ensures in
-    (w.0, w.1, record-name _ _ c.if-s-at.false _ c.line_end-e.ensures _ (sym c.parse_marked.ensures ∙ c.in-Named.is))
+    (w.0, w.1, record-name _ _ c.if-s-at.false _ c.line_end-e.ensures _ (sym c.parse_marked.ensures ∙ c.in-Ok.is))
 
 pub overflow_add-at : goal.overflow_add-at
-overflow_add-at c = omega (arith, c.place.ensures, fails-near c.in-Bad.f)
+overflow_add-at c = omega (arith, c.place.ensures, fails-near c.in-Err.f)
 
-pub returns-in-Named : goal.returns-in-Named
-returns-in-Named c =
-    c.index_sequence.ensures
-    ∙ record-named _ _ c.if-s-at.false _ c.line_end-e.ensures _ (sym c.parse_marked.ensures ∙ c.in-Named.is)
+pub returns-in-Ok : goal.returns-in-Ok
+returns-in-Ok c =
+    c.of.ensures ∙ c.index_sequence.ensures
+    ∙ record-named _ _ c.if-s-at.false _ c.line_end-e.ensures _ (sym c.parse_marked.ensures ∙ c.in-Ok.is)
 
-pub returns-in-Bad : goal.returns-in-Bad
-returns-in-Bad c =
-    c.refused.ensures ∙ rw (c.refusal.ensures, c.place.ensures)
-    (record-bad _ _ c.if-s-at.false _ c.line_end-e.ensures _ (sym c.parse_marked.ensures ∙ c.in-Bad.is))
+pub returns-in-Err : goal.returns-in-Err
+returns-in-Err c =
+    c.of-in-Err.ensures ∙ rw (c.refusal.ensures, c.place.ensures)
+    (record-bad _ _ c.if-s-at.false _ c.line_end-e.ensures _ (sym c.parse_marked.ensures ∙ c.in-Err.is))

@@ -4,9 +4,10 @@ use Rattle.fastq.specs.Fastq.{body_at}
 use Rattle.fastq.specs.Steps.{rest_says}
 use Rattle.fastq.proofs.index_rest.Given as goal
 
-abbrev pub invariant-loop-last : goal.invariant-loop-last
-invariant-loop-last l =
-    (l.i ≤ length l.s) × (l.count ≤ l.i) × (l.bases ≤ l.i) × (rest_says l.first l.count l.bases l.last l.i (body_at l.s l.i) ≡ rest_says l.first 1 l.first.bases l.first l.at (body_at l.s l.at))
+abbrev pub invariant-loop-first : goal.invariant-loop-first
+invariant-loop-first l =
+    (l.body.first ≡ l.first) × (l.body.next ≤ length l.s) × (l.body.count ≤ l.body.next) × (l.body.bases ≤ l.body.next)
+    × (rest_says l.first l.body.count l.body.bases l.body.last l.body.next (body_at l.s l.body.next) ≡ rest_says l.first 1 l.first.bases l.first l.at (body_at l.s l.at))
 
-abbrev pub decreases-loop-last : goal.decreases-loop-last
-decreases-loop-last l = length l.s - l.i
+abbrev pub decreases-loop-first : goal.decreases-loop-first
+decreases-loop-first l = length l.s - l.body.next

@@ -2,4 +2,4 @@
 use Rattle.feeder.proofs.refused.Goals as goal
 
 pub returns : goal.returns
-returns c = rw c.numbers.ensures at c.stopped.ensures
+returns c = rw c.from.ensures at c.stopped.ensures

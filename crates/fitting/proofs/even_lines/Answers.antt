@@ -72,8 +72,8 @@ returns-then-sequence_ends-2 c =
 pub past_blank_lines-behind-requires : goal.past_blank_lines-behind-requires
 past_blank_lines-behind-requires c = (last (goal.at.past_blank_lines-behind-requires c).After-sequence_line-last).0
 
-pub returns-then-after-ne0 : goal.returns-then-after-ne0
-returns-then-after-ne0 c = nothing
+pub returns-then-behind-ne0 : goal.returns-then-behind-ne0
+returns-then-behind-ne0 c = nothing
 
 pub overflow_add-result-2 : goal.overflow_add-result-2
 overflow_add-result-2 c = omega (arith, small (goal.at.overflow_add-result-2 c).After-sequence_line-last)
@@ -81,4 +81,4 @@ overflow_add-result-2 c = omega (arith, small (goal.at.overflow_add-result-2 c).
 pub returns : goal.returns
 returns c =
     even-said _ _ c.requires.0 _ c.requires.1 _ c.lines_like-alike.ensures _ c.sequence_line-last.ensures c.if-first-eq0.false (omega (arith, c.if-first-last.false)) _
-    c.past_blank_lines-behind.ensures (omega (arith, c.if-after-ne0.false))
+    c.past_blank_lines-behind.ensures (omega (arith, c.if-behind-ne0.false))

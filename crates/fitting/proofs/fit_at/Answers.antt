@@ -1,41 +1,13 @@
--- `fitting::fit_at` meets its contract: past the end there is no record, and else the definition line says how to go on.
-use Rattle.std.proofs.Common.{◌≤◌, ◌<◌, ◌∙◌, sym, arith, length}
-use Rattle.lines.specs.Lines.{part}
-use Rattle.lines.specs.Laws.{line_end-le, line_end-gt, part_length}
-use Rattle.definition.specs.Laws.{name-within, description-within, fails-near}
-use Rattle.indexer.specs.RuleLaws.{record-end, record-here}
+-- `fitting::fit_at` meets its contract: what the definition line opens decides.
+use Rattle.std.proofs.Common.{◌∙◌}
+use Rattle.fitting.specs.Complete.{complete}
+use Rattle.indexer.specs.Opened.{Opens}
 use Rattle.fitting.proofs.fit_at.Goals as goal
-use Rattle.fitting.proofs.fit_at.Goals.{After-line_end-e}
-
-pub returns-then-s-at : goal.returns-then-s-at
-returns-then-s-at c = record-end _ _ _ c.if-s-at.true
-
--- the definition line is not empty, and ends in the file
-within : (c : After-line_end-e)
-    → (c.args.at < c.line_end-e.result) × (c.line_end-e.result ≤ length c.args.s.now)
-within c =
-    let a = c.args in
-    rw c.line_end-e.ensures (line_end-gt a.s.now a.at c.if-s-at.false, line_end-le a.s.now a.at (omega arith))
-
-pub slice_bounds-parse_line-end : goal.slice_bounds-parse_line-end
-slice_bounds-parse_line-end c = omega (arith, within (goal.at.slice_bounds-parse_line-end c).After-line_end-e)
 
 pub fit_lines-requires : goal.fit_lines-requires
-fit_lines-requires c =
-    let a = c.args in
-    let said = sym c.parse_line-d.ensures ∙ c.in-Named.is in
-    let n = name-within (part a.s.now a.at c.line_end-e.result) _ said in
-    let t = (description-within (part a.s.now a.at c.line_end-e.result) _ said).0 in
-    omega (arith, within (goal.at.fit_lines-requires c).After-line_end-e, n, t, part_length a.s.now a.at c.line_end-e.result (within (goal.at.fit_lines-requires c).After-line_end-e).1)
+fit_lines-requires c = rw (c.in_ok-e.was, c.in-Some.is) at c.opened.ensures
 
--- the place is in the definition line, or just behind it
-pub overflow_add-at : goal.overflow_add-at
-overflow_add-at c = omega (arith, c.place.ensures, fails-near c.in-Bad.f)
-
-pub returns-in-Named : goal.returns-in-Named
-returns-in-Named c =
-    c.fit_lines.ensures ∙ record-here _ _ _ _ _ _ c.if-s-at.false c.line_end-e.ensures c.parse_line-d.ensures c.in-Named.is
-
-pub returns-in-Bad : goal.returns-in-Bad
-returns-in-Bad c =
-    rw (c.refusal.ensures, c.place.ensures) (record-here _ _ _ _ _ _ c.if-s-at.false c.line_end-e.ensures c.parse_line-d.ensures c.in-Bad.is)
+pub returns : goal.returns
+returns c =
+    let o : Opens c.args.s.now c.args.at c.in-Some.e c.in-Some.d = rw (c.in_ok-e.was, c.in-Some.is) at c.opened.ensures in
+    c.fit_lines.ensures ∙ o.by_rule complete

@@ -14,10 +14,10 @@ pub past_blank_lines-next-requires : goal.past_blank_lines-next-requires
 past_blank_lines-next-requires c =
     behind-fits _ _ c.requires _ c.past_blank_lines-first.ensures
 
-pub returns-then-behind-eq0 : goal.returns-then-behind-eq0
-returns-then-behind-eq0 c =
-    numbers-run _ _ c.requires _ c.past_blank_lines-first.ensures c.if-line-eq0.false _ c.past_blank_lines-next.ensures c.if-behind-eq0.true
+pub returns-then-next-eq0 : goal.returns-then-next-eq0
+returns-then-next-eq0 c =
+    numbers-run _ _ c.requires _ c.past_blank_lines-first.ensures c.if-line-eq0.false _ c.past_blank_lines-next.ensures c.if-next-eq0.true
 
-pub returns : goal.returns
-returns c =
-    numbers-gap _ _ c.requires _ c.past_blank_lines-first.ensures c.if-line-eq0.false _ c.past_blank_lines-next.ensures c.if-behind-eq0.false
+pub returns-else-next-eq0 : goal.returns-else-next-eq0
+returns-else-next-eq0 c =
+    numbers-gap _ _ c.requires _ c.past_blank_lines-first.ensures c.if-line-eq0.false _ c.past_blank_lines-next.ensures c.if-next-eq0.false

@@ -1,5 +1,6 @@
 -- `fitting::past_blank_lines` meets its contract: the lines passed have no base, so the sequence may as well begin behind them.
 use Rattle.std.proofs.Common.{◌+◌, ◌≤◌, arith, length}
+use mathlib.Core.Logic.{inl, inr}
 use Rattle.fitting.specs.BlankLines.{passed_start, passed-blank, found-bases, found_none, line-fits}
 use Rattle.fitting.proofs.past_blank_lines.Goals as goal
 use Rattle.fitting.proofs.past_blank_lines.Goals.{After-sequence_line-line}
@@ -8,10 +9,11 @@ pub loop-line-init : goal.loop-line-init
 loop-line-init c = passed_start _ _ c.requires
 
 pub returns-then-line-ne0 : goal.returns-then-line-ne0
-returns-then-line-ne0 c = found-bases _ _ _ c.loop-line.invariant _ c.sequence_line-line.ensures c.if-line-ne0.true
-
-pub returns-then-line-eq0 : goal.returns-then-line-eq0
-returns-then-line-eq0 c = found_none _ _ _ c.loop-line.invariant _ c.sequence_line-line.ensures c.if-line-eq0.true
+returns-then-line-ne0 c =
+    elim c.then-line-ne0.either [
+      | inl z ↦ found-bases _ _ _ c.loop-line.invariant _ c.sequence_line-line.ensures z
+      | inr w ↦ found_none _ _ _ c.loop-line.invariant _ c.sequence_line-line.ensures w.1
+    ]
 
 -- the line at i ends in the file
 fits : (c : After-sequence_line-line) → c.loop-line.i + c.sequence_line-line.result.width ≤ length c.args.s.now

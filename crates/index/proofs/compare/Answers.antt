@@ -1,22 +1,23 @@
 -- `index::compare` meets its contract: a refused row is refused, and of any other the name is compared.
-use Rattle.std.proofs.Common.{sym, ◌∙◌}
+use Rattle.std.proofs.Common.{◌≡◌, refl, sym, ◌∙◌, Bool, true, false, cond, Result, Ok, Err, rules}
+use Rattle.refusal.specs.declared.Refusal.{Refusal}
 use Rattle.table.specs.RowLaws.{named-of}
 use Rattle.index.specs.Find.{compared_of}
 use Rattle.index.proofs.compare.Goals as goal
 
 pub is_named-requires : goal.is_named-requires
-is_named-requires c = (named-of _ _ _ (sym c.named.ensures ∙ c.in-Row.is)).1
+is_named-requires c = (named-of _ _ _ (sym c.named.ensures ∙ c.in_ok-x.was)).1
 
-pub returns-then-is_named : goal.returns-then-is_named
+pub returns-in_err-x : goal.returns-in_err-x
 unfolding compared_of
-returns-then-is_named c =
-    rw (sym c.named.ensures ∙ c.in-Row.is, sym c.is_named.ensures ∙ c.if-is_named.true)
+returns-in_err-x c =
+    let e : c.from_residual.result ≡ Err c.in_err-x.field-0.0 = search rules in
+    rw (sym c.named.ensures ∙ c.in_err-x.was, e)
 
-pub returns-in-Refused : goal.returns-in-Refused
+pub returns : goal.returns
 unfolding compared_of
-returns-in-Refused c = rw (sym c.named.ensures ∙ c.in-Refused.is)
-
-pub returns-else-is_named : goal.returns-else-is_named
-unfolding compared_of
-returns-else-is_named c =
-    rw (sym c.named.ensures ∙ c.in-Row.is, sym c.is_named.ensures ∙ c.if-is_named.false)
+returns c = rw (sym c.named.ensures ∙ c.in_ok-x.was, sym c.is_named.ensures) (told _)
+  where
+    told : (b : Bool) → ◌≡◌ {A = Result Bool Refusal} (Ok b) (cond b (Ok true) (Ok false))
+    told true = refl
+    told false = refl

@@ -4,7 +4,4 @@ use Rattle.index.specs.Find.{row_from, row_named}
 use Rattle.index.proofs.find_row.Given as goal
 
 abbrev pub invariant-loop-r : goal.invariant-loop-r
-invariant-loop-r l = row_from l.names l.table l.in_use l.name (l.in_use - l.r) l.r ≡ row_named l.names l.table l.in_use l.name
-
-abbrev pub decreases-loop-r : goal.decreases-loop-r
-decreases-loop-r l = l.in_use - l.r
+invariant-loop-r g l = row_from l.names (g.C.Cell.numbers l.table) l.in_use l.name (l.in_use - l.r) l.r ≡ row_named l.names (g.C.Cell.numbers l.table) l.in_use l.name

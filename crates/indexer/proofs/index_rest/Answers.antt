@@ -1,9 +1,8 @@
 -- `indexer::index_rest` meets its contract: it passes the lines like the first, and the line behind them decides for all.
 use Rattle.std.proofs.Common.{◌≤◌, ◌+◌, ◌*◌, ◌≡◌, refl, ◌∙◌, arith, length}
 use Rattle.lines.specs.Lines.{seq_at}
-use Rattle.lines.specs.Laws.{first-within, bases-le}
 use Rattle.indexer.specs.Index.{rest_says}
-use Rattle.indexer.specs.Laws.{like-passed, like-room, width-differs, turn-done, turn-bases, turn-width}
+use Rattle.indexer.specs.Laws.{line-fits, like-passed, like-room, width-differs, turn-done, turn-bases, turn-width}
 use Rattle.indexer.proofs.index_rest.Goals as goal
 use Rattle.indexer.proofs.index_rest.Goals.{After-lines_like-alike, After-sequence_line-l}
 
@@ -31,10 +30,9 @@ within : (c : After-sequence_line-l)
     × (c.args.at + c.lines_like-alike.result * c.args.first.width + c.sequence_line-l.result.width ≤ length c.args.s.now)
     × (c.sequence_line-l.result.bases ≤ c.sequence_line-l.result.width)
 within c =
-    let a = c.args in
-    let h = (let room : (c.args.at + c.lines_like-alike.result * c.args.first.width ≤ length c.args.s.now)
-    × (c.lines_like-alike.result * c.args.first.bases ≤ c.lines_like-alike.result * c.args.first.width) = like-room _ _ _ c.requires.0 _ c.lines_like-alike.ensures c.requires.2 in room).0 in
-    rw c.sequence_line-l.ensures (h, first-within a.s.now _ h, bases-le (seq_at a.s.now _))
+    let h = (like-room _ _ _ c.requires.0 _ c.lines_like-alike.ensures c.requires.2).0 in
+    let l = line-fits _ _ h _ c.sequence_line-l.ensures in
+    (h, l.0, l.1)
 
 -- what it says with those before it is what all say
 passed : (c : After-sequence_line-l)

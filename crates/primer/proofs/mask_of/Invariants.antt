@@ -1,10 +1,7 @@
 -- `primer::mask_of`: from the last letter to the first, a mask is twice the one before and one bit more.
-use Rattle.std.proofs.Common.{◌≤◌, ◌≡◌, length, drop}
+use Rattle.std.proofs.Common.{◌≡◌, drop}
 use Rattle.primer.specs.Live.{mask_by}
 use Rattle.primer.proofs.mask_of.Given as goal
 
 abbrev pub invariant-loop-j : goal.invariant-loop-j
-invariant-loop-j l = (l.j ≤ length l.primer) × (l.mask ≡ mask_by (drop l.j l.primer) l.set)
-
-abbrev pub decreases-loop-j : goal.decreases-loop-j
-decreases-loop-j l = l.j
+invariant-loop-j l = l.mask ≡ mask_by (drop l.j l.primer) l.set

@@ -8,7 +8,7 @@ use Rattle.primer.proofs.masks_by_byte.Goals as goal
 use Rattle.primer.proofs.masks_by_byte.Goals.{In-loop-b}
 
 pub loop-b-init : goal.loop-b-init
-loop-b-init c = (search rules, search rules, λ k h. absurd (omega arith))
+loop-b-init c = (search rules, λ k h. absurd (omega arith))
 
 -- a byte's set is below 16
 code_lt : (c : In-loop-b) → get_or c.sets-sets.result c.loop-b.b 0 < 16
@@ -26,7 +26,7 @@ bounds-by_set-sets c = code_lt (goal.at.bounds-by_set-sets c).In-loop-b
 pub loop-b-preserved : goal.loop-b-preserved
 loop-b-preserved c =
     let ps = c.args.primer.now in
-    (search rules, simp length-set (omega arith), filled (mask_of ps) c.loop-b.masks c.loop-b.b _ (omega arith) c.loop-b.invariant.2 (c.masks_by_set-by_set.ensures _ (code_lt (goal.at.loop-b-preserved c).In-loop-b) ∙ ap (mask_by ps) (entry _ _ c.sets-sets.ensures c.loop-b.b (omega arith)) ∙ mask-by ps c.loop-b.b))
+    (simp length-set (omega arith), filled (mask_of ps) c.loop-b.masks c.loop-b.b _ (omega arith) c.loop-b.invariant.1 (c.masks_by_set-by_set.ensures _ (code_lt (goal.at.loop-b-preserved c).In-loop-b) ∙ ap (mask_by ps) (entry _ _ c.sets-sets.ensures c.loop-b.b (omega arith)) ∙ mask-by ps c.loop-b.b))
 
 pub returns : goal.returns
-returns c = λ t h. c.loop-b.invariant.2 t (omega arith)
+returns c = λ t h. c.loop-b.invariant.1 t (omega arith)

@@ -5,11 +5,11 @@ use Rattle.primer.specs.Filled.{filled}
 use Rattle.primer.proofs.masks_by_set.Goals as goal
 
 pub loop-t-init : goal.loop-t-init
-loop-t-init c = (search rules, search rules, λ k h. absurd (omega arith))
+loop-t-init c = (search rules, λ k h. absurd (omega arith))
 
 pub loop-t-preserved : goal.loop-t-preserved
 loop-t-preserved c =
-    (search rules, simp length-set (omega arith), filled (mask_by c.args.primer.now) c.loop-t.masks c.loop-t.t _ (omega arith) c.loop-t.invariant.2 c.mask_of.ensures)
+    (simp length-set (omega arith), filled (mask_by c.args.primer.now) c.loop-t.masks c.loop-t.t _ (omega arith) c.loop-t.invariant.1 c.mask_of.ensures)
 
 pub returns : goal.returns
-returns c = λ t h. c.loop-t.invariant.2 t (omega arith)
+returns c = λ t h. c.loop-t.invariant.1 t (omega arith)

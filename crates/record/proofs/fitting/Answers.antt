@@ -1,37 +1,21 @@
--- `record::fitting` meets its contract: a quotient judges the product and a difference each sum. So if a test fails the offset is past
--- 64 bits, and if all pass it is the sum that is made.
-use Rattle.std.proofs.Common.{◌*◌, ◌≤◌, arith}
-use Rattle.record.specs.Laws.{mul-within, mul-past, offset_at, offset-over}
+-- `record::fitting` meets its contract: where a product or a sum is over 64 bits the offset is, and else it is the sum that is made.
+use Rattle.std.proofs.Common.{◌≡◌, ◌+◌, ◌*◌, arith}
+use Rattle.record.specs.Laws.{offset_at, offset-over}
 use Rattle.record.proofs.fitting.Goals as goal
-use Rattle.record.proofs.fitting.Goals.{Else-width-line}
 
--- past the first test the product fits
-within : (c : Else-width-line) → c.args.line * c.args.width ≤ 18446744073709551615
-within c = mul-within _ _ _ c.requires c.if-width-line.false
+pub returns-in_err-skipped : goal.returns-in_err-skipped
+returns-in_err-skipped c =
+    rw c.from_residual.ensures (offset-over _ (omega (arith, c.in_err-skipped.ensures)))
 
-pub returns-then-width-line : goal.returns-then-width-line
-returns-then-width-line c = offset-over _ (omega (arith, mul-past _ _ _ c.requires c.if-width-line.true))
+pub returns-in_err-front : goal.returns-in_err-front
+returns-in_err-front c =
+    rw c.from_residual-in_err-front.ensures (offset-over _ (omega (arith, c.in_err-front.ensures, c.in_ok-skipped.ensures)))
 
-pub overflow_mul-skipped : goal.overflow_mul-skipped
-overflow_mul-skipped c = omega (arith, within (goal.at.overflow_mul-skipped c).Else-width-line)
-
-pub overflow_sub-skipped : goal.overflow_sub-skipped
-overflow_sub-skipped c = omega (arith, within (goal.at.overflow_sub-skipped c).Else-width-line)
-
-pub returns-then-skipped-position : goal.returns-then-skipped-position
-returns-then-skipped-position c = offset-over _ (omega (arith, within (goal.at.returns-then-skipped-position c).Else-width-line))
-
-pub overflow_add-front : goal.overflow_add-front
-overflow_add-front c = omega (arith, within (goal.at.overflow_add-front c).Else-width-line)
-
-pub overflow_sub-front : goal.overflow_sub-front
-overflow_sub-front c = omega (arith, within (goal.at.overflow_sub-front c).Else-width-line)
-
-pub returns-then-front-column : goal.returns-then-front-column
-returns-then-front-column c = offset-over _ (omega (arith, within (goal.at.returns-then-front-column c).Else-width-line))
-
-pub overflow_add-result : goal.overflow_add-result
-overflow_add-result c = omega (arith, within (goal.at.overflow_add-result c).Else-width-line)
+pub returns-in_err-at : goal.returns-in_err-at
+returns-in_err-at c =
+    rw c.from_residual-in_err-at.ensures (offset-over _ (omega (arith, c.in_err-at.ensures, c.in_ok-skipped.ensures, c.in_ok-front.ensures)))
 
 pub returns : goal.returns
-returns c = offset_at _ (omega (arith, within (goal.at.returns c).Else-width-line))
+returns c =
+    let e : c.in_ok-at.at ≡ c.args.position + c.args.line * c.args.width + c.args.column = omega (arith, c.in_ok-at.ensures, c.in_ok-front.ensures, c.in_ok-skipped.ensures) in
+    rw e (offset_at _ (omega (arith, c.in_ok-at.ensures, e)))

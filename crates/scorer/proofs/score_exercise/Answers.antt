@@ -1,5 +1,5 @@
 -- `scorer::score_exercise` meets its contract: the size is judged first, then what is asked, and `score_row` gives the score for a row.
-use Rattle.std.proofs.Common.{sym, ◌∙◌}
+use Rattle.std.proofs.Common.{◌≡◌, sym, ◌∙◌, Err, rules}
 use Rattle.table.specs.Rows.{held_at}
 use Rattle.scorer.specs.Laws.{scorer-long, scorer-refused, scorer-row}
 use Rattle.scorer.proofs.score_exercise.Goals as goal
@@ -7,12 +7,13 @@ use Rattle.scorer.proofs.score_exercise.Goals as goal
 pub returns-then-any_over : goal.returns-then-any_over
 returns-then-any_over c = scorer-long _ _ _ _ _ _ _ (sym c.any_over.ensures ∙ c.if-any_over.true)
 
-pub returns-in-Refused : goal.returns-in-Refused
-returns-in-Refused c =
-    scorer-refused _ _ _ _ _ _ _ (sym c.any_over.ensures ∙ c.if-any_over.false) _ (sym c.asked_row.ensures ∙ c.in-Refused.is)
+pub returns-in_err-x : goal.returns-in_err-x
+returns-in_err-x c =
+    let e : c.from_residual.result ≡ Err c.in_err-x.field-0.0 = search rules in
+    rw e (scorer-refused _ _ _ _ _ _ _ (sym c.any_over.ensures ∙ c.if-any_over.false) _ (sym c.asked_row.ensures ∙ c.in_err-x.was))
 
-pub returns-in-Row : goal.returns-in-Row
+pub returns : goal.returns
 unfolding held_at
-returns-in-Row c =
-    rw c.row.ensures at c.score_row.ensures
-    ∙ scorer-row _ _ _ _ _ _ _ (sym c.any_over.ensures ∙ c.if-any_over.false) _ _ (sym c.asked_row.ensures ∙ c.in-Row.is)
+returns c =
+    rw c.row-held.ensures at c.score_row.ensures
+    ∙ scorer-row _ _ _ _ _ _ _ (sym c.any_over.ensures ∙ c.if-any_over.false) _ _ (sym c.asked_row.ensures ∙ c.in_ok-x.was)

@@ -8,10 +8,10 @@ use Rattle.scoring.specs.Plain.{byte-bit}
 use Rattle.scoring.proofs.lies_bit.Goals as goal
 use Rattle.scoring.proofs.lies_bit.Goals.{Start}
 
-typed-set : (c : Start) → get_or c.args.codes.now c.args.t 0 ≡ set_of c.args.t
+typed-set : (c : Start) → get_or c.args.sets.now c.args.t 0 ≡ set_of c.args.t
 typed-set c = entry _ _ c.requires c.args.t (search rules)
 
-key_set : (c : Start) → get_or c.args.codes.now c.args.k 0 ≡ set_of c.args.k
+key_set : (c : Start) → get_or c.args.sets.now c.args.k 0 ≡ set_of c.args.k
 key_set c = entry _ _ c.requires c.args.k (search rules)
 
 pub returns-then-set-eq0 : goal.returns-then-set-eq0

@@ -9,13 +9,13 @@ use Rattle.scoring.proofs.open_part.Goals.{After-total-settled, After-walks}
 
 -- the settled places
 settled : (c : After-total-settled)
-    → Counted (agrees hit c.args.key.now c.args.typed.now) c.args.at
+    → Counted (agrees hit c.args.places.now.key.now c.args.places.now.typed.now) c.args.at
     (32 * c.args.blocks) c.total-settled.result
 settled c = counted-total _ _ _ _ _ c.lanes_in-lanes.ensures.0 c.total-settled.ensures
 
 both : (c : After-walks)
-    → Counted (agrees lies c.args.key.now c.args.typed.now) c.args.at (32 * c.args.blocks) (c.total-settled.result + c.walks.result)
-both c = counted-open _ _ _ _ _ _ (let settled : Counted (agrees hit c.args.key.now c.args.typed.now) c.args.at
+    → Counted (agrees lies c.args.places.now.key.now c.args.places.now.typed.now) c.args.at (32 * c.args.blocks) (c.total-settled.result + c.walks.result)
+both c = counted-open _ _ _ _ _ _ (let settled : Counted (agrees hit c.args.places.now.key.now c.args.places.now.typed.now) c.args.at
     (32 * c.args.blocks) c.total-settled.result = counted-total _ _ _ _ _ c.lanes_in-lanes.ensures.0 c.total-settled.ensures in settled) (counted-lanes _ _ _ _ c.walks.ensures)
 
 pub total-settled-requires : goal.total-settled-requires

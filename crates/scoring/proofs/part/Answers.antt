@@ -3,4 +3,4 @@ use Rattle.std.proofs.Common.{arith}
 use Rattle.scoring.proofs.part.Goals as goal
 
 pub returns-then-cut : goal.returns-then-cut
-returns-then-cut c = rw c.wide.ensures (c.cut_at-cut.ensures (omega arith))
+returns-then-cut c = rw c.from.ensures (c.cut_at-cut.ensures (omega arith))

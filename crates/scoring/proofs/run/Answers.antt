@@ -1,18 +1,15 @@
 -- `scoring::run` meets its contract: of the places passed, so many are right.
-use Rattle.std.proofs.Common.{◌≡◌, ◌∙◌, arith, rules}
+use Rattle.std.proofs.Common.{◌∙◌, arith}
 use Rattle.scoring.specs.Counting.{agrees, counted_none, counted-more}
 use Rattle.scoring.proofs.run.Goals as goal
 
 pub loop-j-init : goal.loop-j-init
-loop-j-init c = (search rules, counted_none _ _)
+loop-j-init g c = counted_none _ _
 
 pub overflow_add-right : goal.overflow_add-right
 unfolding agrees
-overflow_add-right c = let w = counted-more _ _ _ _ _ c.loop-j.invariant.1 (c.wide-right.ensures ∙ c.right_bit.ensures) in omega (arith, w.most)
+overflow_add-right g c = let w = counted-more _ _ _ _ _ c.loop-j.invariant (c.from-right.ensures ∙ c.right_bit.ensures) in omega (arith, w.most)
 
 pub loop-j-preserved : goal.loop-j-preserved
 unfolding agrees
-loop-j-preserved c = (search rules, counted-more _ _ _ _ _ c.loop-j.invariant.1 (c.wide-right.ensures ∙ c.right_bit.ensures))
-
-pub returns : goal.returns
-returns c = let q : c.loop-j.j ≡ c.args.n = omega arith in rw q at c.loop-j.invariant.1
+loop-j-preserved g c = counted-more _ _ _ _ _ c.loop-j.invariant (c.from-right.ensures ∙ c.right_bit.ensures)

@@ -1,8 +1,7 @@
 -- `scoring::score_key` meets its contract: 1 for what was typed, 33, and the counts of either edition.
-use Rattle.std.proofs.Common.{sym, ap, ◌∙◌, eq-eqb, ne_eqb, ltb-false, ◌≤◌, length}
+use Rattle.std.proofs.Common.{◌≡◌, arith, sym, ap, ◌∙◌, eq-eqb, ne_eqb, ltb-false, ◌≤◌, length, Ok}
 use Rattle.refusal.specs.Numbers.{over_limit}
 use Rattle.scoring.specs.Places.{key_scored}
-use Rattle.scoring.specs.declared.Scored.TheVariants as is
 use Rattle.scoring.proofs.score_key.Goals as goal
 use Rattle.scoring.proofs.score_key.Goals.{Else-over_limit}
 
@@ -18,17 +17,20 @@ returns-then-over_limit c = rw (sym c.over_limit.ensures ∙ c.if-over_limit.tru
 pub score_by-requires : goal.score_by-requires
 score_by-requires c = typed-small (goal.at.score_by-requires c).Else-over_limit
 
-pub returns-then-edition-eq1 : goal.returns-then-edition-eq1
+pub returns-in-1 : goal.returns-in-1
 unfolding key_scored
-returns-then-edition-eq1 c = rw (sym c.over_limit.ensures ∙ c.if-over_limit.false, eq-eqb _ _ c.if-edition-eq1.true) (ap is.Score c.score_by.ensures)
+returns-in-1 c = rw (sym c.over_limit.ensures ∙ c.if-over_limit.false, eq-eqb _ _ c.in-1.is) (ap Ok c.score_by.ensures)
 
-pub score_by-requires-then-edition-eq2 : goal.score_by-requires-then-edition-eq2
-score_by-requires-then-edition-eq2 c = typed-small (goal.at.score_by-requires-then-edition-eq2 c).Else-over_limit
+pub score_by-requires-in-2 : goal.score_by-requires-in-2
+score_by-requires-in-2 c = typed-small (goal.at.score_by-requires-in-2 c).Else-over_limit
 
-pub returns-then-edition-eq2 : goal.returns-then-edition-eq2
+pub returns-in-2 : goal.returns-in-2
 unfolding key_scored
-returns-then-edition-eq2 c = rw (sym c.over_limit.ensures ∙ c.if-over_limit.false, ne_eqb _ _ c.if-edition-eq1.false, eq-eqb _ _ c.if-edition-eq2.true) (ap is.Score c.score_by-then-edition-eq2.ensures)
+returns-in-2 c = rw (sym c.over_limit.ensures ∙ c.if-over_limit.false, c.in-2.is) (ap Ok c.score_by-in-2.ensures)
 
-pub returns : goal.returns
+pub returns-in_default : goal.returns-in_default
 unfolding key_scored
-returns c = rw (sym c.over_limit.ensures ∙ c.if-over_limit.false, ne_eqb _ _ c.if-edition-eq1.false, ne_eqb _ _ c.if-edition-eq2.false)
+returns-in_default c =
+    let one : c.args.edition ≡ 1 → ⊥ = λ e. omega arith in
+    let two : c.args.edition ≡ 2 → ⊥ = λ e. omega arith in
+    rw (sym c.over_limit.ensures ∙ c.if-over_limit.false, ne_eqb _ _ one, ne_eqb _ _ two)

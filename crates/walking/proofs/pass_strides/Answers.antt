@@ -7,16 +7,16 @@ use Rattle.walking.proofs.pass_strides.Goals.{After-strides_here-strides}
 
 -- offsets behind the strides fit
 fit : (c : After-strides_here-strides)
-    → (c.args.at + c.strides_here-strides.result * c.args.stride_width < 2 ^ 64)
-    × (c.args.start.0 + c.strides_here-strides.result * c.args.stride_width < 2 ^ 64)
+    → (c.args.at + c.strides_here-strides.result * c.args.layout.width < 2 ^ 64)
+    × (c.args.layout.start.0 + c.strides_here-strides.result * c.args.layout.width < 2 ^ 64)
 fit c = rw c.strides_here-strides.ensures (strides-fit _ _ _ _ _ (omega arith) (omega arith) (omega arith))
 
 -- the walk goes on behind them
 onward : (c : After-strides_here-strides)
-    → Onward c.args.s.now c.args.at c.args.start.0 c.args.stride_bases c.args.stride_width
-    (c.args.at + c.strides_here-strides.result * c.args.stride_width)
-    (behind_strides c.args.stride_bases c.strides_here-strides.result (c.args.start.0 + c.strides_here-strides.result * c.args.stride_width))
-onward c = rw c.strides_here-strides.ensures (onward-strides _ _ _ _ _ (omega arith) (omega arith) c.requires)
+    → Onward c.args.s.now c.args.at c.args.layout.start.0 c.args.layout.bases c.args.layout.width
+    (c.args.at + c.strides_here-strides.result * c.args.layout.width)
+    (behind_strides c.args.layout.bases c.strides_here-strides.result (c.args.layout.start.0 + c.strides_here-strides.result * c.args.layout.width))
+onward c = rw c.strides_here-strides.ensures (onward-strides _ _ _ _ _ (omega arith) (omega arith) c.args.layout.some)
 
 pub overflow_mul-bases : goal.overflow_mul-bases
 overflow_mul-bases c = omega (arith, fit (goal.at.overflow_mul-bases c).After-strides_here-strides, (onward (goal.at.overflow_mul-bases c).After-strides_here-strides).fewer)

@@ -3,11 +3,11 @@ use Rattle.std.proofs.Common.{◌∙◌, arith}
 use Rattle.walking.specs.Strides.{strides-elsewhere, strides-joined, strides-like}
 use Rattle.walking.proofs.strides_here.Goals as goal
 
-pub returns-then-start-at : goal.returns-then-start-at
-returns-then-start-at c = strides-elsewhere _ _ _ _ _ (λ e. omega arith)
+pub returns-then-layout-at : goal.returns-then-layout-at
+returns-then-layout-at c = strides-elsewhere _ _ _ _ _ (λ e. omega arith)
 
-pub returns-then-stride_width-stride_bases : goal.returns-then-stride_width-stride_bases
-returns-then-stride_width-stride_bases c = strides-joined _ _ _ _ _ (omega arith)
+pub returns-then-layout : goal.returns-then-layout
+returns-then-layout c = strides-joined _ _ _ _ _ (omega arith)
 
 pub returns : goal.returns
 returns c = c.lines_like.ensures ∙ strides-like _ _ _ _ _ (omega arith) (omega arith)

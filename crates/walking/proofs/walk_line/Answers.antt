@@ -2,9 +2,9 @@
 use Rattle.walking.specs.Walk.{walked-elsewhere, walked-there}
 use Rattle.walking.proofs.walk_line.Goals as goal
 
-pub returns-in-Elsewhere : goal.returns-in-Elsewhere
-returns-in-Elsewhere c = walked-elsewhere _ _ _ _ _ _ _ c.in-Elsewhere.is
+pub returns-in-Some : goal.returns-in-Some
+returns-in-Some c = walked-elsewhere _ _ _ _ _ _ _ c.in-Some.is
 
-pub returns-in-There : goal.returns-in-There
-returns-in-There c =
-    walked-there _ _ _ _ _ _ _ c.in-There.is c.requires.1 c.requires.2 c.requires.3 c.judge_line-here.ensures c.moved_on-next.ensures
+pub returns-in-None : goal.returns-in-None
+returns-in-None c =
+    walked-there _ _ _ _ _ _ _ c.in-None.is c.requires.1 c.requires.2 c.args.layout.apart c.judge_line-here.ensures c.moved_on-next.ensures

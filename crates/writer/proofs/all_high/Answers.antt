@@ -1,5 +1,5 @@
--- `writer::all_high` meets its contract: before each turn, where the mark is 0, none of the first `i` bytes is barred.
-use Rattle.std.proofs.Common.{ℕ, ◌≤◌, ◌<◌, ◌≡◌, refl, ◌∙◌, Bool, true, false, ◌||◌, rules, eqb-true, arith, bit_or, bit_and, bit_xor, eqb, length, take, get_or, take_all}
+-- `writer::all_high` meets its contract: before each turn, where the mark is 0, none of the bytes so far is barred.
+use Rattle.std.proofs.Common.{ℕ, ◌≡◌, refl, ◌∙◌, Bool, true, false, ◌||◌, eqb-true, arith, bit_or, bit_and, bit_xor, eqb, take, get_or}
 use lib.Bits.{or_add_and, and_le_l, and_le_r}
 use Rattle.writer.specs.Text.{any_of, barred}
 use Rattle.writer.specs.Laws.{any_next}
@@ -23,22 +23,14 @@ high b e = go (eqb b 10) refl (eqb b 13) refl (eqb b 62) refl
 none : (x y : Bool) → x ≡ false → y ≡ false → (x || y) ≡ false
 none x y p q = rw (p, q)
 
-pub loop-i-init : goal.loop-i-init
+pub loop-b-init : goal.loop-b-init
 unfolding any_of
-loop-i-init c = (omega arith, λ _. refl)
+loop-b-init c = λ _. refl
 
-pub loop-i-preserved : goal.loop-i-preserved
-loop-i-preserved c =
+pub loop-b-preserved : goal.loop-b-preserved
+loop-b-preserved c =
     let s = c.args.s.now in
-    let h : c.loop-i.i < length s = omega arith in (
-      search rules,
-      λ e.
-          let b = both c.loop-i.low (bit_xor (bit_and (get_or s c.loop-i.i 0) 64) 64) e in
-          any_next barred s c.loop-i.i h ∙ none (any_of barred (take c.loop-i.i s)) (barred (get_or s c.loop-i.i 0)) (c.loop-i.invariant.1 b.0) (high (get_or s c.loop-i.i 0) b.1),
-    )
-
-pub returns : goal.returns
-returns c =
-    let s = c.args.s.now in
-    let h : length s ≤ c.loop-i.i = omega arith in
-    λ e. rw (take_all _ s h) at (c.loop-i.invariant.1 (eqb-true _ 0 e))
+    let i = c.loop-b.b-index in
+    λ e.
+    let b = both c.loop-b.low (bit_xor (bit_and (get_or s i 0) 64) 64) e in
+    any_next barred s i c.loop-b-test.true ∙ none (any_of barred (take i s)) (barred (get_or s i 0)) (c.loop-b.invariant b.0) (high (get_or s i 0) b.1)

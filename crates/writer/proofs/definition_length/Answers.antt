@@ -1,10 +1,10 @@
 -- `writer::definition_length` meets its contract.
-use Rattle.std.proofs.Common.{sym}
+use Rattle.std.proofs.Common.{[], sym}
 use Rattle.writer.specs.Laws.{definition-size, bare-size}
 use Rattle.writer.proofs.definition_length.Goals as goal
 
-pub returns-then-described : goal.returns-then-described
-returns-then-described c = rw c.if-described.true (sym (definition-size _ _))
+pub returns-in-None : goal.returns-in-None
+returns-in-None c = rw c.in-None.is (sym (bare-size _ []))
 
-pub returns : goal.returns
-returns c = rw c.if-described.false (sym (bare-size _ _))
+pub returns-in-Some : goal.returns-in-Some
+returns-in-Some c = rw c.in-Some.is (sym (definition-size _ _))

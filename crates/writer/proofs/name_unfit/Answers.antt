@@ -1,12 +1,16 @@
 -- `writer::name_unfit` meets its contract.
-use Rattle.std.proofs.Common.{eq-eqb, ne_eqb}
+use Rattle.std.proofs.Common.{◌≡◌, true, false, sym, ◌∙◌, eqb, length}
 use Rattle.writer.specs.Text.{name_unfit}
 use Rattle.writer.proofs.name_unfit.Goals as goal
 
-pub returns-then-name-eq0 : goal.returns-then-name-eq0
+pub returns-then-is_empty : goal.returns-then-is_empty
 unfolding name_unfit
-returns-then-name-eq0 c = rw (eq-eqb _ _ c.if-name-eq0.true)
+returns-then-is_empty c =
+    let e : eqb (length c.args.name.now) 0 ≡ true = sym c.is_empty.ensures ∙ c.if-is_empty.true in
+    rw (c.if-is_empty.true, e)
 
-pub returns : goal.returns
+pub returns-else-is_empty : goal.returns-else-is_empty
 unfolding name_unfit
-returns c = rw (ne_eqb _ _ c.if-name-eq0.false) c.any_space.ensures
+returns-else-is_empty c =
+    let e : eqb (length c.args.name.now) 0 ≡ false = sym c.is_empty.ensures ∙ c.if-is_empty.false in
+    rw e c.any_space.ensures

@@ -4,7 +4,7 @@ use Rattle.checker.specs.Quick.{WordAt}
 use Rattle.checker.proofs.quick.word_8.Given as goal
 
 abbrev pub invariant-loop-k : goal.invariant-loop-k
-invariant-loop-k l = (l.k ≤ 8) × (l.all ≡ true → WordAt l.a l.p l.b l.q l.k)
+invariant-loop-k l = (l.k ≤ 8) × (l.all ≡ true → WordAt l.a l.i l.b l.i l.k)
 
 abbrev pub decreases-loop-k : goal.decreases-loop-k
 decreases-loop-k l = 8 - l.k

@@ -14,10 +14,10 @@ slice_bounds-judge_record-end c =
 pub judge_record-requires : goal.judge_record-requires
 judge_record-requires c = (c.requires.2, c.parse_at-found.ensures.read)
 
-pub returns-in-Refused : goal.returns-in-Refused
-returns-in-Refused c =
-    row-refused _ _ _ _ _ _ c.requires.1 c.parse_at-found.ensures.end _ c.judge_record.ensures _ _ c.in-Refused.is
+pub returns-in-Err : goal.returns-in-Err
+returns-in-Err c =
+    row-refused _ _ _ _ _ _ c.requires.1 c.parse_at-found.ensures.end _ c.judge_record.ensures _ _ c.in-Err.is
 
-pub returns-in-Accepted : goal.returns-in-Accepted
-returns-in-Accepted c =
-    row_next _ _ _ _ _ _ c.requires.1 c.parse_at-found.ensures.end _ c.judge_record.ensures _ c.in-Accepted.is
+pub returns-in-Ok : goal.returns-in-Ok
+returns-in-Ok c =
+    row_next _ _ _ _ _ _ c.requires.1 c.parse_at-found.ensures.end _ c.judge_record.ensures _ c.in-Ok.is

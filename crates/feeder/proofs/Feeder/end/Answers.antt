@@ -10,11 +10,11 @@ returns-then-not-is_live c = end-stopped _ _ _ (sym c.is_live.ensures ∙ c.if-n
 pub returns-then-not-is_sound : goal.returns-then-not-is_sound
 returns-then-not-is_sound c = end-unsound _ _ _ (sym c.is_live.ensures ∙ c.if-not-is_live.false) (sym c.is_sound.ensures ∙ c.if-not-is_sound.true) c.refused.ensures
 
-pub returns-then-waiting-eq0 : goal.returns-then-waiting-eq0
-returns-then-waiting-eq0 c = end_empty _ _ _ (sym c.is_live.ensures ∙ c.if-not-is_live.false) (sym c.is_sound.ensures ∙ c.if-not-is_sound.false) c.if-waiting-eq0.true c.closed.ensures
+pub returns-then-self-eq0 : goal.returns-then-self-eq0
+returns-then-self-eq0 c = end_empty _ _ _ (sym c.is_live.ensures ∙ c.if-not-is_live.false) (sym c.is_sound.ensures ∙ c.if-not-is_sound.false) c.if-self-eq0.true c.closed.ensures
 
 pub judge-out-requires : goal.judge-out-requires
 judge-out-requires c = fits-small (2 ^ 41) _ _ (sound-fits c.args.self (sym c.is_sound.ensures ∙ c.if-not-is_sound.false)).1 (omega arith)
 
 pub returns : goal.returns
-returns c = end-judged _ _ _ (sym c.is_live.ensures ∙ c.if-not-is_live.false) (sym c.is_sound.ensures ∙ c.if-not-is_sound.false) _ _ _ c.if-waiting-eq0.false c.judge-out.ensures c.settle.ensures c.closed-2.ensures
+returns c = end-judged _ _ _ (sym c.is_live.ensures ∙ c.if-not-is_live.false) (sym c.is_sound.ensures ∙ c.if-not-is_sound.false) _ _ _ c.if-self-eq0.false c.judge-out.ensures c.settle.ensures c.closed-2.ensures

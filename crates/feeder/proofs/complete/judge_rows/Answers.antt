@@ -3,10 +3,10 @@ use Rattle.std.proofs.Common.{sym, ◌∙◌}
 use Rattle.feeder.specs.Machine.{rows_out}
 use Rattle.feeder.proofs.complete.judge_rows.Goals as goal
 
-pub returns-in-There : goal.returns-in-There
+pub returns-in-None : goal.returns-in-None
 unfolding rows_out
-returns-in-There c = rw (sym c.place_bases.ensures ∙ c.in-There.is) c.pass_line.ensures
+returns-in-None c = rw (sym c.place_bases.ensures ∙ c.in-None.is) c.pass_line.ensures
 
-pub returns-in-Elsewhere : goal.returns-in-Elsewhere
+pub returns-in-Some : goal.returns-in-Some
 unfolding rows_out
-returns-in-Elsewhere c = rw (sym c.place_bases.ensures ∙ c.in-Elsewhere.is) c.halted.ensures
+returns-in-Some c = rw (sym c.place_bases.ensures ∙ c.in-Some.is) c.halted.ensures

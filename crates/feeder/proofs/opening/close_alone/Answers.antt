@@ -8,4 +8,4 @@ returns-in-Strict c = rw c.in-Strict.is c.halted.ensures
 
 pub returns-in-Complete : goal.returns-in-Complete
 unfolding close_alone
-returns-in-Complete c = rw (c.in-Complete.is, c.row.ensures)
+returns-in-Complete c = rw (c.in-Complete.is, c.row_alone.ensures)

@@ -3,17 +3,11 @@ use Rattle.std.proofs.Common.{arith, sym, ◌∙◌, eq-eqb}
 use Rattle.feeder.specs.Records.{first-in, first_some, lines-in, ends-alike, ends_last}
 use Rattle.feeder.proofs.records.whole_sequence.Goals as goal
 
-pub returns-then-first-eq0 : goal.returns-then-first-eq0
-returns-then-first-eq0 c = λ z. absurd (omega (arith, z, c.no_sequence.ensures))
-
 pub overflow_add-i : goal.overflow_add-i
 overflow_add-i c = omega (arith, first-in c.args.p.now c.args.e c.requires.0 _ c.sequence_line-first.ensures, c.requires.1)
 
 pub is_long-requires : goal.is_long-requires
 is_long-requires c = (first-in c.args.p.now c.args.e c.requires.0 _ c.sequence_line-first.ensures, c.requires.1, omega (arith, first-in c.args.p.now c.args.e c.requires.0 _ c.sequence_line-first.ensures), omega (arith, first_some c.args.p.now c.args.e c.requires.0 _ c.sequence_line-first.ensures, c.if-first-eq0.false))
-
-pub returns-then-is_long : goal.returns-then-is_long
-returns-then-is_long c = λ z. absurd (omega (arith, z, c.no_sequence-then-is_long.ensures))
 
 pub overflow_mul-j : goal.overflow_mul-j
 overflow_mul-j c = let a = lines-in c.args.p.now c.args.e c.requires.0 _ c.sequence_line-first.ensures _ c.lines_like-k.ensures in omega (arith, a.0, a.1, c.requires.1)
@@ -27,26 +21,14 @@ overflow_mul-n c = let a = lines-in c.args.p.now c.args.e c.requires.0 _ c.seque
 pub overflow_add-n : goal.overflow_add-n
 overflow_add-n c = let a = lines-in c.args.p.now c.args.e c.requires.0 _ c.sequence_line-first.ensures _ c.lines_like-k.ensures in omega (arith, a.0, a.1, c.requires.1)
 
-pub returns-then-p-j : goal.returns-then-p-j
-returns-then-p-j c = λ z. absurd (omega (arith, z, c.no_sequence-then-p-j.ensures))
-
 pub returns-then-p-j-eq62 : goal.returns-then-p-j-eq62
-returns-then-p-j-eq62 c = λ z. ends-alike c.args.p.now c.args.e c.requires.0 c.requires.1 _ c.sequence_line-first.ensures (omega (arith, c.if-first-eq0.false)) _ c.lines_like-k.ensures (omega (arith, c.if-p-j.false)) (eq-eqb _ _ c.if-p-j-eq62.true)
+returns-then-p-j-eq62 c = ends-alike c.args.p.now c.args.e c.requires.0 c.requires.1 _ c.sequence_line-first.ensures (omega (arith, c.if-first-eq0.false)) _ c.lines_like-k.ensures (omega (arith, c.if-p-j.false)) (eq-eqb _ _ c.if-p-j-eq62.true)
 
 pub overflow_add-m : goal.overflow_add-m
 overflow_add-m c = let a = lines-in c.args.p.now c.args.e c.requires.0 _ c.sequence_line-first.ensures _ c.lines_like-k.ensures in omega (arith, first-in c.args.p.now _ a.0 _ c.sequence_line-last.ensures, c.requires.1)
-
-pub returns-then-p-m : goal.returns-then-p-m
-returns-then-p-m c = λ z. absurd (omega (arith, z, c.no_sequence-then-p-m.ensures))
-
-pub returns-then-p-m-ne62 : goal.returns-then-p-m-ne62
-returns-then-p-m-ne62 c = λ z. absurd (omega (arith, z, c.no_sequence-then-p-m-ne62.ensures))
 
 pub overflow_add-result : goal.overflow_add-result
 overflow_add-result c = let a = lines-in c.args.p.now c.args.e c.requires.0 _ c.sequence_line-first.ensures _ c.lines_like-k.ensures in omega (arith, a.1, first-in c.args.p.now _ a.0 _ c.sequence_line-last.ensures, first_some c.args.p.now _ a.0 _ c.sequence_line-last.ensures, c.requires.1)
 
 pub returns-then-may_end : goal.returns-then-may_end
-returns-then-may_end c = λ z. ends_last c.args.p.now c.args.e c.requires.0 c.requires.1 _ c.sequence_line-first.ensures (omega (arith, c.if-first-eq0.false)) _ c.lines_like-k.ensures (omega (arith, c.if-p-j.false)) _ c.sequence_line-last.ensures (sym c.may_end.ensures ∙ c.if-may_end.true) (omega (arith, c.if-p-m.false)) (eq-eqb _ _ c.if-p-m-ne62.false)
-
-pub returns : goal.returns
-returns c = λ z. absurd (omega (arith, z, c.no_sequence-2.ensures))
+returns-then-may_end c = ends_last c.args.p.now c.args.e c.requires.0 c.requires.1 _ c.sequence_line-first.ensures (omega (arith, c.if-first-eq0.false)) _ c.lines_like-k.ensures (omega (arith, c.if-p-j.false)) _ c.sequence_line-last.ensures (sym c.may_end.ensures ∙ c.if-may_end.true) (omega (arith, c.if-p-m.false)) (eq-eqb _ _ c.if-p-m-ne62.false)

@@ -9,14 +9,8 @@ returns-then-not-is_clear c = whole-none _ _ _ c.requires.0 _ c.requires.2
 pub take_records-r-requires : goal.take_records-r-requires
 take_records-r-requires c = (c.requires.0, c.requires.1, omega (arith, c.requires.1, whole-place c.args.f c.args.p.now c.args.i c.requires.0 c.args.table.now c.requires.2 _ c.in-Definition.is))
 
-pub returns-in-Definition : goal.returns-in-Definition
-returns-in-Definition c = whole-records _ _ _ c.requires.0 _ c.requires.2 _ c.in-Definition.is _ _ (sym c.is_clear.ensures ∙ c.if-not-is_clear.false) c.take_records-r.ensures
+pub returns : goal.returns
+returns c = whole-records _ _ _ c.requires.0 _ c.requires.2 _ c.in-Definition.is _ _ (sym c.is_clear.ensures ∙ c.if-not-is_clear.false) c.take_records-r.ensures
 
-pub returns-in-Lines : goal.returns-in-Lines
-returns-in-Lines c = whole-none _ _ _ c.requires.0 _ c.requires.2
-
-pub returns-in-Halted : goal.returns-in-Halted
-returns-in-Halted c = whole-none _ _ _ c.requires.0 _ c.requires.2
-
-pub returns-in-Ended : goal.returns-in-Ended
-returns-in-Ended c = whole-none _ _ _ c.requires.0 _ c.requires.2
+pub returns-in_default : goal.returns-in_default
+returns-in_default c = whole-none _ _ _ c.requires.0 _ c.requires.2

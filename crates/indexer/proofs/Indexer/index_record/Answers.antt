@@ -5,7 +5,7 @@ use Rattle.indexer.proofs.Indexer.index_record.Goals as goal
 
 pub returns-then-over_limit : goal.returns-then-over_limit
 unfolding record_read
-returns-then-over_limit c = rw (sym c.over_limit.ensures ∙ c.if-over_limit.true)
+returns-then-over_limit c = c.of.ensures ∙ rw (sym c.over_limit.ensures ∙ c.if-over_limit.true)
 
 pub returns : goal.returns
 unfolding record_read

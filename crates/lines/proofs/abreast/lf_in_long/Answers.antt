@@ -3,10 +3,7 @@ use Rattle.std.proofs.Common.{◌∙◌, arith}
 use Rattle.lines.specs.Abreast.{long-clear}
 use Rattle.lines.proofs.abreast.lf_in_long.Goals as goal
 
-pub lf_in_four_32-requires : goal.lf_in_four_32-requires
-lf_in_four_32-requires c = (omega arith, omega arith, omega arith, omega arith)
-
 pub returns : goal.returns
 returns c =
     let a = c.args in
-    c.lf_in_four_32.ensures ∙ long-clear a.s.now a.at a.n (omega arith) (omega arith)
+    c.lf_in_four.ensures ∙ long-clear a.s.now a.at a.n (omega arith) (omega arith)

@@ -1,34 +1,7 @@
 -- `lines::abreast::row_is_like` meets its contract: no place has an LF too early, and each ends as it should.
-use Rattle.std.proofs.Common.{◌+◌, sym, true≢false, arith}
+use Rattle.std.proofs.Common.{◌+◌, arith}
 use Rattle.lines.specs.Abreast.{line-by}
 use Rattle.lines.proofs.abreast.row_is_like.Goals as goal
-
-pub lf_in_row-requires : goal.lf_in_row-requires
-lf_in_row-requires c = (omega arith, omega arith, omega arith)
-
-pub returns-then-lf_in_row : goal.returns-then-lf_in_row
-returns-then-lf_in_row c = λ e. absurd (true≢false (sym e))
-
-pub ends_like-requires : goal.ends_like-requires
-ends_like-requires c = (omega arith, omega arith)
-
-pub returns-then-not-ends_like : goal.returns-then-not-ends_like
-returns-then-not-ends_like c = λ e. absurd (true≢false (sym e))
-
-pub ends_like-requires-2 : goal.ends_like-requires-2
-ends_like-requires-2 c = (omega arith, omega arith)
-
-pub returns-then-not-ends_like-2 : goal.returns-then-not-ends_like-2
-returns-then-not-ends_like-2 c = λ e. absurd (true≢false (sym e))
-
-pub ends_like-requires-3 : goal.ends_like-requires-3
-ends_like-requires-3 c = (omega arith, omega arith)
-
-pub returns-then-not-ends_like-3 : goal.returns-then-not-ends_like-3
-returns-then-not-ends_like-3 c = λ e. absurd (true≢false (sym e))
-
-pub ends_like-requires-4 : goal.ends_like-requires-4
-ends_like-requires-4 c = (omega arith, omega arith)
 
 pub returns : goal.returns
 returns c = λ e.

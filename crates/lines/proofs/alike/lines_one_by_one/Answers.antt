@@ -53,12 +53,6 @@ like c = c.if-not-is_like.false
 pub overflow_add-i : goal.overflow_add-i
 overflow_add-i c = omega (arith, fits (goal.at.overflow_add-i c).After-is_like (like (goal.at.overflow_add-i c).After-struct_known-in-loop-n-1))
 
-pub overflow_add-n : goal.overflow_add-n
-overflow_add-n c = omega (arith, fits (goal.at.overflow_add-n c).After-is_like (like (goal.at.overflow_add-n c).After-struct_known-in-loop-n-1))
-
-pub loop-n-smaller : goal.loop-n-smaller
-loop-n-smaller c = omega (arith, fits (goal.at.loop-n-smaller c).After-is_like (like (goal.at.loop-n-smaller c).After-struct_known-in-loop-n-1))
-
 pub loop-n-preserved : goal.loop-n-preserved
 loop-n-preserved c =
     let a = c.args in

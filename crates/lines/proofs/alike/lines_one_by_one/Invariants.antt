@@ -6,6 +6,3 @@ use Rattle.lines.proofs.alike.lines_one_by_one.Given as goal
 
 abbrev pub invariant-loop-n : goal.invariant-loop-n
 invariant-loop-n l = (l.i ≤ length l.s) × (l.n ≤ l.i) × (l.n ≤ l.most) × (l.n + alike l.like (take (l.most - l.n) (up_to_at l.s l.mark l.i)) ≡ alike l.like (take l.most (up_to_at l.s l.mark l.at)))
-
-abbrev pub decreases-loop-n : goal.decreases-loop-n
-decreases-loop-n l = length l.s - l.i

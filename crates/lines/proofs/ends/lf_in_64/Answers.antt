@@ -5,12 +5,12 @@ use Rattle.lines.specs.Blocks.{lf-more}
 use Rattle.lines.proofs.ends.lf_in_64.Goals as goal
 
 pub loop-k-init : goal.loop-k-init
-loop-k-init c = (omega arith, sym (lf-none 0 (drop c.args.i c.args.s.now) refl))
+loop-k-init c = sym (lf-none 0 (drop c.args.i c.args.s.now) refl)
 
 pub loop-k-preserved : goal.loop-k-preserved
 loop-k-preserved c =
     let a = c.args in
-    (omega arith, rw c.loop-k.invariant.1 (sym (lf-more a.s.now a.i c.loop-k.k (omega arith))))
+    rw c.loop-k.invariant (sym (lf-more a.s.now a.i c.loop-k.k (omega arith)))
 
 pub returns : goal.returns
-returns c = let e : c.loop-k.k ≡ 64 = omega arith in rw e at c.loop-k.invariant.1
+returns c = let e : c.loop-k.k ≡ 64 = omega arith in rw e at c.loop-k.invariant

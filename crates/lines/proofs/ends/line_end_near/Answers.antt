@@ -12,5 +12,4 @@ loop-i-preserved c =
     rw add-one (omega (arith, line_len-miss c.args.s.now c.loop-i.i c.loop-i-test.true c.if-s-i-eq10.false))
 
 pub returns : goal.returns
-returns c =
-    omega (arith, line_len-end c.args.s.now c.loop-i.i c.loop-i-test.false)
+returns c = grind (arith, line_len-end c.args.s.now c.loop-i.i, line_len-end c.args.s.now c.args.at)

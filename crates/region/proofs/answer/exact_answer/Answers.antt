@@ -1,5 +1,5 @@
 -- `region::answer::exact_answer` meets its contract: it judges as `read_exact` does, and stops there.
-use Rattle.std.proofs.Common.{sym, ◌∙◌}
+use Rattle.std.proofs.Common.{sym, ◌∙◌, ◌≡◌, Err, rules}
 use Rattle.table.specs.RowLaws.{held-of}
 use Rattle.region.specs.Laws.{bounded-known}
 use Rattle.region.specs.Answer.{answer-long, answer-refused, answer-row}
@@ -10,14 +10,15 @@ returns-then-over_limit c = answer-long _ _ _ _ _ (sym c.over_limit.ensures ∙ 
 
 pub judged_answer-requires : goal.judged_answer-requires
 judged_answer-requires c =
-    let b = bounded-known _ _ _ _ (sym c.bounded_row-held.ensures ∙ c.in-Row.is) in
+    let b = bounded-known _ _ _ _ (sym c.bounded_row.ensures ∙ c.in_ok-x.was) in
     let h = held-of _ _ b.1 in
     (h.some-bases, h.some-width, b.0)
 
-pub returns-in-Refused : goal.returns-in-Refused
-returns-in-Refused c =
-    answer-refused _ _ _ _ _ (sym c.over_limit.ensures ∙ c.if-over_limit.false) _ (sym c.bounded_row-held.ensures ∙ c.in-Refused.is)
+pub returns-in_err-x : goal.returns-in_err-x
+returns-in_err-x c =
+    let e : c.from_residual.result ≡ Err c.in_err-x.field-0.0 = search rules in
+    rw e (answer-refused _ _ _ _ _ (sym c.over_limit.ensures ∙ c.if-over_limit.false) _ (sym c.bounded_row.ensures ∙ c.in_err-x.was))
 
-pub returns-in-Row : goal.returns-in-Row
-returns-in-Row c =
-    c.judged_answer.ensures ∙ answer-row _ _ _ _ _ (sym c.over_limit.ensures ∙ c.if-over_limit.false) _ (sym c.bounded_row-held.ensures ∙ c.in-Row.is)
+pub returns : goal.returns
+returns c =
+    c.judged_answer.ensures ∙ answer-row _ _ _ _ _ (sym c.over_limit.ensures ∙ c.if-over_limit.false) _ (sym c.bounded_row.ensures ∙ c.in_ok-x.was)

@@ -14,7 +14,7 @@ pub loop-run-init : goal.loop-run-init
 loop-run-init c = λ f a t. lined-start _ _ _ _ _ _ _ _ t
 
 -- where it is
-here : (c : At-loop-run) → Lined c.requires.begins.front c.args.file.now c.args.x c.requires.begins.base c.args.n c.args.out.now c.loop-run.k c.loop-run.at c.loop-run.run c.loop-run.out
+here : (c : At-loop-run) → Lined c.requires.begins.front c.args.file.now c.args.x c.requires.begins.base c.args.bases.count c.args.out.now c.loop-run.k c.loop-run.at c.loop-run.run c.loop-run.out
 here c = c.loop-run.invariant _ _ c.requires.begins.starts
 
 -- its line is in the file, and has room

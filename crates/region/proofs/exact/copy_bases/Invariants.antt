@@ -6,7 +6,7 @@ use Rattle.region.specs.Copy.{Starts, Lined}
 use Rattle.region.proofs.exact.copy_bases.Given as goal
 
 abbrev pub invariant-loop-run : goal.invariant-loop-run
-invariant-loop-run l = (f a : ℕ) → Starts f l.file l.x a l.n l.at-2 l.run-2 → Lined f l.file l.x a l.n l.initial.out l.k l.at l.run l.out
+invariant-loop-run l = (f a : ℕ) → Starts f l.file l.x a l.n l.fn.bases.at l.fn.bases.run → Lined f l.file l.x a l.n l.initial.out l.k l.at l.run l.out
 
 abbrev pub decreases-loop-run : goal.decreases-loop-run
 decreases-loop-run l = l.n - l.k

@@ -6,13 +6,13 @@ use Rattle.region.proofs.raw.scan_limit.Goals as goal
 
 pub overflow_sub-result : goal.overflow_sub-result
 overflow_sub-result c =
-    let h : c.args.first.0 ≤ c.in-Given.last.0 = unfold end_of in rw c.in-Given.is at c.requires.1 in
+    let h : c.args.first.0 ≤ c.in-Some.last.0 = unfold end_of in rw c.in-Some.is at c.requires.1 in
     omega arith
 
-pub returns-in-Given : goal.returns-in-Given
+pub returns : goal.returns
 unfolding limit_of
-returns-in-Given c = rw c.in-Given.is
+returns c = rw c.in-Some.is
 
-pub returns-in-Absent : goal.returns-in-Absent
+pub returns-in_default : goal.returns-in_default
 unfolding limit_of
-returns-in-Absent c = rw c.in-Absent.is
+returns-in_default c = rw c.in_default.is

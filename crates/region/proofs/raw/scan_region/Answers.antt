@@ -9,10 +9,10 @@ scan_from-requires c =
     let b = good-bounds c.args.start c.args.end (start_of c.args.start) c.requires in
     rw c.first_base-first.ensures (b.from_one, b.in_order (omega arith))
 
-pub returns-in-At : goal.returns-in-At
-returns-in-At c =
-    c.scan_from.ensures ∙ rw c.first_base-first.ensures (raw-at _ _ _ _ _ _ (rw c.first_base-first.ensures at (sym c.offset_of.ensures ∙ c.in-At.is)))
+pub returns : goal.returns
+returns c =
+    c.scan_from.ensures ∙ rw c.first_base-first.ensures (raw-at _ _ _ _ _ _ (rw c.first_base-first.ensures at (sym c.offset_of.ensures ∙ c.in-Some.is)))
 
-pub returns-in-Nowhere : goal.returns-in-Nowhere
-returns-in-Nowhere c =
-    rw c.first_base-first.ensures (raw-nowhere _ _ _ _ _ (rw c.first_base-first.ensures at (sym c.offset_of.ensures ∙ c.in-Nowhere.is)))
+pub returns-in_default : goal.returns-in_default
+returns-in_default c =
+    rw c.first_base-first.ensures (raw-nowhere _ _ _ _ _ (rw c.first_base-first.ensures at (sym c.offset_of.ensures ∙ c.in_default.is)))

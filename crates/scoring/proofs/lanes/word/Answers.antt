@@ -1,8 +1,8 @@
--- `scoring::lanes::word` meets its contract: each byte is put below those before it.
+-- `scoring::lanes::word` meets its contract: each byte has the worth of its place.
 use Rattle.std.proofs.Common.{arith}
 use Rattle.scoring.specs.Bits.{word_at}
 use Rattle.scoring.proofs.lanes.word.Goals as goal
 
 pub returns : goal.returns
 unfolding word_at
-returns c = omega arith
+returns c = omega (arith, c.from_le_bytes.ensures)

@@ -5,15 +5,15 @@ use Rattle.scoring.proofs.slices.turned.Goals as goal
 pub returns : goal.returns
 returns c =
     turn-planes _ _ _ _ _ _ _ _ _ _ _ _ _ _ _ _ _ _ _ _ _ _ _ _ _ _ _ _ _ _ _ _
-    c.swap_four-a.ensures
-    c.swap_four-b.ensures
-    c.swap_four-c.ensures
-    c.swap_four-d.ensures
-    c.swap_two-e.ensures
-    c.swap_two-f.ensures
-    c.swap_two-g.ensures
-    c.swap_two-h.ensures
-    c.swap_one-i.ensures
-    c.swap_one-j.ensures
-    c.swap_one-k.ensures
-    c.swap_one-l.ensures
+    c.swap-a.ensures
+    c.swap-b.ensures
+    c.swap-c.ensures
+    c.swap-d.ensures
+    c.swap-e.ensures
+    c.swap-f.ensures
+    c.swap-g.ensures
+    c.swap-h.ensures
+    c.swap-i.ensures
+    c.swap-j.ensures
+    c.swap-k.ensures
+    c.swap-l.ensures

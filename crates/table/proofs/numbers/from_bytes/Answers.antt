@@ -17,13 +17,13 @@ pub overflow_mul-n : goal.overflow_mul-n
 overflow_mul-n c = omega (arith, small (goal.at.overflow_mul-n c).In-loop-i)
 
 pub overflow_add-n : goal.overflow_add-n
-overflow_add-n c = omega (arith, small (goal.at.overflow_add-n c).In-loop-i, c.wide.ensures, c.shared_slice_known-in-loop-i-1.given (c.loop-i.i - 1))
+overflow_add-n c = omega (arith, small (goal.at.overflow_add-n c).In-loop-i, c.from.ensures, c.shared_slice_known-in-loop-i-1.given (c.loop-i.i - 1))
 
 pub loop-i-preserved : goal.loop-i-preserved
 loop-i-preserved c =
     let s = c.args.bytes.now in
     let e : c.loop-i.i - 1 + 1 ≡ c.loop-i.i = omega arith in
-    (omega arith, rw (c.loop-i.invariant.1, c.wide.ensures) (rw e at (sym (from_more s (c.loop-i.i - 1) (omega arith)))))
+    (omega arith, rw (c.loop-i.invariant.1, c.from.ensures) (rw e at (sym (from_more s (c.loop-i.i - 1) (omega arith)))))
 
 pub returns : goal.returns
 returns c =

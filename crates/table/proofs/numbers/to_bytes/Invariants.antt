@@ -5,6 +5,3 @@ use Rattle.table.proofs.numbers.to_bytes.Given as goal
 
 abbrev pub invariant-loop-i : goal.invariant-loop-i
 invariant-loop-i l = (length l.bytes ≡ length l.initial.bytes) × (l.i ≤ length l.initial.bytes) × (take l.i l.bytes ++ to_bytes (length l.initial.bytes - l.i) l.left ≡ to_bytes (length l.initial.bytes) l.number)
-
-abbrev pub decreases-loop-i : goal.decreases-loop-i
-decreases-loop-i l = length l.initial.bytes - l.i

@@ -3,4 +3,4 @@ use Rattle.wakeluri.specs.Laws.{written-told}
 use Rattle.wakeluri.proofs.bases.wakeluri_reverse_complement.Goals as goal
 
 pub returns : goal.returns
-returns c = written-told _ _ _ _ c.reverse_complement-told.ensures c.written_answer.ensures
+returns c = written-told _ _ _ _ c.reverse_complement-told.ensures c.from.ensures

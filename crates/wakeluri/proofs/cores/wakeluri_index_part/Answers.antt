@@ -4,4 +4,4 @@ use Rattle.wakeluri.proofs.cores.wakeluri_index_part.Goals as goal
 
 pub returns : goal.returns
 returns c =
-    filled-told _ _ _ _ _ (rw c.rule_by-rule.ensures at c.index_part-filled.ensures) c.filled_answer.ensures
+    filled-told _ _ _ _ _ (rw c.rule_by-rule.ensures at c.index_part-filled.ensures) c.from.ensures

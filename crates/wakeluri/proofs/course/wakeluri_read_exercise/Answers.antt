@@ -4,4 +4,4 @@ use Rattle.wakeluri.specs.Course.{exercise_answer}
 use Rattle.wakeluri.proofs.course.wakeluri_read_exercise.Goals as goal
 
 pub returns : goal.returns
-returns c = c.exercise_answer.ensures ∙ ap exercise_answer c.read_exercise.ensures
+returns c = c.from.ensures ∙ ap exercise_answer c.read_exercise.ensures

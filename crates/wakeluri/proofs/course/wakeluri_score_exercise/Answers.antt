@@ -3,4 +3,4 @@ use Rattle.wakeluri.specs.Course.{scored-told}
 use Rattle.wakeluri.proofs.course.wakeluri_score_exercise.Goals as goal
 
 pub returns : goal.returns
-returns c = scored-told _ _ _ _ c.score_exercise-scored.ensures c.score_answer.ensures
+returns c = scored-told _ _ _ _ c.score_exercise-scored.ensures c.from.ensures

@@ -4,4 +4,4 @@ use Rattle.wakeluri.specs.Course.{score_answer}
 use Rattle.wakeluri.proofs.course.wakeluri_score_typed.Goals as goal
 
 pub returns : goal.returns
-returns c = c.score_answer.ensures ∙ ap score_answer c.score_typed.ensures
+returns c = c.from.ensures ∙ ap score_answer c.score_typed.ensures

@@ -3,4 +3,4 @@ use Rattle.wakeluri.specs.Laws.{written-told}
 use Rattle.wakeluri.proofs.course.wakeluri_write_exercise.Goals as goal
 
 pub returns : goal.returns
-returns c = written-told _ _ _ _ c.write_exercise-written.ensures c.written_answer.ensures
+returns c = written-told _ _ _ _ c.write_exercise-written.ensures c.from.ensures

@@ -4,4 +4,4 @@ use Rattle.wakeluri.specs.Feeding.{call-told}
 use Rattle.wakeluri.proofs.feeding.wakeluri_feed_end.Goals as goal
 
 pub returns : goal.returns
-returns c = call-told _ _ _ _ _ (rw c.feeder_by-f.ensures at c.end-g.ensures) c.feed_told.ensures (λ i. omega (arith, c.slice_known-2-1.given i))
+returns c = call-told _ _ _ _ _ (rw c.from-f.ensures at c.end-g.ensures) c.from.ensures (λ i. omega (arith, c.slice_known-2-1.given i))

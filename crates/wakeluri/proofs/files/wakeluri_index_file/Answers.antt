@@ -3,4 +3,4 @@ use Rattle.wakeluri.specs.Laws.{filled-told}
 use Rattle.wakeluri.proofs.files.wakeluri_index_file.Goals as goal
 
 pub returns : goal.returns
-returns c = filled-told _ _ _ _ _ c.index_file-filled.ensures c.filled_answer.ensures
+returns c = filled-told _ _ _ _ _ c.index_file-filled.ensures c.from.ensures

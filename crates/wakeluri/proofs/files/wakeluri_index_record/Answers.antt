@@ -4,4 +4,4 @@ use Rattle.wakeluri.specs.Answer.{step_answer}
 use Rattle.wakeluri.proofs.files.wakeluri_index_record.Goals as goal
 
 pub returns : goal.returns
-returns c = c.step_answer.ensures ∙ ap step_answer c.index_record.ensures
+returns c = c.from.ensures ∙ ap step_answer c.index_record.ensures

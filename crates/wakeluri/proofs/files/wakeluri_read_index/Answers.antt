@@ -3,4 +3,4 @@ use Rattle.wakeluri.specs.Laws.{filled-told}
 use Rattle.wakeluri.proofs.files.wakeluri_read_index.Goals as goal
 
 pub returns : goal.returns
-returns c = filled-told _ _ _ _ _ c.read_index-filled.ensures c.filled_answer.ensures
+returns c = filled-told _ _ _ _ _ c.read_index-filled.ensures c.from.ensures

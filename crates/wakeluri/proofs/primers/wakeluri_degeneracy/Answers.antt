@@ -4,4 +4,4 @@ use Rattle.wakeluri.specs.Primers.{counted_answer}
 use Rattle.wakeluri.proofs.primers.wakeluri_degeneracy.Goals as goal
 
 pub returns : goal.returns
-returns c = c.counted_answer.ensures ∙ ap counted_answer c.degeneracy.ensures
+returns c = c.from.ensures ∙ ap counted_answer c.degeneracy.ensures

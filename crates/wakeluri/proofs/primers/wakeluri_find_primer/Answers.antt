@@ -4,4 +4,4 @@ use Rattle.wakeluri.specs.Primers.{place_answer}
 use Rattle.wakeluri.proofs.primers.wakeluri_find_primer.Goals as goal
 
 pub returns : goal.returns
-returns c = c.place_answer.ensures ∙ ap place_answer c.find_next.ensures
+returns c = c.from.ensures ∙ ap place_answer c.find_next.ensures

@@ -4,4 +4,4 @@ use Rattle.wakeluri.specs.Answer.{verdict_answer}
 use Rattle.wakeluri.proofs.qualities.wakeluri_fastq_check.Goals as goal
 
 pub returns : goal.returns
-returns c = c.verdict_answer.ensures ∙ ap verdict_answer c.check.ensures
+returns c = c.from.ensures ∙ ap verdict_answer c.check.ensures

@@ -4,4 +4,4 @@ use Rattle.wakeluri.specs.Qualities.{passed_answer}
 use Rattle.wakeluri.proofs.qualities.wakeluri_fastq_check_part.Goals as goal
 
 pub returns : goal.returns
-returns c = c.passed_answer.ensures ∙ ap passed_answer c.check_part.ensures
+returns c = c.from.ensures ∙ ap passed_answer c.check_part.ensures

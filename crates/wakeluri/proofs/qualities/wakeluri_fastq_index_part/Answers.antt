@@ -4,4 +4,4 @@ use Rattle.wakeluri.specs.Qualities.{part-told}
 use Rattle.wakeluri.proofs.qualities.wakeluri_fastq_index_part.Goals as goal
 
 pub returns : goal.returns
-returns c = part-told _ _ _ _ _ _ _ _ c.index_part-part.ensures c.filled_answer.ensures c.stopped.ensures
+returns c = part-told _ _ _ _ _ _ _ _ c.index_part-part.ensures c.from.ensures c.stopped.ensures

@@ -7,4 +7,4 @@ use Rattle.wakeluri.proofs.qualities.wakeluri_fastq_read.Goals as goal
 pub returns : goal.returns
 unfolding part_read
 returns c =
-    written-told _ _ _ _ (rw (c.bound-a.ensures, c.bound-e.ensures, c.row-used.ensures, c.part.ensures) at c.read_exact-read.ensures) c.written_answer.ensures
+    written-told _ _ _ _ (rw (c.bound-a.ensures, c.bound-e.ensures, c.row-used.ensures, c.part.ensures) at c.read_exact-read.ensures) c.from.ensures

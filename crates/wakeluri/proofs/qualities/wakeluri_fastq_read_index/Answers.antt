@@ -3,4 +3,4 @@ use Rattle.wakeluri.specs.Qualities.{rows-told}
 use Rattle.wakeluri.proofs.qualities.wakeluri_fastq_read_index.Goals as goal
 
 pub returns : goal.returns
-returns c = rows-told _ _ _ _ _ c.read_index-filled.ensures c.filled_answer.ensures
+returns c = rows-told _ _ _ _ _ c.read_index-filled.ensures c.from.ensures

@@ -4,4 +4,4 @@ use Rattle.wakeluri.specs.Qualities.{fastq_answer}
 use Rattle.wakeluri.proofs.qualities.wakeluri_fastq_read_line.Goals as goal
 
 pub returns : goal.returns
-returns c = c.fastq_answer.ensures ∙ ap fastq_answer c.read_line.ensures
+returns c = c.from.ensures ∙ ap fastq_answer c.read_line.ensures

@@ -6,4 +6,4 @@ use Rattle.wakeluri.proofs.qualities.wakeluri_fastq_write_line.Goals as goal
 pub returns : goal.returns
 unfolding line_from
 returns c =
-    written-told _ _ _ _ (rw (c.row-used.ensures, c.qualities-qualities.ensures) at c.write_line-written.ensures) c.written_answer.ensures
+    written-told _ _ _ _ (rw (c.row-used.ensures, c.qualities-qualities.ensures) at c.write_line-written.ensures) c.from.ensures

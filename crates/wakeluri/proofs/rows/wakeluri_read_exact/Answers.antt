@@ -7,4 +7,4 @@ use Rattle.wakeluri.proofs.rows.wakeluri_read_exact.Goals as goal
 pub returns : goal.returns
 unfolding exact_read held_at
 returns c =
-    written-told _ _ _ _ (rw (c.bound-a.ensures, c.bound-e.ensures, c.used_row.ensures) at c.read_exact-read.ensures) c.written_answer.ensures
+    written-told _ _ _ _ (rw (c.bound-a.ensures, c.bound-e.ensures, c.used_row.ensures) at c.read_exact-read.ensures) c.from.ensures

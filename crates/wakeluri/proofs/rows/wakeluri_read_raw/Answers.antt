@@ -7,4 +7,4 @@ use Rattle.wakeluri.proofs.rows.wakeluri_read_raw.Goals as goal
 pub returns : goal.returns
 unfolding raw_read held_at
 returns c =
-    written-told _ _ _ _ (rw (c.bound-a.ensures, c.bound-e.ensures, c.used_row.ensures) at c.read_raw-read.ensures) c.written_answer.ensures
+    written-told _ _ _ _ (rw (c.bound-a.ensures, c.bound-e.ensures, c.used_row.ensures) at c.read_raw-read.ensures) c.from.ensures

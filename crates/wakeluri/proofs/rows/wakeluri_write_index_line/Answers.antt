@@ -6,4 +6,4 @@ use Rattle.wakeluri.proofs.rows.wakeluri_write_index_line.Goals as goal
 
 pub returns : goal.returns
 unfolding written_as named_at
-returns c = written-told _ _ _ _ (rw c.used_row.ensures at c.write_line-written.ensures) c.written_answer.ensures
+returns c = written-told _ _ _ _ (rw c.used_row.ensures at c.write_line-written.ensures) c.from.ensures

@@ -6,14 +6,14 @@ use Rattle.wakeluri.proofs.scan.wakeluri_read_run.Goals as goal
 
 pub overflow_add-s : goal.overflow_add-s
 overflow_add-s c =
-    record { fits = run_fits _ _ _ _ c.read_run.ensures c.in-Run.is (omega arith) (omega (arith, c.struct_known-1.given)) }
+    record { fits = run_fits _ _ _ _ c.read_run.ensures c.in-Ok.is (omega arith) (omega (arith, c.struct_known-1.given)) }
 
-pub returns-in-Run : goal.returns-in-Run
+pub returns-in-Ok : goal.returns-in-Ok
 unfolding run_answer
-returns-in-Run c =
-    rw (sym c.read_run.ensures ∙ c.in-Run.is) (rw c.fine.ensures at c.span_answer.ensures)
+returns-in-Ok c =
+    rw (sym c.read_run.ensures ∙ c.in-Ok.is) (rw c.fine.ensures at c.span_answer.ensures)
 
-pub returns-in-Refused : goal.returns-in-Refused
+pub returns-in-Err : goal.returns-in-Err
 unfolding run_answer
-returns-in-Refused c =
-    rw (sym c.read_run.ensures ∙ c.in-Refused.is) (rw (c.numbers.ensures, c.no_span.ensures) at c.span_answer-in-Refused.ensures)
+returns-in-Err c =
+    rw (sym c.read_run.ensures ∙ c.in-Err.is) (rw (c.from.ensures, c.no_span.ensures) at c.span_answer-in-Err.ensures)

@@ -3,4 +3,4 @@ use Rattle.wakeluri.specs.Laws.{sequence-told}
 use Rattle.wakeluri.proofs.scan.wakeluri_read_sequence.Goals as goal
 
 pub returns : goal.returns
-returns c = sequence-told _ _ _ _ c.read_sequence-read.ensures c.sequence_answer.ensures
+returns c = sequence-told _ _ _ _ c.read_sequence-read.ensures c.from.ensures

@@ -3,4 +3,4 @@ use Rattle.wakeluri.specs.Sheets.{sheet-told}
 use Rattle.wakeluri.proofs.sheets.wakeluri_read_sheet.Goals as goal
 
 pub returns : goal.returns
-returns c = sheet-told _ _ _ _ _ c.read_sheet-read.ensures c.sheet_answer.ensures
+returns c = sheet-told _ _ _ _ _ c.read_sheet-read.ensures c.from.ensures

@@ -4,4 +4,4 @@ use Rattle.wakeluri.specs.Answer.{definition_answer}
 use Rattle.wakeluri.proofs.text.wakeluri_definition_content.Goals as goal
 
 pub returns : goal.returns
-returns c = c.definition_told.ensures ∙ ap definition_answer c.read_content.ensures
+returns c = c.from.ensures ∙ ap definition_answer c.read_content.ensures

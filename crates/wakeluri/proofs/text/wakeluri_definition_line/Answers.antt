@@ -4,4 +4,4 @@ use Rattle.wakeluri.specs.Answer.{definition_answer}
 use Rattle.wakeluri.proofs.text.wakeluri_definition_line.Goals as goal
 
 pub returns : goal.returns
-returns c = c.definition_told.ensures ∙ ap definition_answer c.read_line.ensures
+returns c = c.from.ensures ∙ ap definition_answer c.read_line.ensures

@@ -4,4 +4,4 @@ use Rattle.wakeluri.specs.Answer.{entry_answer}
 use Rattle.wakeluri.proofs.text.wakeluri_index_line.Goals as goal
 
 pub returns : goal.returns
-returns c = c.entry_answer.ensures ∙ ap entry_answer c.read_line.ensures
+returns c = c.from.ensures ∙ ap entry_answer c.read_line.ensures

@@ -8,5 +8,5 @@ use Rattle.wakeluri.proofs.window.wakeluri_needed_bytes.Goals as goal
 pub returns : goal.returns
 unfolding needed_read held_at
 returns c =
-    c.part_answer.ensures
+    c.from.ensures
     ∙ ap part_answer (rw (c.bound-a.ensures, c.bound-e.ensures, c.used_row-used.ensures) at c.needed_bytes.ensures)

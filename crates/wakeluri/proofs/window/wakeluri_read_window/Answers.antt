@@ -7,4 +7,4 @@ use Rattle.wakeluri.proofs.window.wakeluri_read_window.Goals as goal
 pub returns : goal.returns
 unfolding window_read held_at
 returns c =
-    written-told _ _ _ _ (rw (c.bound-a.ensures, c.bound-e.ensures, c.used_row-used.ensures) at c.read_window-read.ensures) c.written_answer.ensures
+    written-told _ _ _ _ (rw (c.bound-a.ensures, c.bound-e.ensures, c.used_row-used.ensures) at c.read_window-read.ensures) c.from.ensures

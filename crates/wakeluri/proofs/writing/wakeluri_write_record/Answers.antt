@@ -5,4 +5,4 @@ use Rattle.wakeluri.proofs.writing.wakeluri_write_record.Goals as goal
 pub returns : goal.returns
 returns c =
     rw (← c.is_given-described.ensures)
-    (written-told _ _ _ _ c.write_record-written.ensures c.written_answer.ensures)
+    (written-told _ _ _ _ c.write_record-written.ensures c.from.ensures)

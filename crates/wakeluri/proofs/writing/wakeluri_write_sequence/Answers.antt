@@ -3,4 +3,4 @@ use Rattle.wakeluri.specs.Laws.{written-told}
 use Rattle.wakeluri.proofs.writing.wakeluri_write_sequence.Goals as goal
 
 pub returns : goal.returns
-returns c = written-told _ _ _ _ c.write_sequence-written.ensures c.written_answer.ensures
+returns c = written-told _ _ _ _ c.write_sequence-written.ensures c.from.ensures

@@ -8,9 +8,6 @@ use Rattle.walking.proofs.quick.blank_end.Goals.{After-sequence_line-line}
 pub loop-line-init : goal.loop-line-init
 loop-line-init c = blank-start _ _ c.requires
 
-pub returns-then-line-ne0 : goal.returns-then-line-ne0
-returns-then-line-ne0 c = λ h. absurd (omega arith)
-
 -- the line at i ends behind i and in the file
 within : (c : After-sequence_line-line)
     → (c.loop-line.i < c.loop-line.i + c.sequence_line-line.result.width)
@@ -30,4 +27,4 @@ loop-line-preserved c =
     blank-more _ _ _ c.loop-line.invariant _ c.sequence_line-line.ensures c.if-line-ne0.false
 
 pub returns : goal.returns
-returns c = λ _. blank-end _ _ _ c.loop-line.invariant (sym c.sequence_ends.ensures ∙ c.loop-line-test.false)
+returns c = blank-end _ _ _ c.loop-line.invariant (sym c.sequence_ends.ensures ∙ c.loop-line-test.false)

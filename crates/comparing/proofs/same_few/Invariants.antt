@@ -1,9 +1,0 @@
--- `comparing::same_few` meets its contract. The loop's invariant: the bytes passed are the same.
-use Rattle.std.proofs.Common.{◌≤◌, ◌-◌, ◌≡◌, length, take}
-use Rattle.comparing.proofs.same_few.Given as goal
-
-abbrev pub invariant-loop-i : goal.invariant-loop-i
-invariant-loop-i l = (l.i ≤ length l.a) × (take l.i l.a ≡ take l.i l.b)
-
-abbrev pub decreases-loop-i : goal.decreases-loop-i
-decreases-loop-i l = length l.a - l.i

@@ -1,9 +1,0 @@
--- `copying::pair16` meets its contract: the second block, which may begin inside the first, brings the copy to `n` bytes.
-use Rattle.std.proofs.Common.{◌-◌, arith}
-use Rattle.copying.specs.Laws.{paste-pair}
-use Rattle.copying.proofs.pair16.Goals as goal
-
-pub returns : goal.returns
-returns c =
-    let a = c.args in
-    paste-pair a.out.now _ _ a.from.now a.to a.start a.n 16 (a.n - 16) c.put16.ensures c.put16-2.ensures (omega arith) (omega arith) (omega arith) (omega arith)

@@ -1,7 +1,0 @@
--- `sheet::bytes::count` meets its contract: eight bytes to a number, five numbers to a region.
-use Rattle.std.proofs.Common.{sym}
-use Rattle.sheet.specs.Bytes.{length-regions}
-use Rattle.sheet.proofs.bytes.count.Goals as goal
-
-pub returns : goal.returns
-returns c = sym (length-regions _)
