@@ -114,6 +114,7 @@ fn two_digits(n: u64) -> u64
 }
 
 // The two halves of four digits side by side: 1,234 is 12 + 34 * 65,536.
+// A type of numbers of four digits would be wrapped and unwrapped by each of the three functions that ask for `n < 10000`, for one bound.
 fn halves(n: u64) -> u64
     requires { n < 10000 }
     ensures { result ≡ n / 100 + 65536 * (n % 100) }

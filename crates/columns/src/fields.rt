@@ -321,6 +321,7 @@ fn name_split(name: &[u8]) -> usize
 }
 
 // How many bytes a name and numbers are written with.
+// A struct of name and numbers, with this bound, would be made and taken apart in one function.
 fn text_length(name: &[u8], numbers: &[u64]) -> usize
     requires { length name.now + 21 * length numbers.now + 1 < 2 ^ 64 }
     ensures { result ≡ length (text_of name.now numbers.now) }

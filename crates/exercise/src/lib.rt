@@ -61,6 +61,7 @@ fn malformed(at: usize) -> Result<(Kept, usize), Refusal>
     Err(Refusal::MalformedExercise { offset: at as u64 })
 }
 
+// That `at + 3` can be counted is asked for by three functions: a type of such places would say no more than the bound.
 fn name_field(value: &[u8], at: usize, kept: Kept) -> Result<(Kept, usize), Refusal>
     requires { at + 3 < 2 ^ 64 }
     ensures { result ≡ name_field kept at (length value.now) }

@@ -184,6 +184,7 @@ fn check_records(fastq: &[u8], index: &[u8]) -> Result<(), Refusal>
         index: 0,
         records: 0,
     };
+    // no index is counted: each record tells the next place
     loop {
         match w.check_record(fastq, index) {
             Step::Next(next) => w = next,
@@ -200,6 +201,7 @@ fn walk(fastq: &[u8], index: &[u8], place: Place, to: usize) -> Place
     ensures { result ≡ walked fastq.now index.now to place }
 {
     let mut w = place;
+    // no index is counted: each record tells the next place
     loop {
         if to <= w.fastq {
             return w;

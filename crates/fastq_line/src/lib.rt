@@ -55,6 +55,7 @@ impl Line<NUMBERS> for Entry {
     ghost both = { λ p q k vs. refl };
 }
 
+// The calls below stay beside those of `reading` and `writing`: docs/PROMISES.md names them.
 // Reads line number `line` with its end: one final LF, and one CR before it, come off. It does not look for an LF before that: a line
 // of a text has none.
 pub fn parse_line(l: &[u8], line: u64) -> Result<Entry, Refusal>

@@ -120,7 +120,7 @@ pub(crate) fn take_records(at: usize, rows: usize, p: &[u8], i: usize, table: &m
         rows,
         at: i,
     };
-    // no index is counted: a turn goes on behind its record
+    // rows are counted beside the place, which no range gives: each record tells where the next begins
     loop {
         let e = take_record(r.next, r.rows, p, r.at, table);
         if e == r.at {

@@ -29,6 +29,7 @@ fn absorb(rule: Rule, f: Fed, p: &[u8], i: usize, e: usize, table: &mut [u8]) ->
 }
 
 // The line from `i` on, and the lines behind it that are like it.
+// The fact of these three is about the piece, the place and what is kept at once, and changes with each turn: a struct would be made anew by each call.
 fn take_line(rule: Rule, f: Fed, p: &[u8], i: usize, table: &mut [u8]) -> Turn
     requires { (i < length p.now) × (length p.now ≤ 2 ^ 40) × Fits (2 ^ 41 + i) f }
     ensures { (i < result.at) × TurnDone rule f p.now i table.old result.fed result.at table.new }

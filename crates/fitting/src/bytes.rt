@@ -1,4 +1,5 @@
 // A file indexed into a table that is lent as bytes: it answers and refuses as the call over the numbers of those bytes does.
+// The calls stay beside those over numbers: the calls from C stand on them, and docs/PROMISES.md names them.
 ghost use Rattle.table.specs.Numbers.{numbers_in};
 ghost use Rattle.table.specs.Rows.{row_count};
 ghost use Rattle.table.specs.Bytes.{FilledBytes};

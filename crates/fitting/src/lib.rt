@@ -148,6 +148,7 @@ fn fit_at(s: &[u8], at: usize) -> Found
 }
 
 // The rule that a file is indexed by: the original's, or the complete one.
+// A value, and no type: a host names the rule by a number, and a feeder keeps it from call to call.
 #[derive(Clone, Copy)]
 pub enum Rule {
     Strict,

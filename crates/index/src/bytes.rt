@@ -1,4 +1,5 @@
 // The same calls over a table that is lent as bytes: each answers and refuses as the one over the numbers of those bytes does.
+// The calls stay beside those over numbers: the calls from C stand on them, and docs/PROMISES.md names them.
 ghost use Rattle.std.specs.Prelude.{◌≡◌};
 ghost use Rattle.table.specs.Numbers.{numbers_in};
 ghost use Rattle.table.specs.Rows.{row_count};

@@ -1,5 +1,5 @@
 // Why a call is refused: a case for each refusal (docs/RULES.md, R2), in words. Every promise of the project speaks of these cases.
-// `numbers` gives what a host sees of one: its number, and its two numbers, 0 if the refusal has none.
+// `Numbers` are what a host sees of one: its number, and its two numbers, 0 if the refusal has none.
 #![tactic(auto)]
 
 ghost use Rattle.std.specs.Prelude.{◌≡◌};

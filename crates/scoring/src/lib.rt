@@ -290,6 +290,7 @@ fn part(places: &Places, at: usize) -> usize
 
 // How many of the first places are right in edition 2: by blocks up to the first part with many open places, and from there on by slices, up to
 // 65,536 places more, since what follows is likely to be the same. Two calls keep the slices out of the function that has the other loops.
+// The part of the places, `at` and `n`, is another at each call: a struct of it and the places would be made anew by each.
 fn open_in(places: &Places, at: usize, n: usize) -> Passed
     requires { at + n ≤ length places.now.key.now }
     ensures { (result.places ≤ n) × (0 < n → 0 < result.places) × Counted (agrees lies places.now.key.now places.now.typed.now) at result.places result.right }

@@ -69,6 +69,7 @@ impl Going {
     }
 
     // The region at the place is good, and with it the regions judged have so many bytes.
+    // That a turn is left is no invariant of `Going`: behind the last turn there is none.
     #[tactic(auto, unfolding(crate::specs::Turns::weighed))]
     fn weigh(self, total: u64, room: usize) -> Going
         requires { (0 < self.left) × (self.place < self.count) }

@@ -147,7 +147,7 @@ pub fn fill_rows<K: RowKind, C: Cell, S: Source<K>>(
 {
     let mut at = from;
     let mut n = 0;
-    // no index is counted: a turn goes on behind its row
+    // rows are counted beside the place, which no range gives, and both are told behind the loop, with why it ends
     let stop = loop {
         match keep::<K, C>(table, n, source.next(text, at, n)) {
             Ok(Some(behind)) => {

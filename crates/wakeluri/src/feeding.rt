@@ -45,7 +45,7 @@ pub struct Feed {
 }
 
 // The rule by its number: 0 for the original's, else the complete one.
-// No From: neither a number nor `Rule` is of this crate.
+// No From: it would have to stand beside `Rule`, in a crate that knows no number of a host.
 pub(crate) fn rule_by(n: u64) -> Rule
     ensures { result ≡ rule_by n }
 {

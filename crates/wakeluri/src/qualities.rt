@@ -86,7 +86,7 @@ impl From<Result<Entry, Refusal>> for FastqAnswer {
 }
 
 // What of a record is read, as a host gives it: its bases for 0, else its qualities.
-// No From: neither a number nor `Part` is of this crate.
+// No From: it would have to stand beside `Part`, in a crate that knows no number of a host.
 fn part(qualities: u64) -> Part
     ensures { result ≡ part_given qualities }
 {

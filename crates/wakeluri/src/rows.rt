@@ -15,7 +15,7 @@ use record::{Position, Record};
 use refusal::Refusal;
 
 // A bound as a host gives it: absent if its flag is 0.
-// The sheet has its own, of its own definition: one line each.
+// The sheet has its own: one for both would be a public function, with edits of its own, for one line.
 pub(crate) fn bound(flag: u64, p: u64) -> Option<Position>
     ensures { result ≡ bound_of flag p }
 {
