@@ -1,7 +1,6 @@
 -- Whether there is an LF among some bytes, and what that says of the line they begin: how a line is known by looking at where its end
 -- should be.
-use Rattle.std.specs.Prelude.{ℕ, zero, suc, ◌+◌, ◌-◌, ◌≤◌, ◌<◌, ◌≡◌, List, [], ◌∷◌, ◌++◌, Bool, cond, ◌||◌, take, drop, get_or, eqb}
-use Rattle.std.specs.List.{list_any}
+use Rattle.std.specs.Prelude.{ℕ, zero, suc, ◌+◌, ◌-◌, ◌≤◌, ◌<◌, ◌≡◌, List, [], ◌∷◌, ◌++◌, Bool, cond, take, drop, get_or, eqb}
 use Rattle.std.proofs.Math.Path.{refl, ap}
 use Rattle.std.proofs.Common.{sym, ◌∙◌, true≢false, drop_of_length-le, length-drop, drop-cons, drop-drop, zero-add}
 use Rattle.std.proofs.Math.Bool.{true, false}
@@ -18,16 +17,6 @@ use Rattle.lines.specs.declared.Line.{Line}
 unfoldable pub has_lf : List ℕ → Bool
 has_lf [] = false
 has_lf (b ∷ l) = cond (eqb b 10) true (has_lf l)
-
--- as the library looks for a byte
-pub any-lf : (l : List ℕ) → list_any (λ y. eqb y 10) l ≡ has_lf l
-unfolding has_lf
-any-lf [] = refl
-any-lf (b ∷ l) = go (eqb b 10) (any-lf l)
-  where
-    go : (t : Bool) → list_any (λ y. eqb y 10) l ≡ has_lf l → (t || list_any (λ y. eqb y 10) l) ≡ cond t true (has_lf l)
-    go true h = refl
-    go false h = h
 
 -- ---- byte by byte
 

@@ -10,6 +10,27 @@ ghost use Rattle.lines.specs.Clear.{has_lf};
 use crate::Line;
 use crate::blocks::lf_in_either;
 
+// Is there an LF among the `n` bytes from `at` on, which are fewer than 16: by blocks of 1 to 8. std's `contains` would be a call for each line: so a
+// file whose lines have one base took 2.6 times as long to check as byte by byte.
+fn lf_among_few(s: &[u8], at: usize, n: usize) -> bool
+    requires { (n < 16) × (at + n ≤ length s.now) }
+    ensures { result ≡ has_lf (take n (drop at s.now)) }
+{
+    if n == 0 {
+        return false;
+    }
+    if n <= 2 {
+        return lf_in_either::<1>(s, at, at + (n - 1));
+    }
+    if n <= 4 {
+        return lf_in_either::<2>(s, at, at + (n - 2));
+    }
+    if n <= 8 {
+        return lf_in_either::<4>(s, at, at + (n - 4));
+    }
+    lf_in_either::<8>(s, at, at + (n - 8))
+}
+
 // Is there an LF among the `n` bytes from `at` on, which are at least 128: by blocks of 128, the last of which ends where they end.
 fn lf_among_many(s: &[u8], at: usize, n: usize) -> bool
     requires { (128 ≤ n) × (at + n ≤ length s.now) }
@@ -32,7 +53,7 @@ fn lf_within(s: &[u8], at: usize, n: usize) -> bool
     ensures { result ≡ has_lf (take n (drop at s.now)) }
 {
     if n < 16 {
-        return s[at..at + n].contains(&b'\n');
+        return lf_among_few(s, at, n);
     }
     if n <= 32 {
         return lf_in_either::<16>(s, at, at + (n - 16));

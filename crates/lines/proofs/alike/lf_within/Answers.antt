@@ -1,6 +1,5 @@
 -- `lines::alike::lf_within` meets its contract: the first block and the last are all of the bytes.
-use Rattle.std.proofs.Common.{◌≡◌, ◌+◌, ◌-◌, ◌∙◌, arith, take, drop}
-use Rattle.lines.specs.Clear.{any-lf}
+use Rattle.std.proofs.Common.{◌≡◌, ◌+◌, ◌-◌, ◌∙◌, arith}
 use Rattle.lines.specs.Blocks.{either-all}
 use Rattle.lines.proofs.alike.lf_within.Goals as goal
 
@@ -18,9 +17,3 @@ pub returns-then-n-le128 : goal.returns-then-n-le128
 returns-then-n-le128 c =
     let a = c.args in
     c.lf_in_either-then-n-le128.ensures ∙ either-all a.s.now a.at 64 a.n (omega arith) (omega arith)
-
-pub returns-then-n-lt16 : goal.returns-then-n-lt16
-returns-then-n-lt16 c =
-    let a = c.args in
-    let q : a.at + a.n - a.at ≡ a.n = omega arith in
-    c.contains.ensures.value ∙ rw q (any-lf (take a.n (drop a.at a.s.now)))
