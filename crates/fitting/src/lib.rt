@@ -10,7 +10,7 @@ pub(crate) mod quick;
 ghost use Rattle.std.specs.Prelude.{◌≡◌, ◌+◌, ◌-◌, ◌≤◌, ◌<◌, ⊤, length};
 ghost use Rattle.lines.specs.Lines.{first_line, seq_at};
 ghost use Rattle.table.specs.Rows.{row_count};
-ghost use Rattle.table.specs.Fill.{FilledAs};
+ghost use Rattle.table.specs.Fill.{FilledAs, NextOf};
 ghost use Rattle.indexer.specs.Rule.{sequence_by, record_by};
 ghost use Rattle.indexer.specs.Opened.{Opens, step_of};
 ghost use Rattle.fitting.specs.Complete.{complete};
@@ -172,6 +172,18 @@ pub fn index_at(s: &[u8], at: usize, rule: Rule) -> Step
     Step::of(at, find(s, at, rule))
 }
 
+// The next row of the file from `at` on, by a rule, whatever the record there. It goes through `index_at`, and not to `find` at once: so what is promised of
+// one record holds the code that indexes a file.
+fn slow_row(s: &[u8], at: usize, rule: Rule) -> Found
+    ensures { NextOf (rows_by rule s.now at) (rows_by rule s.now) at (length s.now) result }
+{
+    let step = index_at(s, at, rule);
+    match step.answer? {
+        Some(x) => Ok(Some((x, step.next.at))),
+        None => Ok(None),
+    }
+}
+
 // A rule finds the rows of a file, record by record.
 impl Source<Records> for Rule {
     ghost rows = { λ rule s n at. rows_by rule s at };
@@ -181,7 +193,7 @@ impl Source<Records> for Rule {
     fn next(self, s: &[u8], at: usize, row: usize) -> Found {
         match quick::quick_at(s, at, self) {
             Some(row) => Ok(Some(row)),
-            None => find(s, at, self),
+            None => slow_row(s, at, self),
         }
     }
 

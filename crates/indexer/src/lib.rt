@@ -1,6 +1,6 @@
 // The ported indexer: the row of one record of a FASTA file. A record is a definition line and the lines of its sequence. These all have
 // the first line's bases and width, except the last, which may have less. Refuses a file over the size limit (1), a bad definition line
-// (2 to 4), no bases in the first line (5), and a line of other bases (6) or width (7). The loop over a file is in `fitting`.
+// (2 to 4), no bases in the first line (5), and a line of other bases (6) or width (7). The loop over a file is `table::kind::fill_rows`.
 #![tactic(auto)]
 
 pub mod quick;
