@@ -1,4 +1,4 @@
--- `primer::next` meets its contract: it findes from the place on, and adds that place to what it finds.
+-- `primer::next` meets its contract: it searches from the place on, and adds that place to what it finds.
 use Rattle.std.proofs.Common.{sym, ◌∙◌, arith}
 use Rattle.primer.specs.Laws.{next-at, next-none, next_past, next_fits}
 use Rattle.primer.proofs.next.Goals as goal
